@@ -1,0 +1,9 @@
+-- The laws, a file for each subject.
+pub mod Pick
+pub mod Parts
+pub mod Puts
+pub mod Lent
+pub mod Loops
+pub mod Same
+pub mod Lowest
+pub mod Little

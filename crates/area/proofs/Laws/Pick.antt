@@ -1,0 +1,57 @@
+-- Walking down a chain of cases: `yes` where the code's test held, `no` where it did not. Assumes nothing.
+use mathlib.Core.Path.{_≡_, refl, sym, _∙_}
+use mathlib.Core.Bool.{Bool, true, false}
+use Prim.Native.Nat.{ℕ}
+use native.Mathlib.Omega.{arith}
+use Rattle.area.specs.Pick.{pick, both, either}
+
+pub picks : {A : Type 0} (b : Bool) (x y : A) → b ≡ true → pick b x y ≡ x
+unfolding pick
+picks b x y p = rw p
+
+pub skips : {A : Type 0} (b : Bool) (x y : A) → b ≡ false → pick b x y ≡ y
+unfolding pick
+skips b x y p = rw p
+
+pub yes : {A : Type 0} (b : Bool) (x y : A) {r : A} → b ≡ true → r ≡ x → r ≡ pick b x y
+yes b x y p e = e ∙ sym (picks b x y p)
+
+pub no : {A : Type 0} (b : Bool) (x y : A) {r : A} → b ≡ false → r ≡ y → r ≡ pick b x y
+no b x y p e = e ∙ sym (skips b x y p)
+
+-- either way
+pub by : {C : Type 0} (b : Bool) → (b ≡ true → C) → (b ≡ false → C) → C
+by true f g = f refl
+by false f g = g refl
+
+-- a test that both holds and does not
+pub never : {C : Type 0} → true ≡ false → C
+never e = absurd (let r : _≡_ {A = ℕ} 0 1 = cc in omega arith)
+
+-- ---- both and either
+
+pub both-join : (a b : Bool) → a ≡ true → b ≡ true → both a b ≡ true
+both-join a b p q = picks a b false p ∙ q
+
+pub both-left : (a b : Bool) → both a b ≡ true → a ≡ true
+unfolding pick
+both-left true b e = refl
+both-left false b e = never (sym e)
+
+pub both-right : (a b : Bool) → both a b ≡ true → b ≡ true
+unfolding pick
+both-right true b e = e
+both-right false b e = never (sym e)
+
+pub either-join : (a b : Bool) → a ≡ false → b ≡ false → either a b ≡ false
+either-join a b p q = skips a true b p ∙ q
+
+pub either-left : (a b : Bool) → either a b ≡ false → a ≡ false
+unfolding pick
+either-left true b e = never e
+either-left false b e = refl
+
+pub either-right : (a b : Bool) → either a b ≡ false → b ≡ false
+unfolding pick
+either-right true b e = never e
+either-right false b e = e

@@ -1,0 +1,62 @@
+-- `same` says yes exactly when the lists are equal; and one turn of the loop that compares. Assumes nothing.
+use mathlib.Core.Path.{_≡_, refl, sym, ap, _∙_}
+use mathlib.Core.Bool.{Bool, true, false}
+use mathlib.Core.List.{List, [], _∷_}
+use Prim.Native.Nat.{ℕ, zero, suc, _+_, _≤_, _<_}
+use native.Mathlib.Numerals.{add-one}
+use native.Mathlib.Omega.{arith}
+use lib.ListN.{length, drop, getD, drop-of-length-le}
+use lib.Seq.{drop-cons}
+use lib.Dec.{eqb}
+use borrow.Author.Tests.{eqb-true, eq-eqb, ne-eqb}
+use Rattle.area.specs.Pick.{both}
+use Rattle.area.specs.Area.{same}
+use Rattle.area.proofs.Laws.Pick.{picks, skips, both-join, both-left, both-right, never}
+
+pub same-refl : (a : List ℕ) → same a a ≡ true
+unfolding same
+same-refl [] = refl
+same-refl (x ∷ xs) = both-join _ _ (eq-eqb x x refl) (same-refl xs)
+
+pub same-eq : (a b : List ℕ) → same a b ≡ true → a ≡ b
+unfolding same
+same-eq [] [] e = refl
+same-eq [] (y ∷ ys) e = never (sym e)
+same-eq (x ∷ xs) [] e = never (sym e)
+same-eq (x ∷ xs) (y ∷ ys) e =
+    let p : x ≡ y = eqb-true x y (both-left _ _ e) in
+    let q : xs ≡ ys = same-eq xs ys (both-right _ _ e) in
+    λ i. p i ∷ q i
+
+pub eq-same : (a b : List ℕ) → a ≡ b → same a b ≡ true
+eq-same a b e = ap (same a) (sym e) ∙ same-refl a
+
+-- ---- the loop
+
+pub same-lengths : (a b : List ℕ) → (length a ≡ length b → ⊥) → false ≡ same a b
+unfolding same
+same-lengths [] [] n = absurd (n refl)
+same-lengths [] (y ∷ ys) n = refl
+same-lengths (x ∷ xs) [] n = refl
+same-lengths (x ∷ xs) (y ∷ ys) n = go (eqb x y) (same-lengths xs ys (λ e. n (ap suc e))) where
+  go : (t : Bool) → false ≡ same xs ys → false ≡ both t (same xs ys)
+  go true e = e ∙ sym (picks true (same xs ys) false refl)
+  go false e = sym (skips false (same xs ys) false refl)
+
+-- what is left to compare, when it begins with two bytes
+begins : (a b : List ℕ) (i : ℕ) → i < length a → i < length b
+    → same (drop i a) (drop i b) ≡ both (eqb (getD a i 0) (getD b i 0)) (same (drop (suc i) a) (drop (suc i) b))
+unfolding same
+begins a b i g h = rw (drop-cons a i 0 g, drop-cons b i 0 h)
+
+pub same-further : (a b : List ℕ) (i : ℕ) → i < length a → i < length b → getD a i 0 ≡ getD b i 0
+    → same (drop i a) (drop i b) ≡ same (drop (i + 1) a) (drop (i + 1) b)
+same-further a b i g h e =
+    begins a b i g h ∙ picks _ _ _ (eq-eqb _ _ e) ∙ ap (λ (n : ℕ). same (drop n a) (drop n b)) (sym (add-one i))
+
+pub same-not : (a b : List ℕ) (i : ℕ) → i < length a → i < length b → (getD a i 0 ≡ getD b i 0 → ⊥) → same (drop i a) (drop i b) ≡ false
+same-not a b i g h n = begins a b i g h ∙ skips _ _ _ (ne-eqb _ _ n)
+
+pub same-end : (a b : List ℕ) (i : ℕ) → length a ≤ i → length b ≤ i → same (drop i a) (drop i b) ≡ true
+unfolding same
+same-end a b i g h = rw (drop-of-length-le a g, drop-of-length-le b h)

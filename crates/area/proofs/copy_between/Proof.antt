@@ -1,0 +1,70 @@
+-- `area::copy_between` meets its contract. The loop's invariant: the first i of the n bytes are laid. A turn lays one more.
+-- Assumes nothing.
+use mathlib.Core.Path.{_≡_, refl, sym, ap, _∙_}
+use Prim.Native.Nat.{ℕ, _+_, _-_, _≤_, _<_}
+use native.Mathlib.Omega.{arith}
+use borrow.Author.Needs.{needs}
+use lib.ListN.{length, take}
+use Rattle.area.specs.Area.{part, put}
+use Rattle.area.proofs.Laws.Parts.{length-part, getD-part}
+use Rattle.area.proofs.Laws.Puts.{put-nil}
+use Rattle.area.proofs.Laws.Loops.{one-more, all-laid}
+use Rattle.area.proofs.copy_between.Statement.{statement}
+use Rattle.area.proofs.copy_between.Tie as tie
+
+abbrev Inv-loop : tie.InvT-loop
+Inv-loop src from dst₀ to n i₀ dst i = (i ≤ n) × (length dst ≡ length dst₀) × (dst ≡ put dst₀ to (take i (part src from n)))
+
+abbrev μ-loop : tie.MeasureT-loop
+μ-loop src from dst₀ to n i₀ dst i = n - i
+
+loop-holds : tie.Need-loop-holds Inv-loop μ-loop
+loop-holds c = (omega arith, refl, sym (put-nil _ _))
+
+add-dst : tie.Need-add-dst Inv-loop μ-loop
+add-dst c = omega arith
+
+shared-slice-read-dst : tie.Need-shared-slice-read-dst Inv-loop μ-loop
+shared-slice-read-dst c = omega arith
+
+add-dst-2 : tie.Need-add-dst-2 Inv-loop μ-loop
+add-dst-2 c = omega arith
+
+slice-write-dst : tie.Need-slice-write-dst Inv-loop μ-loop
+slice-write-dst c = omega arith
+
+add-i : tie.Need-add-i Inv-loop μ-loop
+add-i c = omega arith
+
+loop-less : tie.Need-loop-less Inv-loop μ-loop
+loop-less c = omega arith
+
+loop-again : tie.Need-loop-again Inv-loop μ-loop
+loop-again c = (
+  omega arith,
+  search needs,
+  one-more _ _ _ _ (length-part _ _ _ (omega arith)) (omega arith) (sym (getD-part _ _ _ _ (omega arith))) (c .before .before .loop .inv .2),
+)
+
+same-length : tie.Need-same-length Inv-loop μ-loop
+same-length c = search needs
+
+returns : tie.Need-returns Inv-loop μ-loop
+returns c = all-laid _ _ _ _ (length-part _ _ _ (omega arith)) (c .loop-test .left) (c .before .loop .inv .2)
+
+pub copy-between-spec : {M : Type 1} → statement M
+copy-between-spec =
+    tie.close
+    (tie.spec
+    Inv-loop
+    μ-loop
+    loop-holds
+    add-dst
+    shared-slice-read-dst
+    add-dst-2
+    slice-write-dst
+    add-i
+    loop-less
+    loop-again
+    same-length
+    returns)

@@ -1,0 +1,59 @@
+-- `area::fill` meets its contract. The loop's invariant: the first i of the n bytes are laid. A turn lays one more. Assumes nothing.
+use mathlib.Core.Path.{_≡_, refl, sym, ap, _∙_}
+use Prim.Native.Nat.{ℕ, _+_, _-_, _≤_, _<_}
+use native.Mathlib.Omega.{arith}
+use borrow.Author.Needs.{needs}
+use lib.ListN.{length, take, replicate, length-replicate, getD-replicate}
+use Rattle.area.specs.Area.{put}
+use Rattle.area.proofs.Laws.Puts.{put-nil}
+use Rattle.area.proofs.Laws.Loops.{one-more, all-laid}
+use Rattle.area.proofs.fill.Statement.{statement}
+use Rattle.area.proofs.fill.Tie as tie
+
+abbrev Inv-loop : tie.InvT-loop
+Inv-loop a₀ at n b i₀ a i = (i ≤ n) × (length a ≡ length a₀) × (a ≡ put a₀ at (take i (replicate n b)))
+
+abbrev μ-loop : tie.MeasureT-loop
+μ-loop a₀ at n b i₀ a i = n - i
+
+loop-holds : tie.Need-loop-holds Inv-loop μ-loop
+loop-holds c = (omega arith, refl, sym (put-nil _ _))
+
+add-a : tie.Need-add-a Inv-loop μ-loop
+add-a c = omega arith
+
+slice-write-a : tie.Need-slice-write-a Inv-loop μ-loop
+slice-write-a c = omega arith
+
+add-i : tie.Need-add-i Inv-loop μ-loop
+add-i c = omega arith
+
+loop-less : tie.Need-loop-less Inv-loop μ-loop
+loop-less c = omega arith
+
+loop-again : tie.Need-loop-again Inv-loop μ-loop
+loop-again c =
+    let l = c .before .loop in
+    let n = c .before .before .args .n in
+    (omega arith, search needs, one-more _ _ _ _ (length-replicate n _) (omega arith) (sym (getD-replicate n (l .i) _ 0 (omega arith))) (l .inv .2))
+
+same-length : tie.Need-same-length Inv-loop μ-loop
+same-length c = search needs
+
+returns : tie.Need-returns Inv-loop μ-loop
+returns c = all-laid _ _ _ _ (length-replicate _ _) (c .loop-test .left) (c .before .loop .inv .2)
+
+pub fill-spec : {M : Type 1} → statement M
+fill-spec =
+    tie.close
+    (tie.spec
+    Inv-loop
+    μ-loop
+    loop-holds
+    add-a
+    slice-write-a
+    add-i
+    loop-less
+    loop-again
+    same-length
+    returns)
