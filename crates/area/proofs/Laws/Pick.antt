@@ -43,6 +43,14 @@ unfolding pick
 both-right true b e = e
 both-right false b e = never (sym e)
 
+pub both-not-left : (a b : Bool) → a ≡ false → both a b ≡ false
+both-not-left a b p = skips a b false p
+
+pub both-not-right : (a b : Bool) → b ≡ false → both a b ≡ false
+unfolding pick
+both-not-right true b q = q
+both-not-right false b q = refl
+
 pub either-join : (a b : Bool) → a ≡ false → b ≡ false → either a b ≡ false
 either-join a b p q = skips a true b p ∙ q
 
