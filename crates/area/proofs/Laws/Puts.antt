@@ -1,9 +1,9 @@
 -- Bytes laid over areas: each law goes down the area, byte by byte. Assumes nothing.
 use mathlib.Core.Path.{_≡_, refl, sym, ap, _∙_}
-use mathlib.Core.List.{List, [], _∷_, _++_}
+use mathlib.Core.List.{List, [], _∷_, _++_, append-nil}
 use Prim.Native.Nat.{ℕ, zero, suc, _+_, _≤_, _<_}
 use native.Mathlib.Omega.{arith}
-use lib.ListN.{length, take, drop, getD, set}
+use lib.ListN.{length, take, drop, getD, set, drop-of-length-le}
 use Rattle.area.specs.Area.{part, put}
 
 cons : (x : ℕ) {l m : List ℕ} → l ≡ m → x ∷ l ≡ x ∷ m
@@ -84,6 +84,13 @@ put-is (x ∷ xs) zero (b ∷ bs) zero e h = absurd (omega arith)
 put-is (x ∷ xs) zero (b ∷ bs) (suc k) e h = cons b (put-is xs zero bs k (omega arith) (omega arith))
 put-is (x ∷ xs) (suc at) bs zero e h = absurd (omega arith)
 put-is (x ∷ xs) (suc at) bs (suc k) e h = cons x (put-is xs at bs k (omega arith) (omega arith))
+
+-- a piece as long as the area
+pub put-all : (a bs : List ℕ) → length bs ≡ length a → put a 0 bs ≡ bs
+put-all a bs e =
+    put-is a 0 bs (length bs) (omega arith) (omega arith)
+    ∙ ap (λ (l : List ℕ). bs ++ l) (drop-of-length-le a {i = length bs} (omega arith))
+    ∙ append-nil bs
 
 -- ---- parts of what results: what was laid, what lies in front of it, what lies behind it
 
