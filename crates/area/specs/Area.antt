@@ -26,3 +26,8 @@ same (x ∷ xs) (y ∷ ys) = both (eqb x y) (same xs ys)
 
 abbrev pub zeros : ℕ → List ℕ
 zeros n = replicate n 0
+
+-- f i, f (i + 1), … n of them
+unfoldable pub tab : {A : Type 0} → ℕ → ℕ → (ℕ → A) → List A
+tab i zero f = []
+tab i (suc n) f = f i ∷ tab (suc i) n f
