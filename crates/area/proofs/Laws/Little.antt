@@ -22,6 +22,27 @@ bytes-below zero n i = omega arith
 bytes-below (suc k) n zero = omega arith
 bytes-below (suc k) n (suc i) = bytes-below k (n / 256) i
 
+-- ---- bytes in lists
+
+pub append-below : (xs ys : List ℕ) → Bytes xs → Bytes ys → Bytes (xs ++ ys)
+unfolding Bytes
+append-below [] ys a b i = b i
+append-below (x ∷ xs) ys a b zero = a zero
+append-below (x ∷ xs) ys a b (suc i) = append-below xs ys (λ k. a (suc k)) b i
+
+pub take-below : (n : ℕ) (xs : List ℕ) → Bytes xs → Bytes (take n xs)
+unfolding Bytes
+take-below zero xs a i = omega arith
+take-below (suc n) [] a i = omega arith
+take-below (suc n) (x ∷ xs) a zero = a zero
+take-below (suc n) (x ∷ xs) a (suc i) = take-below n xs (λ k. a (suc k)) i
+
+pub drop-below : (n : ℕ) (xs : List ℕ) → Bytes xs → Bytes (drop n xs)
+unfolding Bytes
+drop-below zero xs a i = a i
+drop-below (suc n) [] a i = omega arith
+drop-below (suc n) (x ∷ xs) a i = drop-below n xs (λ k. a (suc k)) i
+
 -- ---- the round trips
 
 pub value-bytes : (k n : ℕ) → n < 256 ^ k → valueOf (bytesOf k n) ≡ n

@@ -1,0 +1,34 @@
+-- The promise to the layers above: a digest is as long as was asked for, and its elements are bytes. Assumes nothing.
+use mathlib.Core.Path.{_≡_, refl, sym, ap, _∙_, subst}
+use mathlib.Core.List.{List, [], _∷_, _++_}
+use Prim.Native.Nat.{ℕ, zero, suc, _+_, _≤_}
+use native.Mathlib.Omega.{arith}
+use lib.ListN.{length, take, drop}
+use lib.Seq.{length-take-le}
+use Rattle.area.specs.Little.{Bytes, bytesOf}
+use Rattle.area.proofs.Laws.Little.{bytes-below, append-below, take-below}
+use Rattle.blake2b.specs.Blake2b.{F, words, bytes, keyed, before, start, absorbed, finished, blake2b, opened}
+use Rattle.blake2b.specs.Promise.{Digest}
+use Rattle.blake2b.proofs.Laws.Data.{length-state}
+
+-- whatever the data, the state at the end is eight words
+length-absorbed : (n t : ℕ) (d h : List ℕ) → length (absorbed n t d h) ≡ 8
+unfolding absorbed F
+length-absorbed zero t d h = refl
+length-absorbed (suc n) t d h = length-absorbed n (t + 128) (drop 128 d) (F h (words (take 128 d)) (t + 128) _)
+
+state-below : (h : List ℕ) → Bytes (bytes h)
+unfolding bytes Bytes
+state-below [] i = omega arith
+state-below (x ∷ xs) i = append-below (bytesOf 8 x) (bytes xs) (bytes-below 8 x) (state-below xs) i
+
+pub promise : Digest blake2b
+promise =
+    let h : ℕ → List ℕ → List ℕ → List ℕ = λ nn key message. finished (keyed key message) (start nn (length key)) in
+    record {
+      long = λ nn key message few.
+          ap length (opened nn key message)
+          ∙ length-take-le nn (bytes (h nn key message))
+          (omega (arith, length-state (h nn key message), length-absorbed (before (keyed key message)) 0 (keyed key message) (start nn (length key))));
+      bytes = λ nn key message. subst (λ (l : List ℕ). Bytes l) (sym (opened nn key message)) (take-below nn (bytes (h nn key message)) (state-below (h nn key message)));
+    }

@@ -1,0 +1,34 @@
+// RFC 7693 BLAKE2b: a digest of 1 to 64 bytes, keyed by 0 to 64 or unkeyed, of any message.
+ghost use mathlib.Core.Path.{_≡_};
+ghost use Rattle.blake2b.specs.Answers.{left, digested};
+
+mod compression;
+mod data;
+mod mixing;
+mod schedule;
+
+// Done: 0. Refused: 2, for a digest or a key of another length.
+pub enum Answer {
+    Done,
+    Refused,
+}
+
+// The digest of the message under the key, as long as the area that is lent for it. A refusal leaves the area as it was.
+pub fn digest(key: &[u8], message: &[u8], out: &mut [u8]) -> Answer
+    ensures { λ r. ⌜ left r (now (out .exit)) ≡ digested (now (key .entry)) (now (message .entry)) (now (out .entry)) ⌝ }
+{
+    let nn = out.len();
+    if nn < 1 {
+        return Answer::Refused;
+    }
+    if 64 < nn {
+        return Answer::Refused;
+    }
+    let kk = key.len();
+    if 64 < kk {
+        return Answer::Refused;
+    }
+    let h = data::finished(data::start(nn as u64, kk as u64), key, message);
+    data::write(h, out);
+    Answer::Done
+}
