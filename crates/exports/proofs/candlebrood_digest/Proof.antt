@@ -1,0 +1,33 @@
+-- `exports::candlebrood_digest` meets its contract: each answer gives its number. Assumes nothing.
+use mathlib.Core.Path.{sym, ap, _∙_}
+use Rattle.blake2b.specs.Answers.{left}
+use Rattle.blake2b.specs.declared.Answer.{Answer}
+use borrow.Author.Needs.{needs}
+use Rattle.exports.proofs.candlebrood_digest.Statement.{statement}
+use Rattle.exports.proofs.candlebrood_digest.Tie as tie
+
+digest-requires : tie.Need-digest-requires
+digest-requires c κs = search needs
+
+enum-told : tie.Need-enum-told
+enum-told c = search needs
+
+enum-told-2 : tie.Need-enum-told-2
+enum-told-2 c = search needs
+
+same-length : tie.Need-same-length
+same-length c = search needs
+
+returns : tie.Need-returns
+returns c = ap (λ (a : Answer). left a (c .before .before .before .before .digest .last .1 .1 .0)) (sym (c .enum-told .given .1)) ∙ c .before .before .before .before .digest .ensures
+
+same-length-2 : tie.Need-same-length-2
+same-length-2 c = search needs
+
+returns-2 : tie.Need-returns-2
+returns-2 c = ap (λ (a : Answer). left a (c .before .before .before .before .digest .last .1 .1 .0)) (sym (c .enum-told2 .given .1)) ∙ c .before .before .before .before .digest .ensures
+
+pub candlebrood-digest-spec : {M : Type 1} → statement M
+candlebrood-digest-spec =
+    tie.close
+    (tie.spec digest-requires enum-told enum-told-2 same-length returns same-length-2 returns-2)
