@@ -106,10 +106,11 @@ fn words(b: &[u8]) -> [u64; 16]
     m
 }
 
-// The state after a block, at the counter t.
-pub fn compress(h: [u64; 8], b: &[u8], t: u64, last: bool) -> [u64; 8]
+// Takes the state past a block, at the counter t.
+pub fn compress(h: &mut [u64; 8], b: &[u8], t: u64, last: bool)
     requires { ⌜ length (now b) ≡ 128 ⌝ }
-    ensures { λ r. ⌜ r ≡ RFC.F h (RFC.words (now (b .entry))) t last ⌝ }
+    ensures { λ _. ⌜ now (h .exit) ≡ RFC.F (now (h .entry)) (RFC.words (now (b .entry))) t last ⌝ }
 {
-    folded(h, rounds(words(b), local(h, t, last)))
+    let g = *h;
+    *h = folded(g, rounds(words(b), local(g, t, last)));
 }

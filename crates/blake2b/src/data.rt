@@ -39,36 +39,37 @@ fn padded(bs: &[u8]) -> [u8; 128]
     b
 }
 
-// The state after the message, where t bytes came before it.
-fn absorb(h0: [u64; 8], message: &[u8], t: u64) -> [u64; 8]
+// Takes the state past the message, where t bytes came before it.
+fn absorb(h: &mut [u64; 8], message: &[u8], t: u64)
     requires { ⌜ t ≤ 128 ⌝ }
-    ensures { λ r. ⌜ r ≡ RFC.absorbed (RFC.before (now (message .entry))) t (now (message .entry)) h0 ⌝ }
+    ensures { λ _. ⌜ now (h .exit) ≡ RFC.absorbed (RFC.before (now (message .entry))) t (now (message .entry)) (now (h .entry)) ⌝ }
 {
-    let mut h = h0;
     let mut i: usize = 0;
     while 128 < message.len() - i {
         let e = i + 128;
-        let n = compress(h, &message[i..e], t + e as u64, false);
-        h = n;
+        compress(h, &message[i..e], t + e as u64, false);
         i = e;
     }
     let b = padded(&message[i..]);
-    compress(h, &b, t + message.len() as u64, true)
+    compress(h, &b, t + message.len() as u64, true);
 }
 
-// The state after the key's block, where there is a key, and the message.
-pub fn finished(h: [u64; 8], key: &[u8], message: &[u8]) -> [u64; 8]
+// Takes the state past the key's block, where there is a key, and the message.
+pub fn finish(h: &mut [u64; 8], key: &[u8], message: &[u8])
     requires { ⌜ length (now key) ≤ 64 ⌝ }
-    ensures { λ r. ⌜ r ≡ RFC.finished (RFC.keyed (now (key .entry)) (now (message .entry))) h ⌝ }
+    ensures { λ _. ⌜ now (h .exit) ≡ RFC.finished (RFC.keyed (now (key .entry)) (now (message .entry))) (now (h .entry)) ⌝ }
 {
     if key.len() == 0 {
-        return absorb(h, message, 0);
+        absorb(h, message, 0);
+        return;
     }
     let k = padded(key);
     if message.len() == 0 {
-        return compress(h, &k, 128, true);
+        compress(h, &k, 128, true);
+        return;
     }
-    absorb(compress(h, &k, 128, false), message, 128)
+    compress(h, &k, 128, false);
+    absorb(h, message, 128);
 }
 
 // As many of the state's bytes as the area has.

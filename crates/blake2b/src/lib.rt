@@ -28,7 +28,8 @@ pub fn digest(key: &[u8], message: &[u8], out: &mut [u8]) -> Answer
     if 64 < kk {
         return Answer::Refused;
     }
-    let h = data::finished(data::start(nn as u64, kk as u64), key, message);
+    let mut h = data::start(nn as u64, kk as u64);
+    data::finish(&mut h, key, message);
     data::write(h, out);
     Answer::Done
 }

@@ -22,8 +22,8 @@ returns-3 c = refuses _ _ _ (key-too-long _ _ (c .if3 .taken))
 start-requires : tie.Need-start-requires
 start-requires c κs = search needs
 
-finished-requires : tie.Need-finished-requires
-finished-requires c κs = search needs
+finish-requires : tie.Need-finish-requires
+finish-requires c κs = search needs
 
 write-requires : tie.Need-write-requires
 write-requires c κs = search needs
@@ -33,11 +33,11 @@ same-length c = search needs
 
 returns-4 : tie.Need-returns-4
 returns-4 c =
-    let a = c .before .before .before .before .before .before .before .before .before .before .before .before .args in
+    let a = c .before .before .before .before .before .before .before .before .before .before .before .before .before .args in
     digests _ _ _ (allowed-yes _ _ (omega arith) (omega arith) (omega arith))
     (c .before .before .write .ensures
     ∙ ap (λ (h : List ℕ). take (length (a .out .now)) (bytes h))
-    (c .before .before .before .before .finished .ensures ∙ ap (finished (keyed (a .key .now) (a .message .now))) (c .before .before .before .before .before .start .ensures))
+    (c .before .before .before .before .finish .ensures ∙ ap (finished (keyed (a .key .now) (a .message .now))) (c .before .before .before .before .before .before .start .ensures))
     ∙ sym (opened _ (a .key .now) (a .message .now)))
 
 pub digest-spec : {M : Type 1} → statement M
@@ -48,7 +48,7 @@ digest-spec =
     returns-2
     returns-3
     start-requires
-    finished-requires
+    finish-requires
     write-requires
     same-length
     returns-4)
