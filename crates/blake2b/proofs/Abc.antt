@@ -1,6 +1,6 @@
 -- RFC 7693, Appendix A: the digest of "abc", computed from the definition. Assumes nothing.
 use mathlib.Core.Path.{_≡_, refl, _∙_}
-use mathlib.Core.List.{List, [], _∷_}
+use mathlib.Core.List.{[], _∷_}
 use Rattle.area.specs.Pick.{pick}
 use Rattle.area.specs.Area.{part, tab}
 use Rattle.area.specs.Little.{valueOf, bytesOf}

@@ -1,5 +1,5 @@
 -- `area::load2` meets its contract: two bytes, the lower first. Assumes nothing.
-use mathlib.Core.Path.{_≡_, _∙_}
+use mathlib.Core.Path.{_∙_}
 use native.Mathlib.Omega.{arith}
 use Rattle.area.proofs.Laws.Little.{halves, value-one}
 use borrow.Author.Needs.{needs}

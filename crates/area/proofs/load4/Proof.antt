@@ -1,5 +1,4 @@
 -- `area::load4` meets its contract: two halves, the lower first. Assumes nothing.
-use mathlib.Core.Path.{_≡_, _∙_}
 use native.Mathlib.Omega.{arith}
 use Rattle.area.proofs.Laws.Little.{halves}
 use borrow.Author.Needs.{needs}

@@ -1,8 +1,7 @@
 -- `area::same` meets its contract. The loop's invariant: the answer is that of what is left to compare. Assumes nothing.
-use mathlib.Core.Path.{_≡_, refl, sym, ap, _∙_}
-use Prim.Native.Nat.{ℕ, _+_, _-_, _≤_, _<_}
+use mathlib.Core.Path.{_≡_, refl, sym, _∙_}
+use Prim.Native.Nat.{_-_, _≤_}
 use native.Mathlib.Omega.{arith}
-use borrow.Author.Needs.{needs}
 use lib.ListN.{length, drop}
 use Rattle.area.specs.Area.{same}
 use Rattle.area.proofs.Laws.Same.{same-lengths, same-further, same-not, same-end}

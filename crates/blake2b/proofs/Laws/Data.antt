@@ -1,12 +1,12 @@
 -- The data in blocks: padding, one block after another, the key's block, and the bytes of a state. Assumes nothing.
 use mathlib.Core.Path.{_≡_, refl, sym, ap, _∙_}
-use mathlib.Core.Bool.{Bool, true, false}
+use mathlib.Core.Bool.{true, false}
 use mathlib.Core.List.{List, [], _∷_, _++_, append-nil, append-assoc}
-use Prim.Native.Nat.{ℕ, zero, suc, _+_, _-_, _*_, _%_, _/_, _≤_, _<_}
+use Prim.Native.Nat.{ℕ, zero, suc, _+_, _-_, _*_, _≤_, _<_}
 use native.Mathlib.Numerals.{add-one}
 use native.Mathlib.Omega.{arith}
-use lib.ListN.{length, getD, take, drop, replicate, length-append, length-drop, length-replicate}
-use lib.Seq.{take-all, take-at, take-suc, take-length, take-append-add, drop-at, drop-drop, length-take-le}
+use lib.ListN.{length, getD, take, drop, length-append, length-drop, length-replicate}
+use lib.Seq.{take-all, take-at, take-suc, take-append-add, drop-at, drop-drop, length-take-le}
 use Rattle.area.specs.Area.{part, put, zeros}
 use Rattle.area.specs.Little.{bytesOf}
 use Rattle.area.proofs.Laws.Puts.{put-is, put-all, put-append}

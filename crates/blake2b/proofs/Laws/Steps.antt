@@ -1,15 +1,15 @@
 -- One step after another: the mixings of a round, the rounds, the parts of F; and the local vector at a counter of one word.
 -- Assumes nothing.
 use mathlib.Core.Path.{_≡_, refl, sym, ap, _∙_}
-use mathlib.Core.Bool.{Bool, true, false}
+use mathlib.Core.Bool.{Bool}
 use mathlib.Core.Logic.{_⊎_, inl, inr}
 use mathlib.Core.List.{List, [], _∷_, _++_}
-use Prim.Native.Nat.{ℕ, zero, suc, _+_, _*_, _%_, _/_, _^_, _≤_, _<_, zero-le}
+use Prim.Native.Nat.{ℕ, zero, suc, _+_, _%_, _/_, _^_, _≤_, _<_, zero-le}
 use native.Mathlib.Numerals.{add-one}
 use native.Mathlib.Omega.{arith}
 use lib.ListN.{length, take, drop, getD, set}
 use lib.Seq.{take-all, drop-cons, set-getD}
-use lib.Bits.{bitXor, xor-zero-r}
+use lib.Bits.{xor-zero-r}
 use Rattle.blake2b.specs.Blake2b.{G, IV, chosen, round, rounds, xorAt, local, folded, words, F}
 
 -- a mixing of what was made before

@@ -1,5 +1,5 @@
 -- `blake2b::digest` meets its contract: the lengths are tested, then the state is made and its bytes written. Assumes nothing.
-use mathlib.Core.Path.{_≡_, sym, ap, _∙_}
+use mathlib.Core.Path.{sym, ap, _∙_}
 use mathlib.Core.List.{List}
 use Prim.Native.Nat.{ℕ}
 use native.Mathlib.Omega.{arith}

@@ -1,8 +1,8 @@
 -- `blake2b_vectors::show_all` is safe and ends: an item is read where 24 bytes are left. Assumes nothing.
-use Prim.Native.Nat.{_≤_, _<_, _-_}
+use Prim.Native.Nat.{_≤_, _-_}
 use native.Mathlib.Omega.{arith}
 use borrow.Author.Needs.{needs}
-use mathlib.Core.Path.{_≡_, refl, sym}
+use mathlib.Core.Path.{sym}
 use lib.ListN.{length}
 use lib.Seq.{length-take-le}
 use Rattle.blake2b_vectors.proofs.show_all.Statement.{statement}

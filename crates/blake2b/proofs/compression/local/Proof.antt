@@ -2,7 +2,7 @@ use Rattle.area.proofs.Laws.Pick.{yes, no}
 -- `blake2b::compression::local` meets its contract. Assumes nothing.
 use Prim.Native.Nat.{ℕ}
 use mathlib.Core.List.{List}
-use mathlib.Core.Path.{_≡_, refl, sym, ap, _∙_}
+use mathlib.Core.Path.{ap}
 use Rattle.blake2b.specs.Blake2b.{local, xorAt}
 use Rattle.blake2b.proofs.Laws.Steps.{vector}
 use borrow.Author.Needs.{needs}

@@ -1,4 +1,3 @@
-use lib.ListN.{length-take}
 -- `blake2b_vectors::self_test::pair` is safe: the lengths are required. Assumes nothing.
 use mathlib.Core.Path.{sym}
 use native.Mathlib.Omega.{arith}

@@ -1,8 +1,7 @@
 -- `blake2b_vectors::self_test::sequence` is safe and ends: both numbers stay below 2^32. Assumes nothing.
-use Prim.Native.Nat.{_≤_, _<_, _-_}
-use native.Mathlib.Omega.{arith}
+use Prim.Native.Nat.{_<_, _-_}
 use borrow.Author.Needs.{needs}
-use mathlib.Core.Path.{_≡_, refl}
+use mathlib.Core.Path.{_≡_}
 use lib.ListN.{length}
 use Rattle.blake2b_vectors.proofs.self_test.sequence.Statement.{statement}
 use Rattle.blake2b_vectors.proofs.self_test.sequence.Tie as tie
