@@ -1,6 +1,7 @@
 // The tree of RFC 6962, 2.1, over 64-byte segments or over parts' 32-byte roots: roots, the proof of a range, and its checker.
 // No call has a `requires`: lengths and ranges that are not as stated are refused with document 01's 2, and nothing is written.
 ghost use mathlib.Core.Path.{_≡_};
+ghost use Rattle.area.specs.Area.{same};
 ghost use Rattle.tree.specs.Checker.{verdict};
 ghost use Rattle.tree.specs.Answers.{rootGiven, rooted, joined, noCount, countGiven, counted, left, proved, provedIn};
 
@@ -127,14 +128,14 @@ pub fn prove_in(
     if !asked::provable_in(roots, at, part, first, end) {
         return Counted::refused();
     }
-    let count = parts::count(roots, at, part, first, end);
-    if out.len() / 32 < count {
+    let total = parts::count(roots, at, part, first, end);
+    if out.len() / 32 < total {
         return Counted::refused();
     }
     parts::write(roots, at, part, first, end, out);
     Counted {
         answer: Answer::Done,
-        count,
+        count: total,
     }
 }
 
@@ -167,5 +168,12 @@ pub fn check(
     }
     let built = walks::rebuild(bytes, hashes, 0, count, 64, first, end, 0);
     let rebuilt = built.root;
-    area::same(root, &rebuilt)
+    agrees(root, &rebuilt)
+}
+
+// Whether the root given is the one rebuilt, all bytes of both.
+fn agrees(root: &[u8], rebuilt: &[u8; 32]) -> bool
+    ensures { λ r. ⌜ r ≡ same (now (root .entry)) (now (rebuilt .entry)) ⌝ }
+{
+    area::same(root, rebuilt)
 }

@@ -26,12 +26,14 @@ pub fn over(bytes: &[u8], roots: bool, at: usize, n: usize, depth: usize) -> [u8
     if depth == 0 {
         return hashing::leaf(bytes, roots, at);
     }
-    let half = power(depth - 1);
-    if n <= half {
+    let largest = power(depth - 1);
+    if n <= largest {
         return over(bytes, roots, at, n, depth - 1);
     }
-    let left = over(bytes, roots, at, half, depth - 1);
-    let right = over(bytes, roots, at + half, n - half, depth - 1);
+    let middle = at + largest;
+    let rest = n - largest;
+    let left = over(bytes, roots, at, largest, depth - 1);
+    let right = over(bytes, roots, middle, rest, depth - 1);
     hashing::node(&left, &right)
 }
 
@@ -83,8 +85,10 @@ pub fn count(at: usize, n: usize, depth: usize, first: usize, end: usize) -> usi
     if n <= half {
         return count(at, n, depth - 1, first, end);
     }
+    let middle = at + half;
+    let rest = n - half;
     let left = count(at, half, depth - 1, first, end);
-    let right = count(at + half, n - half, depth - 1, first, end);
+    let right = count(middle, rest, depth - 1, first, end);
     left + right
 }
 
@@ -115,18 +119,10 @@ pub fn write(
     if n <= half {
         return write(bytes, roots, at, n, depth - 1, first, end, out, p);
     }
+    let middle = at + half;
+    let rest = n - half;
     let next = write(bytes, roots, at, half, depth - 1, first, end, out, p);
-    write(
-        bytes,
-        roots,
-        at + half,
-        n - half,
-        depth - 1,
-        first,
-        end,
-        out,
-        next,
-    )
+    write(bytes, roots, middle, rest, depth - 1, first, end, out, next)
 }
 
 // A root rebuilt, and the byte at which the next hash stands.
@@ -151,7 +147,8 @@ pub fn rebuild(
 {
     if outside(at, n, first, end) {
         let root = hashing::read(given, p);
-        return Built { root, next: p + 32 };
+        let next = p + 32;
+        return Built { root, next };
     }
     if inside(at, n, first, end) {
         let root = over(bytes, false, at - first, n, depth);
@@ -161,18 +158,11 @@ pub fn rebuild(
     if n <= half {
         return rebuild(bytes, given, at, n, depth - 1, first, end, p);
     }
+    let middle = at + half;
+    let rest = n - half;
     let left = rebuild(bytes, given, at, half, depth - 1, first, end, p);
     let next = left.next;
-    let right = rebuild(
-        bytes,
-        given,
-        at + half,
-        n - half,
-        depth - 1,
-        first,
-        end,
-        next,
-    );
+    let right = rebuild(bytes, given, middle, rest, depth - 1, first, end, next);
     let one = left.root;
     let two = right.root;
     let root = hashing::node(&one, &two);

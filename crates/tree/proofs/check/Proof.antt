@@ -72,11 +72,8 @@ rebuild-requires c κs =
       enough = omega (arith, c .if5 .left, c .before .count .ensures);
     }
 
-slice-aggregate-same : tie.Need-slice-aggregate-same
-slice-aggregate-same c = search needs
-
-same-requires : tie.Need-same-requires
-same-requires c κs = search needs
+agrees-requires : tie.Need-agrees-requires
+agrees-requires c κs = search needs
 
 returns-6 : tie.Need-returns-6
 unfolding verdict count rebuild
@@ -85,7 +82,7 @@ returns-6 c =
     (yes _ _ _ (sym (c .before .before .before .before .before .before .before .before .ranged .ensures) ∙ not-false _ (c .before .before .before .before .before .before .before .if3 .left))
     (yes _ _ _ (eq-eqb _ _ (c .before .before .before .before .before .before .if4 .left))
     (yes _ _ _ (eq-eqb _ _ (c .before .before .before .before .if5 .left ∙ ap (λ (x : ℕ). 32 * x) (c .before .before .before .before .before .count .ensures)))
-    (c .same .ensures ∙ ap (λ (l : List ℕ). same (c .before .before .before .before .before .before .before .before .before .before .before .before .before .before .args .root .now) l) (c .before .before .before .rebuild .ensures .1)))))
+    (c .agrees .ensures ∙ ap (λ (l : List ℕ). same (c .before .before .before .before .before .before .before .before .before .before .before .before .before .before .args .root .now) l) (c .before .before .before .rebuild .ensures .1)))))
 
 pub check-spec : {M : Type 1} → statement M
 check-spec =
@@ -102,6 +99,5 @@ check-spec =
     mul-if5
     returns-5
     rebuild-requires
-    slice-aggregate-same
-    same-requires
+    agrees-requires
     returns-6)

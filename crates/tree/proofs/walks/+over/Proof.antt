@@ -55,6 +55,12 @@ over-returns-2 t c =
     let half = c .before .before in
     tree-less _ _ _ _ _ (omega (arith, half .before .if1 .left)) (half .power .ensures) (c .before .if2 .taken) (c .over .ensures)
 
+over-add-middle : (t : ℕ) → over-lts.Need-add-middle (calls t) (over-at t) over.Post
+over-add-middle t c = omega (arith, covers-fits _ _ _ (c .before .before .before .before .pre .1 .all))
+
+over-sub-rest : (t : ℕ) → over-lts.Need-sub-rest (calls t) (over-at t) over.Post
+over-sub-rest t c = omega arith
+
 over-sub-over-2 : (t : ℕ) → over-lts.Need-sub-over-2 (calls t) (over-at t) over.Post
 over-sub-over-2 t c = omega (arith, c .before .before .if1 .left)
 
@@ -66,14 +72,8 @@ over-over-requires-2 t c κs =
       record { some = omega arith; deep = omega arith; all = covers-less _ _ _ _ (omega arith) (start .pre .1 .all) },
     )
 
-over-add-over : (t : ℕ) → over-lts.Need-add-over (calls t) (over-at t) over.Post
-over-add-over t c = omega (arith, covers-fits _ _ _ (c .before .before .before .before .before .pre .1 .all))
-
 over-sub-over-3 : (t : ℕ) → over-lts.Need-sub-over-3 (calls t) (over-at t) over.Post
-over-sub-over-3 t c = omega arith
-
-over-sub-over-4 : (t : ℕ) → over-lts.Need-sub-over-4 (calls t) (over-at t) over.Post
-over-sub-over-4 t c = omega (arith, c .before .before .before .if1 .left)
+over-sub-over-3 t c = omega (arith, c .before .before .before .if1 .left)
 
 over-over-requires-3 : (t : ℕ) → over-lts.Need-over-requires-3 (calls t) (over-at t) over.Post
 over-over-requires-3 t c κs =
@@ -103,11 +103,11 @@ pub +over-spec : {M : Type 1} → statement M
     (over-sub-over t)
     (over-over-requires t)
     (over-returns-2 t)
+    (over-add-middle t)
+    (over-sub-rest t)
     (over-sub-over-2 t)
     (over-over-requires-2 t)
-    (over-add-over t)
     (over-sub-over-3 t)
-    (over-sub-over-4 t)
     (over-over-requires-3 t)
     (over-node-requires t)
     (over-returns-3 t)

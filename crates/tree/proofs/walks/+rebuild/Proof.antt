@@ -39,8 +39,8 @@ rebuild-outside-requires t c κs = c .before .before .pre .1 .walked .top
 rebuild-read-requires : (t : ℕ) → rebuild-lts.Need-read-requires (calls t) (rebuild-at t) rebuild.Post
 rebuild-read-requires t c κs = room-out _ _ _ _ _ _ _ (sym (c .before .outside .ensures) ∙ c .if1 .taken) (c .before .before .before .before .pre .1 .enough)
 
-rebuild-add-t19 : (t : ℕ) → rebuild-lts.Need-add-t19 (calls t) (rebuild-at t) rebuild.Post
-rebuild-add-t19 t c =
+rebuild-add-next : (t : ℕ) → rebuild-lts.Need-add-next (calls t) (rebuild-at t) rebuild.Post
+rebuild-add-next t c =
     let room = room-out _ _ _ _ _ _ _ (sym (c .before .before .outside .ensures) ∙ c .before .if1 .taken) (c .before .before .before .before .before .pre .1 .enough) in
     omega (arith, room)
 
@@ -97,6 +97,12 @@ rebuild-rebuild-requires t c κs =
 rebuild-returns-3 : (t : ℕ) → rebuild-lts.Need-returns-3 (calls t) (rebuild-at t) rebuild.Post
 rebuild-returns-3 t c = built-less _ _ _ _ (at-level t (c .before .before .before)) (c .before .before .power .ensures) (c .before .if3 .taken) (c .rebuild .ensures)
 
+rebuild-add-middle : (t : ℕ) → rebuild-lts.Need-add-middle (calls t) (rebuild-at t) rebuild.Post
+rebuild-add-middle t c = let l = at-level t (c .before .before) in omega (arith, l .walked .top)
+
+rebuild-sub-rest : (t : ℕ) → rebuild-lts.Need-sub-rest (calls t) (rebuild-at t) rebuild.Post
+rebuild-sub-rest t c = omega arith
+
 rebuild-sub-rebuild-2 : (t : ℕ) → rebuild-lts.Need-sub-rebuild-2 (calls t) (rebuild-at t) rebuild.Post
 rebuild-sub-rebuild-2 t c = at-level t (c .before .before) .deep
 
@@ -109,14 +115,8 @@ rebuild-rebuild-requires-2 t c κs =
       record { walked = walked-left _ l half (c .if3 .left); given = w .given; enough = room-left _ l half _ _ (c .if3 .left) (w .enough) },
     )
 
-rebuild-add-rebuild : (t : ℕ) → rebuild-lts.Need-add-rebuild (calls t) (rebuild-at t) rebuild.Post
-rebuild-add-rebuild t c = let l = at-level t (c .before .before .before) in omega (arith, l .walked .top)
-
 rebuild-sub-rebuild-3 : (t : ℕ) → rebuild-lts.Need-sub-rebuild-3 (calls t) (rebuild-at t) rebuild.Post
-rebuild-sub-rebuild-3 t c = omega arith
-
-rebuild-sub-rebuild-4 : (t : ℕ) → rebuild-lts.Need-sub-rebuild-4 (calls t) (rebuild-at t) rebuild.Post
-rebuild-sub-rebuild-4 t c = at-level t (c .before .before .before) .deep
+rebuild-sub-rebuild-3 t c = at-level t (c .before .before .before) .deep
 
 rebuild-rebuild-requires-3 : (t : ℕ) → rebuild-lts.Need-rebuild-requires-3 (calls t) (rebuild-at t) rebuild.Post
 rebuild-rebuild-requires-3 t c κs =
@@ -140,7 +140,7 @@ pub +rebuild-spec : {M : Type 1} → statement M
     rebuild.Post
     (rebuild-outside-requires t)
     (rebuild-read-requires t)
-    (rebuild-add-t19 t)
+    (rebuild-add-next t)
     (rebuild-returns t)
     (rebuild-inside-requires t)
     (rebuild-sub-over t)
@@ -151,11 +151,11 @@ pub +rebuild-spec : {M : Type 1} → statement M
     (rebuild-sub-rebuild t)
     (rebuild-rebuild-requires t)
     (rebuild-returns-3 t)
+    (rebuild-add-middle t)
+    (rebuild-sub-rest t)
     (rebuild-sub-rebuild-2 t)
     (rebuild-rebuild-requires-2 t)
-    (rebuild-add-rebuild t)
     (rebuild-sub-rebuild-3 t)
-    (rebuild-sub-rebuild-4 t)
     (rebuild-rebuild-requires-3 t)
     (rebuild-node-requires t)
     (rebuild-returns-4 t)

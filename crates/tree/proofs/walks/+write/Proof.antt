@@ -109,6 +109,12 @@ write-returns-3 : (t : ℕ) → write-lts.Need-returns-3 (calls t) (write-at t) 
 write-returns-3 t c =
     laid-less _ _ _ _ _ (at-level t (c .before .before .before .before .before .before)) (c .before .before .before .before .before .power .ensures) (c .before .before .before .before .if3 .taken) (c .before .before .write .ensures)
 
+write-add-middle : (t : ℕ) → write-lts.Need-add-middle (calls t) (write-at t) write.Post
+write-add-middle t c = let l = at-level t (c .before .before) in omega (arith, l .walked .top)
+
+write-sub-rest : (t : ℕ) → write-lts.Need-sub-rest (calls t) (write-at t) write.Post
+write-sub-rest t c = omega arith
+
 write-sub-write-2 : (t : ℕ) → write-lts.Need-sub-write-2 (calls t) (write-at t) write.Post
 write-sub-write-2 t c = at-level t (c .before .before) .deep
 
@@ -122,14 +128,8 @@ write-write-requires-2 t c κs =
       record { walked = walked-left _ l half lt; all = covers-less _ _ _ _ (omega arith) (w .all); room = room-left _ l half _ _ lt (w .room) },
     )
 
-write-add-write : (t : ℕ) → write-lts.Need-add-write (calls t) (write-at t) write.Post
-write-add-write t c = let l = at-level t (c .before .before .before .before .before .before) in omega (arith, l .walked .top)
-
 write-sub-write-3 : (t : ℕ) → write-lts.Need-sub-write-3 (calls t) (write-at t) write.Post
-write-sub-write-3 t c = omega arith
-
-write-sub-write-4 : (t : ℕ) → write-lts.Need-sub-write-4 (calls t) (write-at t) write.Post
-write-sub-write-4 t c = at-level t (c .before .before .before .before .before .before) .deep
+write-sub-write-3 t c = at-level t (c .before .before .before .before .before .before) .deep
 
 write-write-requires-3 : (t : ℕ) → write-lts.Need-write-requires-3 (calls t) (write-at t) write.Post
 write-write-requires-3 t c κs =
@@ -173,11 +173,11 @@ pub +write-spec : {M : Type 1} → statement M
     (write-write-requires t)
     (write-same-length-2 t)
     (write-returns-3 t)
+    (write-add-middle t)
+    (write-sub-rest t)
     (write-sub-write-2 t)
     (write-write-requires-2 t)
-    (write-add-write t)
     (write-sub-write-3 t)
-    (write-sub-write-4 t)
     (write-write-requires-3 t)
     (write-same-length-3 t)
     (write-returns-4 t)
