@@ -172,7 +172,7 @@ pub fn check(
 }
 
 // Whether the root given is the one rebuilt, all bytes of both.
-fn agrees(root: &[u8], rebuilt: &[u8; 32]) -> bool
+fn agrees(root: &[u8], rebuilt: &[u8]) -> bool
     ensures { λ r. ⌜ r ≡ same (now (root .entry)) (now (rebuilt .entry)) ⌝ }
 {
     area::same(root, rebuilt)

@@ -72,6 +72,9 @@ rebuild-requires c κs =
       enough = omega (arith, c .if5 .left, c .before .count .ensures);
     }
 
+slice-aggregate-agrees : tie.Need-slice-aggregate-agrees
+slice-aggregate-agrees c = search needs
+
 agrees-requires : tie.Need-agrees-requires
 agrees-requires c κs = search needs
 
@@ -99,5 +102,6 @@ check-spec =
     mul-if5
     returns-5
     rebuild-requires
+    slice-aggregate-agrees
     agrees-requires
     returns-6)
