@@ -44,7 +44,7 @@ impl Checker {
     pub const LIMIT: usize = 4096;
 }
 
-// The root of whole segments; 2 where the bytes are none.
+// The root of whole segments; 2 where the bytes are not whole segments.
 pub fn root(bytes: &[u8]) -> Rooted
     ensures { λ r. ⌜ rootGiven r ≡ rooted (now (bytes .entry)) ⌝ }
 {
