@@ -1,0 +1,125 @@
+// Writes what `tree_vectors` must write, by the Sia team's own Merkle tree over golang.org/x/crypto's BLAKE2b: every root, and every hash of a
+// proof, is the root of a run of segments as `merkletree.Tree` gives it. The walk is document 01's sentence. A proof of one segment is also
+// held against the library's own proof set.
+//
+// Debian: golang-go golang-github-nebulouslabs-merkletree-dev golang-golang-x-crypto-dev, then
+// GO111MODULE=off GOPATH=/usr/share/gocode go run main.go > ../stdout
+package main
+
+import (
+	"bytes"
+	"fmt"
+
+	"github.com/NebulousLabs/merkletree"
+	"golang.org/x/crypto/blake2b"
+)
+
+const most = 320
+
+var counts = []int{1, 2, 3, 5, 7, 64, 65, 128, 192, 200, 320}
+
+var ranges = [][3]int{
+	{1, 0, 1},
+	{2, 0, 1}, {2, 1, 2}, {2, 0, 2},
+	{3, 0, 1}, {3, 2, 3}, {3, 1, 3}, {3, 0, 3},
+	{5, 0, 1}, {5, 4, 5}, {5, 1, 4}, {5, 0, 5},
+	{7, 0, 1}, {7, 6, 7}, {7, 3, 4}, {7, 2, 6},
+	{64, 0, 1}, {64, 63, 64}, {64, 0, 64}, {64, 31, 33},
+	{65, 0, 1}, {65, 64, 65}, {65, 63, 65}, {65, 0, 65},
+	{128, 0, 1}, {128, 127, 128}, {128, 63, 65}, {128, 64, 128},
+	{192, 0, 1}, {192, 128, 129}, {192, 191, 192}, {192, 63, 129},
+	{200, 0, 1}, {200, 199, 200}, {200, 128, 192}, {200, 191, 193},
+	{320, 0, 1}, {320, 319, 320}, {320, 255, 257}, {320, 256, 320},
+}
+
+// parts of 64 segments: how many, which one, and a range within it
+var within = [][4]int{{1, 0, 0, 1}, {2, 1, 0, 64}, {3, 2, 0, 1}, {3, 0, 63, 64}, {5, 3, 10, 20}, {5, 4, 0, 64}}
+
+var segments [most][]byte
+
+func tree(from, to int) *merkletree.Tree {
+	h, err := blake2b.New256(nil)
+	if err != nil {
+		panic(err)
+	}
+	return merkletree.New(h)
+}
+
+func root(from, to int) []byte {
+	t := tree(from, to)
+	for _, s := range segments[from:to] {
+		t.Push(s)
+	}
+	return t.Root()
+}
+
+// Outside the range the part's root, wholly inside nothing, else left then right.
+func walk(at, n, first, end int) [][]byte {
+	if end <= at || at+n <= first {
+		return [][]byte{root(at, at+n)}
+	}
+	if first <= at && at+n <= end {
+		return nil
+	}
+	k := 1
+	for 2*k < n {
+		k *= 2
+	}
+	return append(walk(at, k, first, end), walk(at+k, n-k, first, end)...)
+}
+
+// The library's proof of one segment has the same hashes, from the segment up.
+func agrees(n, i int, hashes [][]byte) {
+	t := tree(0, n)
+	if err := t.SetIndex(uint64(i)); err != nil {
+		panic(err)
+	}
+	for _, s := range segments[:n] {
+		t.Push(s)
+	}
+	_, set, _, _ := t.Prove()
+	if len(set) != len(hashes)+1 {
+		panic("proof sets differ in length")
+	}
+	for _, h := range hashes {
+		found := false
+		for _, s := range set[1:] {
+			found = found || bytes.Equal(s, h)
+		}
+		if !found {
+			panic("proof sets differ")
+		}
+	}
+}
+
+func main() {
+	for i := range segments {
+		segments[i] = make([]byte, 64)
+		for j := range segments[i] {
+			k := 64*i + j
+			segments[i][j] = byte((k%251 + k/64%241) % 256)
+		}
+	}
+	for _, n := range counts {
+		fmt.Printf("root %d %x\n", n, root(0, n))
+	}
+	for _, r := range ranges {
+		hashes := walk(0, r[0], r[1], r[2])
+		if r[2] == r[1]+1 {
+			agrees(r[0], r[1], hashes)
+		}
+		fmt.Printf("range %d %d %d %d %x yes\n", r[0], r[1], r[2], len(hashes), bytes.Join(hashes, nil))
+	}
+	for _, w := range within {
+		n := 64 * w[0]
+		hashes := walk(0, n, 64*w[1]+w[2], 64*w[1]+w[3])
+		fmt.Printf("within %d %d %d %d %x %x\n", w[0], w[1], w[2], w[3], root(0, n), bytes.Join(hashes, nil))
+	}
+	// Of a proof of 200 segments, 63 up to 65: whole, then damaged.
+	fmt.Println("whole yes")
+	fmt.Println("a bit flipped in each byte in turn 0")
+	for _, damage := range []string{"one hash more", "one hash fewer", "a hash of 31 bytes", "a root of 31 bytes", "one segment fewer", "range swapped", "empty range",
+		"range past the count", "count 0", "count 4097"} {
+		fmt.Println(damage, "no")
+	}
+}

@@ -1,0 +1,512 @@
+// Roots and proofs of segments whose bytes are set by their place, written out for comparison with `expected/main.go`, which makes the same
+// lines by another implementation; and damaged proofs, which the checker refuses.
+ghost use Prim.Native.Nat.{_+_, _≤_};
+ghost use lib.ListN.{length};
+use libc::STDOUT_FILENO;
+
+// The counts of segments whose roots are written.
+const COUNTS: [usize; 11] = [1, 2, 3, 5, 7, 64, 65, 128, 192, 200, 320];
+
+// Ranges, each as count of segments, first, end.
+const RANGES: [usize; 120] = [
+    1,
+    0,
+    1,
+    2,
+    0,
+    1,
+    2,
+    1,
+    2,
+    2,
+    0,
+    2,
+    3,
+    0,
+    1,
+    3,
+    2,
+    3,
+    3,
+    1,
+    3,
+    3,
+    0,
+    3,
+    5,
+    0,
+    1,
+    5,
+    4,
+    5,
+    5,
+    1,
+    4,
+    5,
+    0,
+    5,
+    7,
+    0,
+    1,
+    7,
+    6,
+    7,
+    7,
+    3,
+    4,
+    7,
+    2,
+    6,
+    64,
+    0,
+    1,
+    64,
+    63,
+    64,
+    64,
+    0,
+    64,
+    64,
+    31,
+    33,
+    65,
+    0,
+    1,
+    65,
+    64,
+    65,
+    65,
+    63,
+    65,
+    65,
+    0,
+    65,
+    128,
+    0,
+    1,
+    128,
+    127,
+    128,
+    128,
+    63,
+    65,
+    128,
+    64,
+    128,
+    192,
+    0,
+    1,
+    192,
+    128,
+    129,
+    192,
+    191,
+    192,
+    192,
+    63,
+    129,
+    200,
+    0,
+    1,
+    200,
+    199,
+    200,
+    200,
+    128,
+    192,
+    200,
+    191,
+    193,
+    320,
+    0,
+    1,
+    320,
+    319,
+    320,
+    320,
+    255,
+    257,
+    320,
+    256,
+    320,
+];
+
+// Ranges within a part of 64 segments, each as number of parts, part, first, end.
+const WITHIN: [usize; 24] = [
+    1,
+    0,
+    0,
+    1,
+    2,
+    1,
+    0,
+    64,
+    3,
+    2,
+    0,
+    1,
+    3,
+    0,
+    63,
+    64,
+    5,
+    3,
+    10,
+    20,
+    5,
+    4,
+    0,
+    64,
+];
+
+fn fill(bytes: &mut [u8]) {
+    let mut k = 0;
+    while k < bytes.len() {
+        bytes[k] = ((k % 251 + k / 64 % 241) % 256) as u8;
+        k += 1;
+    }
+}
+
+fn word(text: &[u8]) {
+    io::write_all(STDOUT_FILENO, text);
+    io::write_all(STDOUT_FILENO, b" ");
+}
+
+fn number(n: usize) {
+    io::print_decimal(STDOUT_FILENO, n as u64);
+    io::write_all(STDOUT_FILENO, b" ");
+}
+
+fn end_line() {
+    io::write_all(STDOUT_FILENO, b"\n");
+}
+
+fn hex(bytes: &[u8]) {
+    let mut i = 0;
+    while i < bytes.len() {
+        io::print_hex(STDOUT_FILENO, wide(bytes[i]), 2);
+        i += 1;
+    }
+}
+
+fn hash_line(hash: &[u8; 32]) {
+    hex(hash);
+    end_line();
+}
+
+fn hash_word(hash: &[u8; 32]) {
+    hex(hash);
+    io::write_all(STDOUT_FILENO, b" ");
+}
+
+fn wide(x: u8) -> u64 {
+    x as u64
+}
+
+fn root_line(bytes: &[u8], n: usize) {
+    if n <= bytes.len() / 64 {
+        let all = 64 * n;
+        let rooted = tree::root(&bytes[0..all]);
+        let root = rooted.root;
+        word(b"root");
+        number(n);
+        hash_line(&root);
+    }
+}
+
+fn root_lines(bytes: &[u8]) {
+    let mut i = 0;
+    while i < 11 {
+        root_line(bytes, COUNTS[i]);
+        i += 1;
+    }
+}
+
+fn verdict(yes: bool) {
+    if yes {
+        io::write_all(STDOUT_FILENO, b"yes");
+    } else {
+        io::write_all(STDOUT_FILENO, b"no");
+    }
+    end_line();
+}
+
+// The segments of the range, and the hashes in the first bytes of `out`, against the root.
+fn checked(bytes: &[u8], n: usize, first: usize, end: usize, hashes: &[u8]) -> bool {
+    if n <= bytes.len() / 64 {
+        if end <= n {
+            if first <= end {
+                let all = 64 * n;
+                let from = 64 * first;
+                let to = 64 * end;
+                let rooted = tree::root(&bytes[0..all]);
+                let root = rooted.root;
+                return accepted(&root, n, first, end, &bytes[from..to], hashes);
+            }
+        }
+    }
+    false
+}
+
+fn accepted(
+    root: &[u8; 32],
+    n: usize,
+    first: usize,
+    end: usize,
+    bytes: &[u8],
+    hashes: &[u8],
+) -> bool {
+    tree::check(root, n, first, end, bytes, hashes)
+}
+
+fn range_line(bytes: &[u8], n: usize, first: usize, end: usize, out: &mut [u8]) {
+    if bytes.len() / 64 < n {
+        return;
+    }
+    let all = 64 * n;
+    let proved = tree::prove(&bytes[0..all], first, end, out);
+    let count = proved.count;
+    if out.len() / 32 < count {
+        return;
+    }
+    let used = 32 * count;
+    word(b"range");
+    number(n);
+    number(first);
+    number(end);
+    number(count);
+    hex(&out[0..used]);
+    io::write_all(STDOUT_FILENO, b" ");
+    verdict(checked(bytes, n, first, end, &out[0..used]));
+}
+
+fn ranges(bytes: &[u8], out: &mut [u8]) {
+    let mut i = 0;
+    while i < 40 {
+        range_line(
+            bytes,
+            RANGES[3 * i],
+            RANGES[3 * i + 1],
+            RANGES[3 * i + 2],
+            out,
+        );
+        i += 1;
+    }
+}
+
+// The root of part i of 64 segments, among the parts' roots.
+fn put_root(bytes: &[u8], i: usize, roots: &mut [u8]) {
+    if bytes.len() / 4096 <= i {
+        return;
+    }
+    if roots.len() / 32 <= i {
+        return;
+    }
+    let from = 4096 * i;
+    let to = from + 4096;
+    let rooted = tree::root(&bytes[from..to]);
+    let root = rooted.root;
+    put_hash(&root, roots, 32 * i);
+}
+
+fn put_hash(hash: &[u8; 32], out: &mut [u8], at: usize)
+    requires { ⌜ at + 32 ≤ length (now out) ⌝ }
+{
+    area::copy_between(hash, 0, out, at, 32);
+}
+
+fn part_roots(bytes: &[u8], parts: usize, roots: &mut [u8]) {
+    let mut i = 0;
+    while i < parts {
+        put_root(bytes, i, roots);
+        i += 1;
+    }
+}
+
+fn within_line(
+    bytes: &[u8],
+    parts: usize,
+    at: usize,
+    first: usize,
+    end: usize,
+    roots: &mut [u8],
+    out: &mut [u8],
+) {
+    part_roots(bytes, parts, roots);
+    if roots.len() / 32 < parts {
+        return;
+    }
+    if bytes.len() / 4096 <= at {
+        return;
+    }
+    let given = 32 * parts;
+    let from = 4096 * at;
+    let to = from + 4096;
+    let proved = tree::prove_in(&roots[0..given], at, &bytes[from..to], first, end, out);
+    let joined = tree::join(&roots[0..given]);
+    let root = joined.root;
+    let count = proved.count;
+    if out.len() / 32 < count {
+        return;
+    }
+    let used = 32 * count;
+    word(b"within");
+    number(parts);
+    number(at);
+    number(first);
+    number(end);
+    hash_word(&root);
+    hex(&out[0..used]);
+    end_line();
+}
+
+fn withins(bytes: &[u8], roots: &mut [u8], out: &mut [u8]) {
+    let mut i = 0;
+    while i < 6 {
+        within_line(
+            bytes,
+            WITHIN[4 * i],
+            WITHIN[4 * i + 1],
+            WITHIN[4 * i + 2],
+            WITHIN[4 * i + 3],
+            roots,
+            out,
+        );
+        i += 1;
+    }
+}
+
+// Whether the checker takes what stands in `all`: a root in the first `root` of 32 bytes, segments up to byte `given` of 160, hashes up to
+// byte `total`.
+fn taken(
+    all: &[u8],
+    root: usize,
+    n: usize,
+    first: usize,
+    end: usize,
+    given: usize,
+    total: usize,
+) -> bool {
+    if 32 < root {
+        return false;
+    }
+    if given < 32 {
+        return false;
+    }
+    if 160 < given {
+        return false;
+    }
+    if total < 160 {
+        return false;
+    }
+    if all.len() < total {
+        return false;
+    }
+    tree::check(
+        &all[0..root],
+        n,
+        first,
+        end,
+        &all[32..given],
+        &all[160..total],
+    )
+}
+
+// 1 if the checker takes it with a bit of byte k flipped, which is set back.
+fn flip(all: &mut [u8], k: usize, total: usize) -> usize
+    ensures { λ r. ⌜ r ≤ 1 ⌝ }
+{
+    if all.len() <= k {
+        return 0;
+    }
+    let kept = all[k];
+    all[k] = kept ^ 1;
+    let yes = taken(all, 32, 200, 63, 65, 160, total);
+    all[k] = kept;
+    if yes {
+        return 1;
+    }
+    0
+}
+
+// With a bit flipped in each byte in turn: how often the checker takes it.
+fn flipped(all: &mut [u8], total: usize) -> usize {
+    let mut times = 0;
+    let mut k = 0;
+    while k < total {
+        times += flip(all, k, total);
+        k += 1;
+    }
+    times
+}
+
+// A proof of the segments from 63 up to 65 of 200, whole and with one thing changed at a time, each with what the checker says.
+fn damages(all: &[u8], total: usize) {
+    if total < 192 {
+        return;
+    }
+    if 992 < total {
+        return;
+    }
+    word(b"one hash more");
+    verdict(taken(all, 32, 200, 63, 65, 160, total + 32));
+    word(b"one hash fewer");
+    verdict(taken(all, 32, 200, 63, 65, 160, total - 32));
+    word(b"a hash of 31 bytes");
+    verdict(taken(all, 32, 200, 63, 65, 160, total - 1));
+    word(b"a root of 31 bytes");
+    verdict(taken(all, 31, 200, 63, 65, 160, total));
+    word(b"one segment fewer");
+    verdict(taken(all, 32, 200, 63, 65, 96, total));
+    word(b"range swapped");
+    verdict(taken(all, 32, 200, 65, 63, 160, total));
+    word(b"empty range");
+    verdict(taken(all, 32, 200, 63, 63, 160, total));
+    word(b"range past the count");
+    verdict(taken(all, 32, 64, 63, 65, 160, total));
+    word(b"count 0");
+    verdict(taken(all, 32, 0, 63, 65, 160, total));
+    word(b"count 4097");
+    verdict(taken(all, 32, 4097, 63, 65, 160, total));
+}
+
+// The area takes a root, the segments from 63 up to 65 of 200, and their proof.
+fn lay(bytes: &[u8], all: &mut [u8]) -> usize {
+    if bytes.len() < 12800 {
+        return 0;
+    }
+    if all.len() < 160 {
+        return 0;
+    }
+    let rooted = tree::root(&bytes[0..12800]);
+    let root = rooted.root;
+    put_hash(&root, all, 0);
+    area::copy_between(bytes, 4032, all, 32, 128);
+    let proved = tree::prove(&bytes[0..12800], 63, 65, &mut all[160..]);
+    proved.count
+}
+
+fn damaged(bytes: &[u8], all: &mut [u8]) {
+    let count = lay(bytes, all);
+    if 20 < count {
+        return;
+    }
+    let total = 160 + 32 * count;
+    word(b"whole");
+    verdict(taken(all, 32, 200, 63, 65, 160, total));
+    word(b"a bit flipped in each byte in turn");
+    io::print_decimal(STDOUT_FILENO, flipped(all, total) as u64);
+    end_line();
+    damages(all, total);
+}
+
+fn main() {
+    let mut bytes = [0u8; 20480];
+    let mut roots = [0u8; 160];
+    let mut out = [0u8; 1024];
+    fill(&mut bytes);
+    root_lines(&bytes);
+    ranges(&bytes, &mut out);
+    withins(&bytes, &mut roots, &mut out);
+    damaged(&bytes, &mut out);
+}
