@@ -1,0 +1,28 @@
+-- `sia::number_of` meets its contract: the part is 8 bytes, or it is refused. Assumes nothing.
+use mathlib.Core.Path.{_≡_, refl, sym, ap, _∙_}
+use Prim.Native.Nat.{ℕ}
+use borrow.Author.Needs.{needs}
+use borrow.Author.Tests.{eq-eqb, ne-eqb}
+use Rattle.area.specs.Little.{valueOf}
+use Rattle.area.proofs.Laws.Pick.{yes, no}
+use Rattle.area.proofs.Laws.Parts.{part-whole}
+use Rattle.sia.specs.Number.{number}
+use Rattle.sia.specs.declared.Number.the-variants.{Is}
+use Rattle.sia.proofs.number_of.Statement.{statement}
+use Rattle.sia.proofs.number_of.Tie as tie
+
+returns : tie.Need-returns
+unfolding number
+returns c = no _ _ _ (ne-eqb _ _ (c .if1 .taken)) refl
+
+load-requires : tie.Need-load-requires
+load-requires c κs = search needs
+
+returns-2 : tie.Need-returns-2
+unfolding number
+returns-2 c =
+    let eight = c .before .if1 .left in
+    yes _ _ _ (eq-eqb _ _ eight) (ap Is (c .load .ensures ∙ ap valueOf (part-whole _ 8 (sym eight))))
+
+pub number-of-spec : {M : Type 1} → statement M
+number-of-spec = tie.close (tie.spec returns load-requires returns-2)
