@@ -1,8 +1,9 @@
 -- Reading a head: "Reading goes left to right and stops at the first fault: bytes missing, a flag above 1 or bytes left over give
 -- 9; a count or the declared length above its limit gives 10." Assumes nothing.
+use mathlib.Core.Path.{_≡_}
 use mathlib.Core.Bool.{Bool}
 use mathlib.Core.List.{List, [], _∷_}
-use Prim.Native.Nat.{ℕ, zero, suc}
+use Prim.Native.Nat.{ℕ, zero, suc, _≤_}
 use lib.ListN.{length, take, drop}
 use lib.Dec.{ltb, eqb}
 use Rattle.area.specs.Pick.{pick}
@@ -13,21 +14,21 @@ use Rattle.sia.specs.declared.Instruction.{Instruction}
 use Rattle.sia.specs.declared.Head.{Head}
 use Rattle.sia.specs.declared.Told.{Told}
 
--- what reading a section comes to: its value and the bytes behind it, or a fault; `missing` is 9 and `above` is 10
+-- what reading a section comes to: its value and the bytes behind it, or a fault; `malformed` is 9, `above` (a limit) is 10
 pub data Reading (A : Type 0) : Type 0 where
   value : A → List ℕ → Reading A
-  missing : Reading A
+  malformed : Reading A
   above : Reading A
 
 -- the next section, read from the bytes behind this one; a fault stops
 unfoldable pub after : {A B : Type 0} → Reading A → (A → List ℕ → Reading B) → Reading B
 after (value x rest) next = next x rest
-after missing next = missing
+after malformed next = malformed
 after above next = above
 
 -- n bytes: "bytes missing .. give 9"
 unfoldable pub bytes : ℕ → List ℕ → Reading (List ℕ)
-bytes n bs = pick (ltb (length bs) n) missing (value (take n bs) (drop n bs))
+bytes n bs = pick (ltb (length bs) n) malformed (value (take n bs) (drop n bs))
 
 -- "Numbers are 8 bytes, little-endian."
 unfoldable pub number : List ℕ → Reading ℕ
@@ -39,7 +40,7 @@ limited limit bs = after (number bs) (λ n rest. pick (ltb limit n) above (value
 
 -- "a flag above 1 .. give 9"
 unfoldable pub flag : List ℕ → Reading Bool
-flag bs = after (bytes 1 bs) (λ b rest. pick (ltb 1 (valueOf b)) missing (value (eqb (valueOf b) 1) rest))
+flag bs = after (bytes 1 bs) (λ b rest. pick (ltb 1 (valueOf b)) malformed (value (eqb (valueOf b) 1) rest))
 
 -- n entries of a list, one behind the other
 unfoldable pub several : {A : Type 0} → (List ℕ → Reading A) → ℕ → List ℕ → Reading (List A)
@@ -79,8 +80,19 @@ told n h = record { number = n; head = h }
 unfoldable pub answer : Reading Head → Told
 answer (value h []) = told 0 h
 answer (value h (b ∷ bs)) = told 9 noHead
-answer missing = told 9 noHead
+answer malformed = told 9 noHead
 answer above = told 10 noHead
 
 unfoldable pub decode : List ℕ → Told
 decode bs = answer (head bs)
+
+-- ---- what the readers of sections answer
+
+-- a reading given by its number, 0, 9 or 10, its value and the bytes behind it
+unfoldable pub reading : {A : Type 0} → ℕ → A → List ℕ → Reading A
+reading n x rest = pick (eqb n 0) (value x rest) (pick (eqb n 9) malformed above)
+
+-- a reader that stopped at `next` with this number and value read what the definition reads
+pub record Reads {A : Type 0} (r : Reading A) (bs : List ℕ) (number next : ℕ) (x : A) : Type 0 where
+  pub stays : next ≤ length bs
+  pub says : reading number x (drop next bs) ≡ r

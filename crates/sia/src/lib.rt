@@ -8,6 +8,8 @@ ghost use Rattle.sia.specs.Number.{number};
 ghost use Rattle.sia.specs.Names.{nameOf, opOf, readOnly};
 ghost use Rattle.sia.specs.Empty.{noOperand, noInstruction, noHead};
 
+mod read; // read.rt: the sections of a head, left to right
+
 // A part of the input that an instruction names.
 pub struct Operand {
     pub offset: u64,

@@ -1,0 +1,48 @@
+-- Reading one section after another, as the code does it: `short` and `stops` where a section has a fault, `long` and `goes` where it
+-- is read. Assumes nothing.
+use mathlib.Core.Path.{_≡_, refl, sym, ap, _∙_}
+use mathlib.Core.Bool.{Bool, true, false}
+use mathlib.Core.List.{List, [], _∷_}
+use Prim.Native.Nat.{ℕ, zero, suc, _+_, _-_, _≤_, _<_}
+use native.Mathlib.Omega.{arith}
+use lib.ListN.{length, take, drop, length-drop}
+use lib.Seq.{drop-drop}
+use lib.Dec.{eqb, ltb}
+use borrow.Author.Tests.{eq-eqb, ne-eqb, lt-ltb, le-ltb}
+use Rattle.area.specs.Pick.{pick}
+use Rattle.area.specs.Area.{part}
+use Rattle.area.proofs.Laws.Pick.{picks}
+use Rattle.sia.specs.Decode.{Reading, value, malformed, above, after, bytes, reading, Reads}
+
+pub fine : {A : Type 0} (n : ℕ) (x : A) (rest : List ℕ) → n ≡ 0 → reading n x rest ≡ value x rest
+unfolding reading
+fine n x rest e = picks _ _ _ (eq-eqb n 0 e)
+
+module _ {A B : Type 0} (next : A → List ℕ → Reading B) where
+  -- a fault stays a fault, whatever stands beside it
+  pub fault : (n : ℕ) (x : A) (rest : List ℕ) (y : B) (end : List ℕ) → (n ≡ 0 → ⊥) → reading n y end ≡ after (reading n x rest) next
+  unfolding reading after pick
+  fault n x rest y end h = rw (ne-eqb n 0 h) (go (eqb n 9)) where
+    go : (t : Bool) → pick t malformed above ≡ after (pick t malformed above) next
+    go true = refl
+    go false = refl
+
+  pub stops : {r : Reading A} {bs : List ℕ} {n at : ℕ} {x : A} (y : B) (end : List ℕ) → Reads r bs n at x → (n ≡ 0 → ⊥) → reading n y end ≡ after r next
+  stops {bs = bs} {n = n} {at = at} {x = x} y end e h = fault n x (drop at bs) y end h ∙ ap (λ (s : Reading A). after s next) (e .says)
+
+  pub goes : {r : Reading A} {bs : List ℕ} {n at : ℕ} {x : A} {s : Reading B} → Reads r bs n at x → n ≡ 0 → s ≡ next x (drop at bs) → s ≡ after r next
+  unfolding after
+  goes {bs = bs} {n = n} {at = at} {x = x} e z q = q ∙ ap (λ (s : Reading A). after s next) (sym (fine n x (drop at bs) z) ∙ e .says)
+
+module _ {B : Type 0} (next : List ℕ → List ℕ → Reading B) (bs : List ℕ) (at n : ℕ) where
+  -- fewer than n bytes from `at` on
+  pub short : (y : B) (end : List ℕ) → length bs - at < n → reading 9 y end ≡ after (bytes n (drop at bs)) next
+  unfolding reading after bytes pick
+  short y end h = let l : length (drop at bs) < n = rw length-drop h in rw (lt-ltb (length (drop at bs)) n l)
+
+  -- n bytes from `at` on
+  pub long : {s : Reading B} → n ≤ length bs - at → s ≡ next (part bs at n) (drop (at + n) bs) → s ≡ after (bytes n (drop at bs)) next
+  unfolding after bytes pick part
+  long h q =
+      let l : n ≤ length (drop at bs) = rw length-drop h in
+      rw (le-ltb (length (drop at bs)) n l) (q ∙ ap (next (take n (drop at bs))) (sym (drop-drop n at bs)))

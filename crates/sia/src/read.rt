@@ -1,0 +1,228 @@
+// The sections of a head, each read from a place of the bytes on. A reader answers document 01's number (0: it read its section),
+// the place behind the section, and the value; on a fault the other two say nothing.
+use crate::Head;
+use crate::Instruction;
+use crate::Operand;
+ghost use mathlib.Core.Path.{_≡_};
+ghost use Prim.Native.Nat.{_≤_};
+ghost use lib.ListN.{length, drop, replicate};
+ghost use Rattle.sia.specs.Empty.{noOperand, noInstruction};
+ghost use Rattle.sia.specs.Decode as Says;
+ghost use Rattle.sia.specs.Decode.{Reads};
+
+pub struct ReadNumber {
+    pub number: u64,
+    pub next: usize,
+    pub value: u64,
+}
+
+pub struct ReadFlag {
+    pub number: u64,
+    pub next: usize,
+    pub value: bool,
+}
+
+pub struct ReadOperand {
+    pub number: u64,
+    pub next: usize,
+    pub value: Operand,
+}
+
+pub struct ReadOperands {
+    pub number: u64,
+    pub next: usize,
+    pub list: [Operand; 4],
+}
+
+pub struct ReadInstruction {
+    pub number: u64,
+    pub next: usize,
+    pub value: Instruction,
+}
+
+pub struct ReadInstructions {
+    pub number: u64,
+    pub next: usize,
+    pub list: [Instruction; 32],
+}
+
+// A number.
+fn eight(bytes: &[u8], at: usize) -> ReadNumber
+    requires { ⌜ at ≤ length (now bytes) ⌝ }
+    ensures { λ r. ⌜ Reads (Says.number (drop at (now (bytes .entry)))) (now (bytes .entry)) (r .number) (r .next) (r .value) ⌝ }
+{
+    if bytes.len() - at < 8 {
+        return ReadNumber {
+            number: 9,
+            next: at,
+            value: 0,
+        };
+    }
+    ReadNumber {
+        number: 0,
+        next: at + 8,
+        value: area::load(bytes, at),
+    }
+}
+
+// A count, or the declared length: above its limit it is 10 as soon as it is read.
+fn limited(bytes: &[u8], at: usize, limit: u64) -> ReadNumber
+    requires { ⌜ at ≤ length (now bytes) ⌝ }
+    ensures { λ r. ⌜ Reads (Says.limited limit (drop at (now (bytes .entry)))) (now (bytes .entry)) (r .number) (r .next) (r .value) ⌝ }
+{
+    let step = eight(bytes, at);
+    if step.number != 0 {
+        return step;
+    }
+    if limit < step.value {
+        return ReadNumber {
+            number: 10,
+            next: at,
+            value: 0,
+        };
+    }
+    step
+}
+
+// The proof flag: one byte, 0 or 1.
+fn flag(bytes: &[u8], at: usize) -> ReadFlag
+    requires { ⌜ at ≤ length (now bytes) ⌝ }
+    ensures { λ r. ⌜ Reads (Says.flag (drop at (now (bytes .entry)))) (now (bytes .entry)) (r .number) (r .next) (r .value) ⌝ }
+{
+    if bytes.len() - at < 1 {
+        return ReadFlag {
+            number: 9,
+            next: at,
+            value: false,
+        };
+    }
+    let byte = bytes[at];
+    if 1 < byte {
+        return ReadFlag {
+            number: 9,
+            next: at,
+            value: false,
+        };
+    }
+    ReadFlag {
+        number: 0,
+        next: at + 1,
+        value: byte == 1,
+    }
+}
+
+// An operand: its offset, then its length.
+fn operand(bytes: &[u8], at: usize) -> ReadOperand
+    requires { ⌜ at ≤ length (now bytes) ⌝ }
+    ensures { λ r. ⌜ Reads (Says.operand (drop at (now (bytes .entry)))) (now (bytes .entry)) (r .number) (r .next) (r .value) ⌝ }
+{
+    let none = Operand { offset: 0, len: 0 };
+    let first = eight(bytes, at);
+    if first.number != 0 {
+        return ReadOperand {
+            number: first.number,
+            next: at,
+            value: none,
+        };
+    }
+    let second = eight(bytes, first.next);
+    if second.number != 0 {
+        return ReadOperand {
+            number: second.number,
+            next: at,
+            value: none,
+        };
+    }
+    ReadOperand {
+        number: 0,
+        next: second.next,
+        value: Operand {
+            offset: first.value,
+            len: second.value,
+        },
+    }
+}
+
+// n operands, into a list that is empty so far.
+fn operands(bytes: &[u8], at: usize, n: usize, none: [Operand; 4]) -> ReadOperands
+    requires { ⌜ at ≤ length (now bytes) ⌝ }
+    requires { ⌜ n ≤ 4 ⌝ }
+    requires { ⌜ none ≡ replicate 4 noOperand ⌝ }
+    ensures { λ r. ⌜ Reads (Says.operands n (drop at (now (bytes .entry)))) (now (bytes .entry)) (r .number) (r .next) (r .list) ⌝ }
+{
+    let mut list = none;
+    let mut place = at;
+    let mut i: usize = 0;
+    while i < n {
+        let taken = operand(bytes, place);
+        if taken.number != 0 {
+            return ReadOperands {
+                number: taken.number,
+                next: place,
+                list,
+            };
+        }
+        let value = taken.value;
+        list[i] = value;
+        place = taken.next;
+        i += 1;
+    }
+    ReadOperands {
+        number: 0,
+        next: place,
+        list,
+    }
+}
+
+// An instruction, into an entry that is empty so far: a 16-byte name, operand count, operands, proof flag.
+fn instruction(bytes: &[u8], at: usize, entry: Instruction) -> ReadInstruction
+    requires { ⌜ at ≤ length (now bytes) ⌝ }
+    requires { ⌜ entry ≡ noInstruction ⌝ }
+    ensures { λ r. ⌜ Reads (Says.instruction (drop at (now (bytes .entry)))) (now (bytes .entry)) (r .number) (r .next) (r .value) ⌝ }
+{
+    if bytes.len() - at < 16 {
+        return ReadInstruction {
+            number: 9,
+            next: at,
+            value: entry,
+        };
+    }
+    let mut name = entry.name;
+    area::copy_between(bytes, at, &mut name, 0, 16);
+    let counted = limited(bytes, at + 16, Instruction::OPERANDS);
+    if counted.number != 0 {
+        return ReadInstruction {
+            number: counted.number,
+            next: at,
+            value: entry,
+        };
+    }
+    let none = entry.operands;
+    let taken = operands(bytes, counted.next, counted.value as usize, none);
+    if taken.number != 0 {
+        return ReadInstruction {
+            number: taken.number,
+            next: at,
+            value: entry,
+        };
+    }
+    let flagged = flag(bytes, taken.next);
+    if flagged.number != 0 {
+        return ReadInstruction {
+            number: flagged.number,
+            next: at,
+            value: entry,
+        };
+    }
+    let list = taken.list;
+    ReadInstruction {
+        number: 0,
+        next: flagged.next,
+        value: Instruction {
+            name,
+            count: counted.value,
+            operands: list,
+            proof: flagged.value,
+        },
+    }
+}
