@@ -14,21 +14,19 @@ use Rattle.sia.specs.declared.Instruction.{Instruction}
 use Rattle.sia.specs.declared.Head.{Head}
 use Rattle.sia.specs.declared.Told.{Told}
 
--- what reading a section comes to: its value and the bytes behind it, or a fault; `malformed` is 9, `above` (a limit) is 10
+-- what reading a section comes to: its value and the bytes behind it, or the number of a fault
 pub data Reading (A : Type 0) : Type 0 where
   value : A → List ℕ → Reading A
-  malformed : Reading A
-  above : Reading A
+  fault : ℕ → Reading A
 
 -- the next section, read from the bytes behind this one; a fault stops
 unfoldable pub after : {A B : Type 0} → Reading A → (A → List ℕ → Reading B) → Reading B
 after (value x rest) next = next x rest
-after malformed next = malformed
-after above next = above
+after (fault n) next = fault n
 
 -- n bytes: "bytes missing .. give 9"
 unfoldable pub bytes : ℕ → List ℕ → Reading (List ℕ)
-bytes n bs = pick (ltb (length bs) n) malformed (value (take n bs) (drop n bs))
+bytes n bs = pick (ltb (length bs) n) (fault 9) (value (take n bs) (drop n bs))
 
 -- "Numbers are 8 bytes, little-endian."
 unfoldable pub number : List ℕ → Reading ℕ
@@ -36,11 +34,11 @@ number bs = after (bytes 8 bs) (λ b rest. value (valueOf b) rest)
 
 -- "a count or the declared length above its limit gives 10"
 unfoldable pub limited : ℕ → List ℕ → Reading ℕ
-limited limit bs = after (number bs) (λ n rest. pick (ltb limit n) above (value n rest))
+limited limit bs = after (number bs) (λ n rest. pick (ltb limit n) (fault 10) (value n rest))
 
 -- "a flag above 1 .. give 9"
 unfoldable pub flag : List ℕ → Reading Bool
-flag bs = after (bytes 1 bs) (λ b rest. pick (ltb 1 (valueOf b)) malformed (value (eqb (valueOf b) 1) rest))
+flag bs = after (bytes 1 bs) (λ b rest. pick (ltb 1 (valueOf b)) (fault 9) (value (eqb (valueOf b) 1) rest))
 
 -- n entries of a list, one behind the other
 unfoldable pub several : {A : Type 0} → (List ℕ → Reading A) → ℕ → List ℕ → Reading (List A)
@@ -80,17 +78,16 @@ told n h = record { number = n; head = h }
 unfoldable pub answer : Reading Head → Told
 answer (value h []) = told 0 h
 answer (value h (b ∷ bs)) = told 9 noHead
-answer malformed = told 9 noHead
-answer above = told 10 noHead
+answer (fault n) = told n noHead
 
 unfoldable pub decode : List ℕ → Told
 decode bs = answer (head bs)
 
 -- ---- what the readers of sections answer
 
--- a reading given by its number, 0, 9 or 10, its value and the bytes behind it
+-- a reading given by its number, which is 0 where there is no fault, its value and the bytes behind it
 unfoldable pub reading : {A : Type 0} → ℕ → A → List ℕ → Reading A
-reading n x rest = pick (eqb n 0) (value x rest) (pick (eqb n 9) malformed above)
+reading n x rest = pick (eqb n 0) (value x rest) (fault n)
 
 -- a reader that stopped at `next` with this number and value read what the definition reads
 pub record Reads {A : Type 0} (r : Reading A) (bs : List ℕ) (number next : ℕ) (x : A) : Type 0 where

@@ -7,6 +7,7 @@ ghost use Rattle.area.specs.Area.{same};
 ghost use Rattle.sia.specs.Number.{number};
 ghost use Rattle.sia.specs.Names.{nameOf, opOf, readOnly};
 ghost use Rattle.sia.specs.Empty.{noOperand, noInstruction, noHead};
+ghost use Rattle.sia.specs.Decode.{decode};
 
 mod read; // read.rt: the sections of a head, left to right
 
@@ -193,4 +194,26 @@ pub fn number_of(part: &[u8]) -> Number
         return Number::Refused;
     }
     Number::Is(area::load(part, 0))
+}
+
+// The head that bytes are, with 0; or the empty head, with 9 (bytes missing, a flag above 1, bytes left over) or 10 (a count or the
+// declared length above its limit).
+pub fn read_head(bytes: &[u8]) -> Told
+    ensures { λ r. ⌜ r ≡ decode (now (bytes .entry)) ⌝ }
+{
+    let got = read::head(bytes);
+    if got.number != 0 {
+        return Told {
+            number: got.number,
+            head: Head::empty(),
+        };
+    }
+    if got.next != bytes.len() {
+        return Told {
+            number: 9,
+            head: Head::empty(),
+        };
+    }
+    let head = got.value;
+    Told { number: 0, head }
 }

@@ -46,6 +46,12 @@ pub struct ReadInstructions {
     pub list: [Instruction; 32],
 }
 
+pub struct ReadHead {
+    pub number: u64,
+    pub next: usize,
+    pub value: Head,
+}
+
 // A number.
 fn eight(bytes: &[u8], at: usize) -> ReadNumber
     requires { ⌜ at ≤ length (now bytes) ⌝ }
@@ -223,6 +229,89 @@ fn instruction(bytes: &[u8], at: usize, entry: Instruction) -> ReadInstruction
             count: counted.value,
             operands: list,
             proof: flagged.value,
+        },
+    }
+}
+
+// n instructions, one behind the other. An entry is filled while it is empty.
+fn instructions(bytes: &[u8], at: usize, n: usize) -> ReadInstructions
+    requires { ⌜ at ≤ length (now bytes) ⌝ }
+    requires { ⌜ n ≤ 32 ⌝ }
+    ensures { λ r. ⌜ Reads (Says.instructions n (drop at (now (bytes .entry)))) (now (bytes .entry)) (r .number) (r .next) (r .list) ⌝ }
+{
+    let none = Instruction::empty();
+    let mut list = [none; 32];
+    let mut place = at;
+    let mut i: usize = 0;
+    while i < n {
+        let entry = list[i];
+        let got = instruction(bytes, place, entry);
+        if got.number != 0 {
+            return ReadInstructions {
+                number: got.number,
+                next: place,
+                list,
+            };
+        }
+        let value = got.value;
+        list[i] = value;
+        place = got.next;
+        i += 1;
+    }
+    ReadInstructions {
+        number: 0,
+        next: place,
+        list,
+    }
+}
+
+// A head up to its last section: contract id, instruction count, instructions, declared data length.
+pub fn head(bytes: &[u8]) -> ReadHead
+    ensures { λ r. ⌜ Reads (Says.head (now (bytes .entry))) (now (bytes .entry)) (r .number) (r .next) (r .value) ⌝ }
+{
+    let none = Head::empty();
+    if bytes.len() < 32 {
+        return ReadHead {
+            number: 9,
+            next: 0,
+            value: none,
+        };
+    }
+    let mut contract = [0u8; 32];
+    area::copy_between(bytes, 0, &mut contract, 0, 32);
+    let counted = limited(bytes, 32, Head::INSTRUCTIONS);
+    if counted.number != 0 {
+        return ReadHead {
+            number: counted.number,
+            next: 0,
+            value: none,
+        };
+    }
+    let got = instructions(bytes, counted.next, counted.value as usize);
+    if got.number != 0 {
+        return ReadHead {
+            number: got.number,
+            next: 0,
+            value: none,
+        };
+    }
+    let declared = limited(bytes, got.next, Head::LENGTH);
+    if declared.number != 0 {
+        return ReadHead {
+            number: declared.number,
+            next: 0,
+            value: none,
+        };
+    }
+    let list = got.list;
+    ReadHead {
+        number: 0,
+        next: declared.next,
+        value: Head {
+            contract,
+            count: counted.value,
+            instructions: list,
+            length: declared.value,
         },
     }
 }

@@ -9,8 +9,8 @@ use native.Mathlib.Omega.{arith}
 use lib.ListN.{length, take, drop, getD, set, replicate, length-set, length-replicate, take-append-drop, getD-replicate}
 use lib.Seq.{take-suc-set, drop-set-lt, drop-drop, length-take-le, getD-drop}
 use Rattle.sia.specs.Empty.{filled}
-use Rattle.sia.specs.Decode.{Reading, value, malformed, above, after, several, entries, reading, Reads}
-use Rattle.sia.proofs.Laws.Reading.{fine, fault, stops, goes}
+use Rattle.sia.specs.Decode.{Reading, value, fault, after, several, entries, reading, Reads}
+use Rattle.sia.proofs.Laws.Reading.{fine, carries, stops, goes}
 
 -- entries in front of those of a reading
 unfoldable pub onto : {A : Type 0} → List A → Reading (List A) → Reading (List A)
@@ -19,14 +19,12 @@ onto done r = after r (λ xs end. value (done ++ xs) end)
 onto-none : {A : Type 0} (r : Reading (List A)) → r ≡ onto [] r
 unfolding onto after
 onto-none (value xs end) = refl
-onto-none malformed = refl
-onto-none above = refl
+onto-none (fault n) = refl
 
 onto-one : {A : Type 0} (done : List A) (x : A) (r : Reading (List A)) → onto done (after r (λ xs end. value (x ∷ xs) end)) ≡ onto (done ++ (x ∷ [])) r
 unfolding onto after
 onto-one done x (value xs end) = ap (λ (l : List _). value l end) (sym (append-assoc done (x ∷ []) xs))
-onto-one done x malformed = refl
-onto-one done x above = refl
+onto-one done x (fault n) = refl
 
 module _ {A : Type 0} (one : List ℕ → Reading A) (room : ℕ) (none : A) (n : ℕ) (bs : List ℕ) (at : ℕ) where
   -- i of n entries were read, up to `place`
@@ -83,8 +81,8 @@ module _ {A : Type 0} (one : List ℕ → Reading A) (room : ℕ) (none : A) (n 
     unfolding entries onto
     stop {number} {next} {x} h r f =
         let here = stops (λ x rest. after (several one (n - (i + 1)) rest) (λ xs end. value (x ∷ xs) end)) [] [] r f ∙ sym (next-one h) in
-        let whole : reading number [] [] ≡ several one n (drop at bs) = fault (λ xs end. value (take i list ++ xs) end) number [] [] [] [] f ∙ ap (onto (take i list)) here ∙ sym (e .ends) in
-        record { stays = e .stays; says = fault _ number [] [] list (drop place bs) f ∙ ap (λ (s : Reading (List A)). after s (λ xs rest. value (filled room none xs) rest)) whole }
+        let whole : reading number [] [] ≡ several one n (drop at bs) = carries (λ xs end. value (take i list ++ xs) end) number [] [] [] [] f ∙ ap (onto (take i list)) here ∙ sym (e .ends) in
+        record { stays = e .stays; says = carries _ number [] [] list (drop place bs) f ∙ ap (λ (s : Reading (List A)). after s (λ xs rest. value (filled room none xs) rest)) whole }
 
     pub done : n ≤ i → n ≤ room → Reads (entries one room none n (drop at bs)) bs 0 place list
     unfolding entries onto several after filled

@@ -9,7 +9,7 @@ use lib.Dec.{ltb}
 use borrow.Author.Tests.{ltb-false}
 use Rattle.area.specs.Pick.{pick}
 use Rattle.area.specs.Little.{valueOf}
-use Rattle.sia.specs.Decode.{Reading, value, malformed, above, after, bytes, number, limited}
+use Rattle.sia.specs.Decode.{Reading, value, fault, after, bytes, number, limited}
 
 -- the value and the bytes behind it of the first of two sections
 pub record Split {A B : Type 0} (r : Reading A) (next : A → List ℕ → Reading B) (y : B) (end : List ℕ) : Type 0 where
@@ -21,19 +21,13 @@ pub record Split {A B : Type 0} (r : Reading A) (next : A → List ℕ → Readi
 pub split : {A B : Type 0} (r : Reading A) (next : A → List ℕ → Reading B) {y : B} {end : List ℕ} → after r next ≡ value y end → Split r next y end
 unfolding after
 split (value x rest) next e = record { x = x; rest = rest; first = refl; second = e }
-split malformed next e = absurd (let z : _≡_ {A = ℕ} 0 1 = cc in omega arith)
-split above next e = absurd (let z : _≡_ {A = ℕ} 0 1 = cc in omega arith)
+split (fault n) next e = absurd (let z : _≡_ {A = ℕ} 0 1 = cc in omega arith)
 
 -- a test that answers a fault did not hold
-pub past-malformed : {A : Type 0} (t : Bool) (r : Reading A) {y : A} {end : List ℕ} → pick t malformed r ≡ value y end → (t ≡ false) × (r ≡ value y end)
+pub past : {A : Type 0} (t : Bool) (n : ℕ) (r : Reading A) {y : A} {end : List ℕ} → pick t (fault n) r ≡ value y end → (t ≡ false) × (r ≡ value y end)
 unfolding pick
-past-malformed true r e = absurd (let z : _≡_ {A = ℕ} 0 1 = cc in omega arith)
-past-malformed false r e = (refl, e)
-
-pub past-above : {A : Type 0} (t : Bool) (r : Reading A) {y : A} {end : List ℕ} → pick t above r ≡ value y end → (t ≡ false) × (r ≡ value y end)
-unfolding pick
-past-above true r e = absurd (let z : _≡_ {A = ℕ} 0 1 = cc in omega arith)
-past-above false r e = (refl, e)
+past true n r e = absurd (let z : _≡_ {A = ℕ} 0 1 = cc in omega arith)
+past false n r e = (refl, e)
 
 pub same-value : {A : Type 0} {x y : A} {rest end : List ℕ} → value x rest ≡ value y end → (x ≡ y) × (rest ≡ end)
 same-value e = (cc, cc)
@@ -43,5 +37,5 @@ pub limited-within : (limit : ℕ) (bs : List ℕ) {n : ℕ} {end : List ℕ} �
 unfolding limited
 limited-within limit bs e =
     let s = split (number bs) _ e in
-    let p = past-above (ltb limit (s .x)) _ (s .second) in
+    let p = past (ltb limit (s .x)) 10 _ (s .second) in
     omega (arith, ltb-false limit (s .x) (p .0), same-value (p .1) .0)

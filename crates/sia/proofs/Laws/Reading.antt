@@ -1,18 +1,19 @@
 -- Reading one section after another, as the code does it: `short` and `stops` where a section has a fault, `long` and `goes` where it
 -- is read. Assumes nothing.
 use mathlib.Core.Path.{_≡_, refl, sym, ap, _∙_}
-use mathlib.Core.Bool.{Bool, true, false}
 use mathlib.Core.List.{List, [], _∷_}
 use Prim.Native.Nat.{ℕ, zero, suc, _+_, _-_, _≤_, _<_}
 use native.Mathlib.Omega.{arith}
-use lib.ListN.{length, take, drop, length-drop}
-use lib.Seq.{drop-drop}
+use lib.ListN.{length, take, drop, length-drop, drop-of-length-le}
+use lib.Seq.{drop-drop, drop-cons}
 use lib.Dec.{eqb, ltb}
 use borrow.Author.Tests.{eq-eqb, ne-eqb, lt-ltb, le-ltb}
 use Rattle.area.specs.Pick.{pick}
 use Rattle.area.specs.Area.{part}
-use Rattle.area.proofs.Laws.Pick.{picks}
-use Rattle.sia.specs.Decode.{Reading, value, malformed, above, after, bytes, reading, Reads}
+use Rattle.area.proofs.Laws.Pick.{picks, skips}
+use Rattle.sia.specs.Decode.{Reading, value, after, bytes, told, answer, reading, Reads}
+use Rattle.sia.specs.Empty.{noHead}
+use Rattle.sia.specs.declared.Head.{Head}
 
 pub fine : {A : Type 0} (n : ℕ) (x : A) (rest : List ℕ) → n ≡ 0 → reading n x rest ≡ value x rest
 unfolding reading
@@ -20,15 +21,12 @@ fine n x rest e = picks _ _ _ (eq-eqb n 0 e)
 
 module _ {A B : Type 0} (next : A → List ℕ → Reading B) where
   -- a fault stays a fault, whatever stands beside it
-  pub fault : (n : ℕ) (x : A) (rest : List ℕ) (y : B) (end : List ℕ) → (n ≡ 0 → ⊥) → reading n y end ≡ after (reading n x rest) next
+  pub carries : (n : ℕ) (x : A) (rest : List ℕ) (y : B) (end : List ℕ) → (n ≡ 0 → ⊥) → reading n y end ≡ after (reading n x rest) next
   unfolding reading after pick
-  fault n x rest y end h = rw (ne-eqb n 0 h) (go (eqb n 9)) where
-    go : (t : Bool) → pick t malformed above ≡ after (pick t malformed above) next
-    go true = refl
-    go false = refl
+  carries n x rest y end h = rw (ne-eqb n 0 h)
 
   pub stops : {r : Reading A} {bs : List ℕ} {n at : ℕ} {x : A} (y : B) (end : List ℕ) → Reads r bs n at x → (n ≡ 0 → ⊥) → reading n y end ≡ after r next
-  stops {bs = bs} {n = n} {at = at} {x = x} y end e h = fault n x (drop at bs) y end h ∙ ap (λ (s : Reading A). after s next) (e .says)
+  stops {bs = bs} {n = n} {at = at} {x = x} y end e h = carries n x (drop at bs) y end h ∙ ap (λ (s : Reading A). after s next) (e .says)
 
   pub goes : {r : Reading A} {bs : List ℕ} {n at : ℕ} {x : A} {s : Reading B} → Reads r bs n at x → n ≡ 0 → s ≡ next x (drop at bs) → s ≡ after r next
   unfolding after
@@ -46,3 +44,22 @@ module _ {B : Type 0} (next : List ℕ → List ℕ → Reading B) (bs : List �
   long h q =
       let l : n ≤ length (drop at bs) = rw length-drop h in
       rw (le-ltb (length (drop at bs)) n l) (q ∙ ap (next (take n (drop at bs))) (sym (drop-drop n at bs)))
+
+-- ---- the answer at the end
+
+module _ {r : Reading Head} {bs : List ℕ} {n at : ℕ} {h : Head} (e : Reads r bs n at h) where
+  pub answer-fault : (n ≡ 0 → ⊥) → told n noHead ≡ answer r
+  unfolding answer reading
+  answer-fault z = ap answer (sym (skips _ _ _ (ne-eqb n 0 z)) ∙ e .says)
+
+  read-whole : n ≡ 0 → value h (drop at bs) ≡ r
+  read-whole z = sym (fine n h (drop at bs) z) ∙ e .says
+
+  -- bytes left over
+  pub answer-more : n ≡ 0 → (at ≡ length bs → ⊥) → told 9 noHead ≡ answer r
+  unfolding answer
+  answer-more z m = ap (λ (l : List ℕ). answer (value h l)) (sym (drop-cons bs at 0 (omega (arith, e .stays)))) ∙ ap answer (read-whole z)
+
+  pub answer-all : n ≡ 0 → at ≡ length bs → told 0 h ≡ answer r
+  unfolding answer
+  answer-all z m = ap (λ (l : List ℕ). answer (value h l)) (sym (drop-of-length-le bs {i = at} (omega arith))) ∙ ap answer (read-whole z)
