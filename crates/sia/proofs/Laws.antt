@@ -3,3 +3,7 @@ pub mod Reading
 pub mod Entries
 pub mod Inverse
 pub mod Areas
+pub mod Known
+pub mod Every
+pub mod Joined
+pub mod Limits

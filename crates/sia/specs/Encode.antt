@@ -24,9 +24,9 @@ unfoldable pub operandBytes : Operand → List ℕ
 operandBytes o = le8 (o .offset) ++ le8 (o .len)
 
 -- "proof flag (one byte, 0 or 1)"
-unfoldable pub flagBytes : Bool → List ℕ
-flagBytes false = 0 ∷ []
-flagBytes true = 1 ∷ []
+abbrev pub flagByte : Bool → ℕ
+flagByte false = 0
+flagByte true = 1
 
 -- the entries within a count; "Entries past a count are no part of a head"
 abbrev pub operandsIn : Instruction → List Operand
@@ -37,7 +37,7 @@ instructionsIn h = take (h .count) (h .instructions)
 
 -- "per instruction a 16-byte name, operand count, operands (offset, length), proof flag"
 unfoldable pub instructionBytes : Instruction → List ℕ
-instructionBytes x = x .name ++ (le8 (x .count) ++ (joined operandBytes (operandsIn x) ++ flagBytes (x .proof)))
+instructionBytes x = x .name ++ (le8 (x .count) ++ (joined operandBytes (operandsIn x) ++ (flagByte (x .proof) ∷ [])))
 
 unfoldable pub encode : Head → List ℕ
 encode h = h .contract ++ (le8 (h .count) ++ (joined instructionBytes (instructionsIn h) ++ le8 (h .length)))

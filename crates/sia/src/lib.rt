@@ -8,8 +8,11 @@ ghost use Rattle.sia.specs.Number.{number};
 ghost use Rattle.sia.specs.Names.{nameOf, opOf, readOnly};
 ghost use Rattle.sia.specs.Empty.{noOperand, noInstruction, noHead};
 ghost use Rattle.sia.specs.Decode.{decode};
+ghost use Rattle.sia.specs.Encode as Says;
+ghost use Rattle.sia.specs.Encode.{left};
 
 mod read; // read.rt: the sections of a head, left to right
+mod write; // write.rt: the limits of a head, its length, and its bytes
 
 // A part of the input that an instruction names.
 pub struct Operand {
@@ -216,4 +219,26 @@ pub fn read_head(bytes: &[u8]) -> Told
     }
     let head = got.value;
     Told { number: 0, head }
+}
+
+// The bytes of a head within limits, laid over the front of an area, with 0 and their length; 10 for a head above a limit, then 2 for
+// an area that is too short, with length 0 and the area as it was.
+pub fn write_head(head: Head, out: &mut [u8]) -> Written
+    ensures { λ r. ⌜ left r (now (out .exit)) ≡ Says.write head (now (out .entry)) ⌝ }
+{
+    if !write::within(head) {
+        return Written {
+            number: 10,
+            length: 0,
+        };
+    }
+    let length = write::head_length(head);
+    if out.len() < length {
+        return Written {
+            number: 2,
+            length: 0,
+        };
+    }
+    write::put_head(head, out);
+    Written { number: 0, length }
 }

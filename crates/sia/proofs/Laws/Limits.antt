@@ -1,0 +1,21 @@
+-- What a head within limits is: its count, its declared length, and its instructions' counts. Assumes nothing.
+use mathlib.Core.Path.{_≡_}
+use mathlib.Core.Bool.{true}
+use Prim.Native.Nat.{_≤_}
+use borrow.Author.Tests.{leb-true}
+use Rattle.area.proofs.Laws.Pick.{both-left, both-right}
+use Rattle.sia.specs.declared.Head.{Head}
+use Rattle.sia.specs.Encode.{every, fewOperands, instructionsIn, within}
+
+pub record Within (h : Head) : Type 0 where
+  pub count : h .count ≤ 32
+  pub declared : h .length ≤ 65536
+  pub few : every fewOperands (instructionsIn h) ≡ true
+
+pub within-is : (h : Head) → within h ≡ true → Within h
+unfolding within
+within-is h e = record {
+  count = leb-true _ _ (both-left _ _ e);
+  declared = leb-true _ _ (both-left _ _ (both-right _ _ e));
+  few = both-right _ _ (both-right _ _ e);
+}
