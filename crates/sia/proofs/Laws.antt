@@ -7,3 +7,6 @@ pub mod Known
 pub mod Every
 pub mod Joined
 pub mod Limits
+pub mod There
+pub mod Honest
+pub mod Back

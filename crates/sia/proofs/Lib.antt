@@ -1,2 +1,3 @@
--- The laws of heads, stated once and cited by the proofs.
+-- The theorems about heads, and the laws that they and the functions' proofs cite.
+pub mod Theorems
 pub mod Laws

@@ -4,3 +4,5 @@ pub mod Names
 pub mod Empty
 pub mod Encode
 pub mod Decode
+pub mod Trim
+pub mod Bench

@@ -1,7 +1,6 @@
 -- "Names are Read, ReadSector, Write, Copy, Swap, Truncate, filled with zero bytes. The contract "ReadOnly", filled to 32 with
 -- zeros, means read-only mode." Assumes nothing.
-use mathlib.Core.Bool.{Bool}
-use mathlib.Core.List.{List, [], _∷_, _++_}
+use mathlib.Core.List.{List, _∷_}
 use Prim.Native.Nat.{ℕ}
 use Rattle.area.specs.Pick.{pick}
 use Rattle.area.specs.Area.{same, zeros}

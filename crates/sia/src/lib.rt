@@ -1,7 +1,6 @@
 // Heads in Sia encoding: a contract's id, the instructions of a program with their operands, and the length of its data. Numbers
 // are 8 bytes, the lowest first. A head is read left to right, and what is read of it is written again as the same bytes.
 ghost use mathlib.Core.Path.{_≡_};
-ghost use Prim.Native.Nat.{_+_, _≤_};
 ghost use lib.ListN.{length};
 ghost use Rattle.area.specs.Area.{same};
 ghost use Rattle.sia.specs.Number.{number};

@@ -1,15 +1,13 @@
 -- What a reading that came to a value says: each section before it was read. Assumes nothing.
-use mathlib.Core.Path.{_≡_, refl, sym, ap, _∙_}
+use mathlib.Core.Path.{_≡_, refl}
 use mathlib.Core.Bool.{Bool, true, false}
 use mathlib.Core.List.{List}
-use Prim.Native.Nat.{ℕ, _≤_, _<_}
+use Prim.Native.Nat.{ℕ, _≤_}
 use native.Mathlib.Omega.{arith}
-use lib.ListN.{length, take, drop}
 use lib.Dec.{ltb}
 use borrow.Author.Tests.{ltb-false}
 use Rattle.area.specs.Pick.{pick}
-use Rattle.area.specs.Little.{valueOf}
-use Rattle.sia.specs.Decode.{Reading, value, fault, after, bytes, number, limited}
+use Rattle.sia.specs.Decode.{Reading, value, fault, after, number, limited}
 
 -- the value and the bytes behind it of the first of two sections
 pub record Split {A B : Type 0} (r : Reading A) (next : A → List ℕ → Reading B) (y : B) (end : List ℕ) : Type 0 where

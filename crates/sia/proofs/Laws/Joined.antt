@@ -5,7 +5,7 @@ use mathlib.Core.List.{List, [], _∷_, _++_, append-assoc, append-nil}
 use Prim.Native.Nat.{ℕ, zero, suc, _+_, _*_, _≤_, _<_}
 use native.Mathlib.Numerals.{add-one}
 use native.Mathlib.Omega.{arith}
-use lib.ListN.{length, take, drop, getD, length-append}
+use lib.ListN.{length, take, getD, length-append}
 use lib.Seq.{take-suc, length-take-le}
 use Rattle.area.specs.Area.{put}
 use Rattle.area.specs.Little.{le8}
@@ -55,6 +55,16 @@ module _ {A : Type 0} (f : A → List ℕ) where
       ap (λ (z : List ℕ). put z place (f (getD l i d))) e
       ∙ put-append a at (joined f (take i l)) (f (getD l i d)) place k
       ∙ ap (put a at) (sym (joined-more l i d h))
+
+-- four pieces in front of a rest
+pub append-four : (w x y z rest : List ℕ) → (w ++ (x ++ (y ++ z))) ++ rest ≡ w ++ (x ++ (y ++ (z ++ rest)))
+append-four w x y z rest = simp append-assoc
+
+pub four-in-front : (w x y z rest : List ℕ) {bs r s t : List ℕ} → bs ≡ w ++ r → r ≡ x ++ s → s ≡ y ++ t → t ≡ z ++ rest → bs ≡ (w ++ (x ++ (y ++ z))) ++ rest
+four-in-front w x y z rest p q r s =
+    p
+    ∙ ap (λ (l : List ℕ). w ++ l) (q ∙ ap (λ (l : List ℕ). x ++ l) (r ∙ ap (λ (l : List ℕ). y ++ l) s))
+    ∙ sym (append-four w x y z rest)
 
 -- a piece that is another
 pub lay-same : {e ys : List ℕ} (a : List ℕ) (at : ℕ) (xs : List ℕ) → e ≡ put a at xs → xs ≡ ys → e ≡ put a at ys

@@ -1,6 +1,5 @@
 -- `sia::read_head` meets its contract: a fault, bytes left over, or the head. Assumes nothing.
-use mathlib.Core.Path.{_≡_, refl, sym, ap, _∙_}
-use Rattle.sia.specs.declared.Head.{Head}
+use mathlib.Core.Path.{ap, _∙_}
 use Rattle.sia.specs.Decode.{decode, told}
 use Rattle.sia.proofs.Laws.Reading.{answer-fault, answer-more, answer-all}
 use borrow.Author.Needs.{needs}

@@ -1,11 +1,10 @@
 -- `sia::write_head` meets its contract: the limits, then the area's length, then the bytes. Assumes nothing.
-use mathlib.Core.Path.{_≡_, refl, sym, ap, _∙_}
+use mathlib.Core.Path.{refl, sym, ap, _∙_}
 use mathlib.Core.Bool.{not}
-use mathlib.Core.List.{List}
-use Prim.Native.Nat.{ℕ, _≤_, _<_}
+use Prim.Native.Nat.{_≤_, _<_}
 use native.Mathlib.Omega.{arith}
 use lib.ListN.{length}
-use borrow.Author.Tests.{not-true, not-false, lt-ltb, le-ltb}
+use borrow.Author.Tests.{not-false, lt-ltb, le-ltb}
 use Rattle.area.proofs.Laws.Pick.{yes, no}
 use Rattle.sia.specs.Encode.{left, write, encode}
 use borrow.Author.Needs.{needs}

@@ -4,7 +4,6 @@ use lib.ListN.{replicate}
 use borrow.Author.Needs.{needs}
 use Rattle.area.specs.Area.{zeros}
 use Rattle.sia.specs.declared.Instruction.{Instruction}
-use Rattle.sia.specs.declared.Head.{Head}
 use Rattle.sia.proofs.Head.empty.Statement.{statement}
 use Rattle.sia.proofs.Head.empty.Tie as tie
 

@@ -5,7 +5,6 @@ use lib.ListN.{replicate}
 use borrow.Author.Needs.{needs}
 use Rattle.area.specs.Area.{zeros}
 use Rattle.sia.specs.declared.Operand.{Operand}
-use Rattle.sia.specs.declared.Instruction.{Instruction}
 use Rattle.sia.proofs.Instruction.empty.Statement.{statement}
 use Rattle.sia.proofs.Instruction.empty.Tie as tie
 

@@ -1,5 +1,5 @@
 -- `sia::read::eight` meets its contract: fewer than 8 bytes are left, or 8 are loaded. Assumes nothing.
-use mathlib.Core.Path.{_≡_, refl, sym, ap, _∙_}
+use mathlib.Core.Path.{ap}
 use Prim.Native.Nat.{ℕ, _+_}
 use native.Mathlib.Omega.{arith}
 use lib.ListN.{drop}

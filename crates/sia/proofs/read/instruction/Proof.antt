@@ -1,8 +1,8 @@
 -- `sia::read::instruction` meets its contract: name, operand count, operands and flag, one behind the other. The entry's name and
 -- operands are empty, so the name that is laid over is the one that was read. Assumes nothing.
-use mathlib.Core.Path.{_≡_, refl, sym, ap, _∙_}
+use mathlib.Core.Path.{sym, ap, _∙_}
 use mathlib.Core.List.{List}
-use Prim.Native.Nat.{ℕ, _+_, _≤_}
+use Prim.Native.Nat.{ℕ}
 use native.Mathlib.Omega.{arith}
 use lib.ListN.{length, drop}
 use Rattle.area.specs.Pick.{pick}

@@ -1,5 +1,5 @@
 -- `sia::read::limited` meets its contract: a number, and then the limit. Assumes nothing.
-use mathlib.Core.Path.{_≡_, refl}
+use mathlib.Core.Path.{refl}
 use borrow.Author.Tests.{lt-ltb, le-ltb}
 use Rattle.area.specs.Pick.{pick}
 use Rattle.area.proofs.Laws.Pick.{yes, no}

@@ -1,5 +1,5 @@
 -- `sia::read::operand` meets its contract: two numbers, the offset first. Assumes nothing.
-use mathlib.Core.Path.{_≡_, refl}
+use mathlib.Core.Path.{refl}
 use Rattle.area.specs.Pick.{pick}
 use Rattle.sia.specs.Decode.{operand, reading}
 use Rattle.sia.proofs.Laws.Reading.{stops, goes}

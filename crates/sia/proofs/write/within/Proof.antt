@@ -1,5 +1,5 @@
 -- `sia::write::within` meets its contract: the three limits in the definition's order. Assumes nothing.
-use mathlib.Core.Path.{_≡_, refl}
+use mathlib.Core.Path.{refl}
 use borrow.Author.Tests.{le-leb, lt-leb}
 use Rattle.area.proofs.Laws.Pick.{yes, no}
 use Rattle.sia.specs.Encode.{within}

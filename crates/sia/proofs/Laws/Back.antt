@@ -1,0 +1,201 @@
+-- Writing what was read: the bytes of what a section was read as, in front of the bytes behind it, are the bytes that were read.
+-- Assumes nothing.
+use mathlib.Core.Path.{_≡_, refl, sym, ap, _∙_, subst}
+use mathlib.Core.Bool.{Bool, true}
+use mathlib.Core.List.{List, [], _∷_, _++_, append-assoc}
+use Prim.Native.Nat.{ℕ, zero, suc, _+_, _≤_}
+use native.Mathlib.Omega.{arith}
+use lib.ListN.{length, take, take-append-drop}
+use lib.Seq.{take-at, length-take-le}
+use lib.Dec.{ltb, eqb}
+use borrow.Author.Tests.{ltb-false, le-leb}
+use Rattle.area.specs.Little.{valueOf, bytesOf, le8, Bytes}
+use Rattle.area.proofs.Laws.Pick.{both-join}
+use Rattle.area.proofs.Laws.Little.{bytes-value}
+use Rattle.sia.specs.declared.Instruction.{Instruction}
+use Rattle.sia.specs.declared.Head.{Head}
+use Rattle.sia.specs.Empty.{noOperand, noInstruction, filled}
+use Rattle.sia.specs.Encode.{joined, operandBytes, flagByte, instructionBytes, encode, every, fewOperands, within}
+use Rattle.sia.specs.Decode.{Reading, value, bytes, number, limited, flag, several, entries, operand, instruction, head}
+use Rattle.sia.proofs.Laws.Joined.{four-in-front}
+use Rattle.sia.proofs.Laws.Inverse.{split, past, same-value, limited-within}
+
+-- ---- bytes in front and behind
+
+front-bytes : (xs ys : List ℕ) → Bytes (xs ++ ys) → Bytes xs
+unfolding Bytes
+front-bytes [] ys h i = omega arith
+front-bytes (x ∷ xs) ys h zero = h 0
+front-bytes (x ∷ xs) ys h (suc i) = front-bytes xs ys (λ j. h (suc j)) i
+
+behind-bytes : (xs ys : List ℕ) → Bytes (xs ++ ys) → Bytes ys
+unfolding Bytes
+behind-bytes [] ys h = h
+behind-bytes (x ∷ xs) ys h = behind-bytes xs ys (λ j. h (suc j))
+
+-- ---- one section
+
+-- a section's bytes are those in front of the rest
+abbrev Back : {A : Type 0} → (List ℕ → Reading A) → (A → List ℕ) → Type 0
+Back {A} one f = (bs : List ℕ) → Bytes bs → (x : A) (rest : List ℕ) → one bs ≡ value x rest → bs ≡ f x ++ rest
+
+-- and the rest are bytes
+rest-bytes : (f rest : List ℕ) {bs : List ℕ} → Bytes bs → bs ≡ f ++ rest → Bytes rest
+rest-bytes f rest h e = behind-bytes f rest (subst Bytes e h)
+
+bytes-back : (n : ℕ) (bs : List ℕ) {b rest : List ℕ} → bytes n bs ≡ value b rest → (bs ≡ b ++ rest) × (length b ≡ n)
+unfolding bytes
+bytes-back n bs {b} {rest} e =
+    let p = past (ltb (length bs) n) 9 _ e in
+    let q = same-value (p .1) in
+    let h : n ≤ length bs = ltb-false (length bs) n (p .0) in
+    (sym (take-append-drop n bs) ∙ (λ i. q .0 i ++ q .1 i), ap length (sym (q .0)) ∙ length-take-le n bs h)
+
+number-back : Back number le8
+unfolding number
+number-back bs h n rest e =
+    let s = split (bytes 8 bs) _ e in
+    let b = bytes-back 8 bs (s .first) in
+    let q = same-value (s .second) in
+    let own : Bytes (s .x) = front-bytes (s .x) (s .rest) (subst Bytes (b .0) h) in
+    let eight : le8 (valueOf (s .x)) ≡ s .x = ap (λ (k : ℕ). bytesOf k (valueOf (s .x))) (sym (b .1)) ∙ bytes-value (s .x) own in
+    b .0 ∙ (λ i. sym eight i ++ s .rest) ∙ (λ i. le8 (q .0 i) ++ q .1 i)
+
+limited-back : (limit : ℕ) → Back (limited limit) le8
+unfolding limited
+limited-back limit bs h n rest e =
+    let s = split (number bs) _ e in
+    let q = same-value (past (ltb limit (s .x)) 10 _ (s .second) .1) in
+    number-back bs h (s .x) (s .rest) (s .first) ∙ (λ i. le8 (q .0 i) ++ q .1 i)
+
+flag-value : (b : List ℕ) → length b ≡ 1 → valueOf b ≤ 1 → b ≡ flagByte (eqb (valueOf b) 1) ∷ []
+unfolding valueOf
+flag-value [] l h = absurd (omega arith)
+flag-value (v ∷ w ∷ b) l h = absurd (omega arith)
+flag-value (zero ∷ []) l h = refl
+flag-value (suc zero ∷ []) l h = refl
+flag-value (suc (suc v) ∷ []) l h = absurd (omega arith)
+
+flag-back : Back flag (λ p. flagByte p ∷ [])
+unfolding flag
+flag-back bs h p rest e =
+    let s = split (bytes 1 bs) _ e in
+    let b = bytes-back 1 bs (s .first) in
+    let t = past (ltb 1 (valueOf (s .x))) 9 _ (s .second) in
+    let q = same-value (t .1) in
+    b .0 ∙ (λ i. flag-value (s .x) (b .1) (ltb-false 1 (valueOf (s .x)) (t .0)) i ++ s .rest) ∙ (λ i. (flagByte (q .0 i) ∷ []) ++ q .1 i)
+
+operand-back : Back operand operandBytes
+unfolding operand operandBytes
+operand-back bs h o rest e =
+    let s = split (number bs) _ e in
+    let first = number-back bs h (s .x) (s .rest) (s .first) in
+    let t = split (number (s .rest)) _ (s .second) in
+    let second = number-back (s .rest) (rest-bytes (le8 (s .x)) (s .rest) h first) (t .x) (t .rest) (t .first) in
+    let q = same-value (t .second) in
+    first
+    ∙ ap (λ (l : List ℕ). le8 (s .x) ++ l) second
+    ∙ sym (append-assoc (le8 (s .x)) (le8 (t .x)) (t .rest))
+    ∙ (λ i. (le8 (q .0 i .offset) ++ le8 (q .0 i .len)) ++ q .1 i)
+
+-- ---- lists
+
+module _ {A : Type 0} (one : List ℕ → Reading A) (f : A → List ℕ) (back : Back one f) where
+  several-back : (n : ℕ) (bs : List ℕ) → Bytes bs → (xs : List A) (rest : List ℕ) → several one n bs ≡ value xs rest → (bs ≡ joined f xs ++ rest) × (length xs ≡ n)
+  unfolding several joined
+  several-back zero bs h xs rest e = let q = same-value e in ((λ i. joined f (q .0 i) ++ q .1 i), ap length (sym (q .0)))
+  several-back (suc n) bs h xs rest e =
+      let s = split (one bs) _ e in
+      let first = back bs h (s .x) (s .rest) (s .first) in
+      let t = split (several one n (s .rest)) _ (s .second) in
+      let others = several-back n (s .rest) (rest-bytes (f (s .x)) (s .rest) h first) (t .x) (t .rest) (t .first) in
+      let q = same-value (t .second) in (
+        first
+            ∙ ap (λ (l : List ℕ). f (s .x) ++ l) (others .0)
+            ∙ sym (append-assoc (f (s .x)) (joined f (t .x)) (t .rest))
+            ∙ (λ i. joined f (q .0 i) ++ q .1 i),
+        ap length (sym (q .0)) ∙ ap suc (others .1),
+      )
+
+  entries-back : (room : ℕ) (none : A) (n : ℕ) (bs : List ℕ) → Bytes bs → (ys : List A) (rest : List ℕ) → entries one room none n bs ≡ value ys rest
+      → bs ≡ joined f (take n ys) ++ rest
+  unfolding entries filled
+  entries-back room none n bs h ys rest e =
+      let s = split (several one n bs) _ e in
+      let b = several-back n bs h (s .x) (s .rest) (s .first) in
+      let q = same-value (s .second) in
+      let own : take n ys ≡ s .x = ap (take n) (sym (q .0)) ∙ take-at (s .x) _ n (b .1) in
+      b .0 ∙ (λ i. joined f (sym own i) ++ q .1 i)
+
+  -- what holds of each entry that is read holds of all within the count
+  module _ (p : A → Bool) (holds : (bs : List ℕ) (x : A) (rest : List ℕ) → one bs ≡ value x rest → p x ≡ true) where
+    several-every : (n : ℕ) (bs : List ℕ) (xs : List A) (rest : List ℕ) → several one n bs ≡ value xs rest → every p xs ≡ true
+    unfolding several every
+    several-every zero bs xs rest e = ap (every p) (sym (same-value e .0))
+    several-every (suc n) bs xs rest e =
+        let s = split (one bs) _ e in
+        let t = split (several one n (s .rest)) _ (s .second) in
+        ap (every p) (sym (same-value (t .second) .0))
+        ∙ both-join _ _ (holds bs (s .x) (s .rest) (s .first)) (several-every n (s .rest) (t .x) (t .rest) (t .first))
+
+    entries-every : (room : ℕ) (none : A) (n : ℕ) (bs : List ℕ) → Bytes bs → (ys : List A) (rest : List ℕ) → entries one room none n bs ≡ value ys rest → every p (take n ys) ≡ true
+    unfolding entries filled
+    entries-every room none n bs h ys rest e =
+        let s = split (several one n bs) _ e in
+        let b = several-back n bs h (s .x) (s .rest) (s .first) in
+        ap (λ (l : List A). every p (take n l)) (sym (same-value (s .second) .0))
+        ∙ ap (every p) (take-at (s .x) _ n (b .1))
+        ∙ several-every n bs (s .x) (s .rest) (s .first)
+
+-- ---- an instruction and a head
+
+instruction-back : Back instruction instructionBytes
+unfolding instruction instructionBytes
+instruction-back bs h x rest e =
+    let s = split (bytes 16 bs) _ e in
+    let name = bytes-back 16 bs (s .first) .0 in
+    let hs = rest-bytes (s .x) (s .rest) h name in
+    let t = split (limited 4 (s .rest)) _ (s .second) in
+    let count = limited-back 4 (s .rest) hs (t .x) (t .rest) (t .first) in
+    let ht = rest-bytes (le8 (t .x)) (t .rest) hs count in
+    let u = split (entries operand 4 noOperand (t .x) (t .rest)) _ (t .second) in
+    let list = entries-back operand operandBytes operand-back 4 noOperand (t .x) (t .rest) ht (u .x) (u .rest) (u .first) in
+    let hu = rest-bytes (joined operandBytes (take (t .x) (u .x))) (u .rest) ht list in
+    let v = split (flag (u .rest)) _ (u .second) in
+    let proof = flag-back (u .rest) hu (v .x) (v .rest) (v .first) in
+    let q = same-value (v .second) in
+    four-in-front (s .x) (le8 (t .x)) (joined operandBytes (take (t .x) (u .x))) (flagByte (v .x) ∷ []) (v .rest) name count list proof
+    ∙ (λ i. instructionBytes (q .0 i) ++ q .1 i)
+
+instruction-few : (bs : List ℕ) (x : Instruction) (rest : List ℕ) → instruction bs ≡ value x rest → fewOperands x ≡ true
+unfolding instruction
+instruction-few bs x rest e =
+    let s = split (bytes 16 bs) _ e in
+    let t = split (limited 4 (s .rest)) _ (s .second) in
+    let u = split (entries operand 4 noOperand (t .x) (t .rest)) _ (t .second) in
+    let v = split (flag (u .rest)) _ (u .second) in
+    ap fewOperands (sym (same-value (v .second) .0)) ∙ le-leb _ _ (limited-within 4 (s .rest) (t .first))
+
+-- the bytes of a head that was read, and its limits
+pub head-back : (bs : List ℕ) → Bytes bs → (h : Head) (rest : List ℕ) → head bs ≡ value h rest → (bs ≡ encode h ++ rest) × (within h ≡ true)
+unfolding head encode within
+head-back bs h x rest e =
+    let s = split (bytes 32 bs) _ e in
+    let id = bytes-back 32 bs (s .first) .0 in
+    let hs = rest-bytes (s .x) (s .rest) h id in
+    let t = split (limited 32 (s .rest)) _ (s .second) in
+    let count = limited-back 32 (s .rest) hs (t .x) (t .rest) (t .first) in
+    let ht = rest-bytes (le8 (t .x)) (t .rest) hs count in
+    let u = split (entries instruction 32 noInstruction (t .x) (t .rest)) _ (t .second) in
+    let list = entries-back instruction instructionBytes instruction-back 32 noInstruction (t .x) (t .rest) ht (u .x) (u .rest) (u .first) in
+    let hu = rest-bytes (joined instructionBytes (take (t .x) (u .x))) (u .rest) ht list in
+    let v = split (limited 65536 (u .rest)) _ (u .second) in
+    let declared = limited-back 65536 (u .rest) hu (v .x) (v .rest) (v .first) in
+    let q = same-value (v .second) in (
+      four-in-front (s .x) (le8 (t .x)) (joined instructionBytes (take (t .x) (u .x))) (le8 (v .x)) (v .rest) id count list declared
+          ∙ (λ i. encode (q .0 i) ++ q .1 i),
+      ap within (sym (q .0))
+          ∙ both-join _ _ (le-leb _ _ (limited-within 32 (s .rest) (t .first)))
+          (both-join _ _ (le-leb _ _ (limited-within 65536 (u .rest) (v .first)))
+          (entries-every instruction instructionBytes instruction-back fewOperands instruction-few 32 noInstruction (t .x) (t .rest) ht (u .x) (u .rest) (u .first))),
+    )
