@@ -10,3 +10,4 @@ pub mod Limits
 pub mod There
 pub mod Honest
 pub mod Back
+pub mod Proper

@@ -19,6 +19,7 @@ use Rattle.sia.specs.declared.Op.{Op}
 use Rattle.sia.specs.declared.Op.the-variants.{Read, ReadSector, Write, Copy, Swap, Truncate, Unknown}
 use Rattle.sia.specs.declared.Instruction.{Instruction}
 use Rattle.sia.specs.declared.Head.{Head}
+use Rattle.sia.specs.declared.Told.{Told}
 use Rattle.sia.specs.Number.{number}
 use Rattle.sia.specs.Names.{nameOf, opOf}
 use Rattle.sia.specs.Empty.{filled}
@@ -31,6 +32,7 @@ use Rattle.sia.proofs.Laws.Joined.{length-instruction, length-head}
 use Rattle.sia.proofs.Laws.There.{decode-encode, each-take}
 use Rattle.sia.proofs.Laws.Honest.{read-of}
 use Rattle.sia.proofs.Laws.Back.{head-back}
+use Rattle.sia.proofs.Laws.Proper.{head-good}
 
 -- ---- heads
 
@@ -40,15 +42,27 @@ reading-what-was-written h p w = decode-encode h p (within-is h w)
 
 -- Writing what was read gives the same bytes back.
 pub writing-what-was-read : (bs : List ℕ) → Bytes bs → (h : Head) → decode bs ≡ told 0 h → encode h ≡ bs
-writing-what-was-read bs b h e = sym (head-back bs b h [] (read-of bs h e) .0 ∙ append-nil (encode h))
+writing-what-was-read bs b h e = sym (head-back bs b h [] (read-of bs h e) ∙ append-nil (encode h))
 
--- A head that was read is within limits, so the writer writes it, over any area that is long enough.
+-- A head that was read is proper, within limits, and 0 past its counts.
+pub read-proper : (bs : List ℕ) → Bytes bs → (h : Head) → decode bs ≡ told 0 h → Proper h
+read-proper bs b h e = head-good bs b h [] (read-of bs h e) .proper
+
+pub read-within : (bs : List ℕ) → Bytes bs → (h : Head) → decode bs ≡ told 0 h → within h ≡ true
+read-within bs b h e = head-good bs b h [] (read-of bs h e) .limits
+
+pub read-trimmed : (bs : List ℕ) → Bytes bs → (h : Head) → decode bs ≡ told 0 h → trimmed h ≡ h
+read-trimmed bs b h e =
+    ap (λ (t : Told). t .head)
+    (sym (reading-what-was-written h (read-proper bs b h e) (read-within bs b h e)) ∙ ap decode (writing-what-was-read bs b h e) ∙ e)
+
+-- So the writer writes it, over any area that is long enough.
 pub written-again : (bs : List ℕ) → Bytes bs → (h : Head) → decode bs ≡ told 0 h → (area : List ℕ) → length bs ≤ length area
     → write h area ≡ left (record { number = 0; length = length bs }) (put area 0 bs)
 unfolding write
 written-again bs b h e area l =
     let q = writing-what-was-read bs b h e in
-    let w : within h ≡ true = head-back bs b h [] (read-of bs h e) .1 in
+    let w : within h ≡ true = read-within bs b h e in
     let m : length (encode h) ≤ length area = omega (arith, ap length q) in
     skips _ _ _ (rw w)
     ∙ skips _ _ _ (le-ltb (length area) (length (encode h)) m)

@@ -13,6 +13,8 @@ ghost use Rattle.sia.specs.Encode.{left};
 mod read; // read.rt: the sections of a head, left to right
 mod write; // write.rt: the limits of a head, its length, and its bytes
 
+pub use write::within;
+
 // A part of the input that an instruction names.
 pub struct Operand {
     pub offset: u64,

@@ -1,28 +1,24 @@
 -- Writing what was read: the bytes of what a section was read as, in front of the bytes behind it, are the bytes that were read.
 -- Assumes nothing.
 use mathlib.Core.Path.{_≡_, refl, sym, ap, _∙_, subst}
-use mathlib.Core.Bool.{Bool, true}
 use mathlib.Core.List.{List, [], _∷_, _++_, append-assoc}
 use Prim.Native.Nat.{ℕ, zero, suc, _+_, _≤_}
 use native.Mathlib.Omega.{arith}
 use lib.ListN.{length, take, take-append-drop}
 use lib.Seq.{take-at, length-take-le}
 use lib.Dec.{ltb, eqb}
-use borrow.Author.Tests.{ltb-false, le-leb}
+use borrow.Author.Tests.{ltb-false}
 use Rattle.area.specs.Little.{valueOf, bytesOf, le8, Bytes}
-use Rattle.area.proofs.Laws.Pick.{both-join}
 use Rattle.area.proofs.Laws.Little.{bytes-value}
-use Rattle.sia.specs.declared.Instruction.{Instruction}
-use Rattle.sia.specs.declared.Head.{Head}
 use Rattle.sia.specs.Empty.{noOperand, noInstruction, filled}
-use Rattle.sia.specs.Encode.{joined, operandBytes, flagByte, instructionBytes, encode, every, fewOperands, within}
+use Rattle.sia.specs.Encode.{joined, operandBytes, flagByte, instructionBytes, encode}
 use Rattle.sia.specs.Decode.{Reading, value, bytes, number, limited, flag, several, entries, operand, instruction, head}
 use Rattle.sia.proofs.Laws.Joined.{four-in-front}
-use Rattle.sia.proofs.Laws.Inverse.{split, past, same-value, limited-within}
+use Rattle.sia.proofs.Laws.Inverse.{split, past, same-value, in-front}
 
 -- ---- bytes in front and behind
 
-front-bytes : (xs ys : List ℕ) → Bytes (xs ++ ys) → Bytes xs
+pub front-bytes : (xs ys : List ℕ) → Bytes (xs ++ ys) → Bytes xs
 unfolding Bytes
 front-bytes [] ys h i = omega arith
 front-bytes (x ∷ xs) ys h zero = h 0
@@ -36,14 +32,14 @@ behind-bytes (x ∷ xs) ys h = behind-bytes xs ys (λ j. h (suc j))
 -- ---- one section
 
 -- a section's bytes are those in front of the rest
-abbrev Back : {A : Type 0} → (List ℕ → Reading A) → (A → List ℕ) → Type 0
+abbrev pub Back : {A : Type 0} → (List ℕ → Reading A) → (A → List ℕ) → Type 0
 Back {A} one f = (bs : List ℕ) → Bytes bs → (x : A) (rest : List ℕ) → one bs ≡ value x rest → bs ≡ f x ++ rest
 
 -- and the rest are bytes
-rest-bytes : (f rest : List ℕ) {bs : List ℕ} → Bytes bs → bs ≡ f ++ rest → Bytes rest
+pub rest-bytes : (f rest : List ℕ) {bs : List ℕ} → Bytes bs → bs ≡ f ++ rest → Bytes rest
 rest-bytes f rest h e = behind-bytes f rest (subst Bytes e h)
 
-bytes-back : (n : ℕ) (bs : List ℕ) {b rest : List ℕ} → bytes n bs ≡ value b rest → (bs ≡ b ++ rest) × (length b ≡ n)
+pub bytes-back : (n : ℕ) (bs : List ℕ) {b rest : List ℕ} → bytes n bs ≡ value b rest → (bs ≡ b ++ rest) × (length b ≡ n)
 unfolding bytes
 bytes-back n bs {b} {rest} e =
     let p = past (ltb (length bs) n) 9 _ e in
@@ -51,7 +47,7 @@ bytes-back n bs {b} {rest} e =
     let h : n ≤ length bs = ltb-false (length bs) n (p .0) in
     (sym (take-append-drop n bs) ∙ (λ i. q .0 i ++ q .1 i), ap length (sym (q .0)) ∙ length-take-le n bs h)
 
-number-back : Back number le8
+pub number-back : Back number le8
 unfolding number
 number-back bs h n rest e =
     let s = split (bytes 8 bs) _ e in
@@ -61,7 +57,7 @@ number-back bs h n rest e =
     let eight : le8 (valueOf (s .x)) ≡ s .x = ap (λ (k : ℕ). bytesOf k (valueOf (s .x))) (sym (b .1)) ∙ bytes-value (s .x) own in
     b .0 ∙ (λ i. sym eight i ++ s .rest) ∙ (λ i. le8 (q .0 i) ++ q .1 i)
 
-limited-back : (limit : ℕ) → Back (limited limit) le8
+pub limited-back : (limit : ℕ) → Back (limited limit) le8
 unfolding limited
 limited-back limit bs h n rest e =
     let s = split (number bs) _ e in
@@ -85,7 +81,7 @@ flag-back bs h p rest e =
     let q = same-value (t .1) in
     b .0 ∙ (λ i. flag-value (s .x) (b .1) (ltb-false 1 (valueOf (s .x)) (t .0)) i ++ s .rest) ∙ (λ i. (flagByte (q .0 i) ∷ []) ++ q .1 i)
 
-operand-back : Back operand operandBytes
+pub operand-back : Back operand operandBytes
 unfolding operand operandBytes
 operand-back bs h o rest e =
     let s = split (number bs) _ e in
@@ -101,7 +97,7 @@ operand-back bs h o rest e =
 -- ---- lists
 
 module _ {A : Type 0} (one : List ℕ → Reading A) (f : A → List ℕ) (back : Back one f) where
-  several-back : (n : ℕ) (bs : List ℕ) → Bytes bs → (xs : List A) (rest : List ℕ) → several one n bs ≡ value xs rest → (bs ≡ joined f xs ++ rest) × (length xs ≡ n)
+  pub several-back : (n : ℕ) (bs : List ℕ) → Bytes bs → (xs : List A) (rest : List ℕ) → several one n bs ≡ value xs rest → (bs ≡ joined f xs ++ rest) × (length xs ≡ n)
   unfolding several joined
   several-back zero bs h xs rest e = let q = same-value e in ((λ i. joined f (q .0 i) ++ q .1 i), ap length (sym (q .0)))
   several-back (suc n) bs h xs rest e =
@@ -117,7 +113,7 @@ module _ {A : Type 0} (one : List ℕ → Reading A) (f : A → List ℕ) (back 
         ap length (sym (q .0)) ∙ ap suc (others .1),
       )
 
-  entries-back : (room : ℕ) (none : A) (n : ℕ) (bs : List ℕ) → Bytes bs → (ys : List A) (rest : List ℕ) → entries one room none n bs ≡ value ys rest
+  pub entries-back : (room : ℕ) (none : A) (n : ℕ) (bs : List ℕ) → Bytes bs → (ys : List A) (rest : List ℕ) → entries one room none n bs ≡ value ys rest
       → bs ≡ joined f (take n ys) ++ rest
   unfolding entries filled
   entries-back room none n bs h ys rest e =
@@ -127,29 +123,9 @@ module _ {A : Type 0} (one : List ℕ → Reading A) (f : A → List ℕ) (back 
       let own : take n ys ≡ s .x = ap (take n) (sym (q .0)) ∙ take-at (s .x) _ n (b .1) in
       b .0 ∙ (λ i. joined f (sym own i) ++ q .1 i)
 
-  -- what holds of each entry that is read holds of all within the count
-  module _ (p : A → Bool) (holds : (bs : List ℕ) (x : A) (rest : List ℕ) → one bs ≡ value x rest → p x ≡ true) where
-    several-every : (n : ℕ) (bs : List ℕ) (xs : List A) (rest : List ℕ) → several one n bs ≡ value xs rest → every p xs ≡ true
-    unfolding several every
-    several-every zero bs xs rest e = ap (every p) (sym (same-value e .0))
-    several-every (suc n) bs xs rest e =
-        let s = split (one bs) _ e in
-        let t = split (several one n (s .rest)) _ (s .second) in
-        ap (every p) (sym (same-value (t .second) .0))
-        ∙ both-join _ _ (holds bs (s .x) (s .rest) (s .first)) (several-every n (s .rest) (t .x) (t .rest) (t .first))
-
-    entries-every : (room : ℕ) (none : A) (n : ℕ) (bs : List ℕ) → Bytes bs → (ys : List A) (rest : List ℕ) → entries one room none n bs ≡ value ys rest → every p (take n ys) ≡ true
-    unfolding entries filled
-    entries-every room none n bs h ys rest e =
-        let s = split (several one n bs) _ e in
-        let b = several-back n bs h (s .x) (s .rest) (s .first) in
-        ap (λ (l : List A). every p (take n l)) (sym (same-value (s .second) .0))
-        ∙ ap (every p) (take-at (s .x) _ n (b .1))
-        ∙ several-every n bs (s .x) (s .rest) (s .first)
-
 -- ---- an instruction and a head
 
-instruction-back : Back instruction instructionBytes
+pub instruction-back : Back instruction instructionBytes
 unfolding instruction instructionBytes
 instruction-back bs h x rest e =
     let s = split (bytes 16 bs) _ e in
@@ -163,22 +139,11 @@ instruction-back bs h x rest e =
     let hu = rest-bytes (joined operandBytes (take (t .x) (u .x))) (u .rest) ht list in
     let v = split (flag (u .rest)) _ (u .second) in
     let proof = flag-back (u .rest) hu (v .x) (v .rest) (v .first) in
-    let q = same-value (v .second) in
-    four-in-front (s .x) (le8 (t .x)) (joined operandBytes (take (t .x) (u .x))) (flagByte (v .x) ∷ []) (v .rest) name count list proof
-    ∙ (λ i. instructionBytes (q .0 i) ++ q .1 i)
+    in-front instructionBytes (record { name = s .x; count = t .x; operands = u .x; proof = v .x }) (v .rest) (v .second)
+    (four-in-front (s .x) (le8 (t .x)) (joined operandBytes (take (t .x) (u .x))) (flagByte (v .x) ∷ []) (v .rest) name count list proof)
 
-instruction-few : (bs : List ℕ) (x : Instruction) (rest : List ℕ) → instruction bs ≡ value x rest → fewOperands x ≡ true
-unfolding instruction
-instruction-few bs x rest e =
-    let s = split (bytes 16 bs) _ e in
-    let t = split (limited 4 (s .rest)) _ (s .second) in
-    let u = split (entries operand 4 noOperand (t .x) (t .rest)) _ (t .second) in
-    let v = split (flag (u .rest)) _ (u .second) in
-    ap fewOperands (sym (same-value (v .second) .0)) ∙ le-leb _ _ (limited-within 4 (s .rest) (t .first))
-
--- the bytes of a head that was read, and its limits
-pub head-back : (bs : List ℕ) → Bytes bs → (h : Head) (rest : List ℕ) → head bs ≡ value h rest → (bs ≡ encode h ++ rest) × (within h ≡ true)
-unfolding head encode within
+pub head-back : Back head encode
+unfolding head encode
 head-back bs h x rest e =
     let s = split (bytes 32 bs) _ e in
     let id = bytes-back 32 bs (s .first) .0 in
@@ -191,11 +156,5 @@ head-back bs h x rest e =
     let hu = rest-bytes (joined instructionBytes (take (t .x) (u .x))) (u .rest) ht list in
     let v = split (limited 65536 (u .rest)) _ (u .second) in
     let declared = limited-back 65536 (u .rest) hu (v .x) (v .rest) (v .first) in
-    let q = same-value (v .second) in (
-      four-in-front (s .x) (le8 (t .x)) (joined instructionBytes (take (t .x) (u .x))) (le8 (v .x)) (v .rest) id count list declared
-          ∙ (λ i. encode (q .0 i) ++ q .1 i),
-      ap within (sym (q .0))
-          ∙ both-join _ _ (le-leb _ _ (limited-within 32 (s .rest) (t .first)))
-          (both-join _ _ (le-leb _ _ (limited-within 65536 (u .rest) (v .first)))
-          (entries-every instruction instructionBytes instruction-back fewOperands instruction-few 32 noInstruction (t .x) (t .rest) ht (u .x) (u .rest) (u .first))),
-    )
+    in-front encode (record { contract = s .x; count = t .x; instructions = u .x; length = v .x }) (v .rest) (v .second)
+    (four-in-front (s .x) (le8 (t .x)) (joined instructionBytes (take (t .x) (u .x))) (le8 (v .x)) (v .rest) id count list declared)

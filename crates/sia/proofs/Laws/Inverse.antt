@@ -1,7 +1,7 @@
 -- What a reading that came to a value says: each section before it was read. Assumes nothing.
-use mathlib.Core.Path.{_≡_, refl}
+use mathlib.Core.Path.{_≡_, refl, _∙_, subst}
 use mathlib.Core.Bool.{Bool, true, false}
-use mathlib.Core.List.{List}
+use mathlib.Core.List.{List, _++_}
 use Prim.Native.Nat.{ℕ, _≤_}
 use native.Mathlib.Omega.{arith}
 use lib.Dec.{ltb}
@@ -29,6 +29,14 @@ past false n r e = (refl, e)
 
 pub same-value : {A : Type 0} {x y : A} {rest end : List ℕ} → value x rest ≡ value y end → (x ≡ y) × (rest ≡ end)
 same-value e = (cc, cc)
+
+-- what holds of the value that was made of the sections holds of the one that was read
+pub as-read : {A : Type 0} (P : A → Type 0) (x : A) (end : List ℕ) {y : A} {rest : List ℕ} → value x end ≡ value y rest → P x → P y
+as-read P x end e h = subst P (same-value e .0) h
+
+-- and so do the bytes that it stands for, in front of the rest
+pub in-front : {A : Type 0} (f : A → List ℕ) (x : A) (end : List ℕ) {bs : List ℕ} {y : A} {rest : List ℕ} → value x end ≡ value y rest → bs ≡ f x ++ end → bs ≡ f y ++ rest
+in-front f x end e p = let q = same-value e in p ∙ (λ i. f (q .0 i) ++ q .1 i)
 
 -- a count that was read is within its limit
 pub limited-within : (limit : ℕ) (bs : List ℕ) {n : ℕ} {end : List ℕ} → limited limit bs ≡ value n end → n ≤ limit

@@ -2,8 +2,8 @@
 use mathlib.Core.Path.{_≡_}
 use mathlib.Core.Bool.{true}
 use Prim.Native.Nat.{_≤_}
-use borrow.Author.Tests.{leb-true}
-use Rattle.area.proofs.Laws.Pick.{both-left, both-right}
+use borrow.Author.Tests.{leb-true, le-leb}
+use Rattle.area.proofs.Laws.Pick.{both-join, both-left, both-right}
 use Rattle.sia.specs.declared.Head.{Head}
 use Rattle.sia.specs.Encode.{every, fewOperands, instructionsIn, within}
 
@@ -19,3 +19,7 @@ within-is h e = record {
   declared = leb-true _ _ (both-left _ _ (both-right _ _ e));
   few = both-right _ _ (both-right _ _ e);
 }
+
+pub is-within : (h : Head) → Within h → within h ≡ true
+unfolding within
+is-within h w = both-join _ _ (le-leb _ _ (w .count)) (both-join _ _ (le-leb _ _ (w .declared)) (w .few))

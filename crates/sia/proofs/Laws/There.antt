@@ -81,7 +81,7 @@ map-same (o ∷ os) = ap (λ (l : List Operand). o ∷ l) (map-same os)
 -- ---- an instruction and a head
 
 -- what an instruction within limits has
-abbrev Fit : Instruction → Type 0
+abbrev pub Fit : Instruction → Type 0
 Fit x = ProperInstruction x × (x .count ≤ 4)
 
 instruction-there : (x : Instruction) → Fit x → (rest : List ℕ) → instruction (instructionBytes x ++ rest) ≡ value (trimmedInstruction x) rest

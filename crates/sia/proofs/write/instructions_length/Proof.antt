@@ -45,9 +45,11 @@ loop-less c = omega arith
 loop-again : tie.Need-loop-again Inv-loop μ-loop
 loop-again c =
     let l = c .before .before .before .loop in
-    let s = c .before .before .before .before in
-    let more = length-more instructionBytes (s .args .t1) (l .i) _ (omega (arith, s .good .0 .1 .0 .1)) in
-    (omega arith, (λ x. l .inv .1 x + c .instruction-length .ensures .0 x) ∙ sym more, omega arith)
+    let s = c .before .before .before .before in (
+      omega arith,
+      (λ x. l .inv .1 x + c .instruction-length .ensures .0 x) ∙ sym (length-more instructionBytes (s .args .t1) (l .i) _ (omega (arith, s .good .0 .1 .0 .1))),
+      omega arith,
+    )
 
 returns : tie.Need-returns Inv-loop μ-loop
 returns c =
