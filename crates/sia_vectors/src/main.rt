@@ -32,14 +32,14 @@ fn one_case() -> bool {
     let Number::Is(length) = sia::number_of(&prefix) else {
         return false;
     };
-    let mut bytes = [0u8; 4096];
-    let mut out = [BEFORE; 4096];
-    let fresh = [BEFORE; 4096];
-    case_of(&mut bytes, length as usize, &mut out, &fresh)
+    let mut bytes = io::buffer();
+    let mut out = io::buffer();
+    let mut fresh = io::buffer();
+    case_of(&mut bytes, length as usize, &mut out, &mut fresh)
 }
 
-// A case of n bytes, read into the front of `bytes`.
-fn case_of(bytes: &mut [u8], n: usize, out: &mut [u8], fresh: &[u8]) -> bool {
+// A case of n bytes, read into the front of `bytes`; `fresh` is filled with what an area holds before.
+fn case_of(bytes: &mut [u8], n: usize, out: &mut [u8], fresh: &mut [u8]) -> bool {
     if bytes.len() < n {
         return false;
     }
@@ -47,7 +47,8 @@ fn case_of(bytes: &mut [u8], n: usize, out: &mut [u8], fresh: &[u8]) -> bool {
     if came != n {
         return false;
     }
-    show(&bytes[0..n], out, fresh);
+    area::fill(fresh, 0, fresh.len(), BEFORE);
+    show(&bytes[0..n], out, &*fresh);
     true
 }
 
