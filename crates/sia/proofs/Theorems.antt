@@ -116,6 +116,22 @@ op-of-name Swap = refl
 op-of-name Truncate = refl
 op-of-name Unknown = refl
 
+-- And a name that is read as an instruction is its name, in all 16 bytes.
+tried : (w : Op) (name : List ℕ) (rest o : Op) → pick (same name (nameOf w)) w rest ≡ o → (rest ≡ o → name ≡ nameOf o) → name ≡ nameOf o
+tried w name rest o e k =
+    by (same name (nameOf w)) (λ t. same-eq name (nameOf w) t ∙ ap nameOf (sym (picks _ w rest t) ∙ e)) (λ f. k (sym (skips _ w rest f) ∙ e))
+
+pub name-of-op : (name : List ℕ) (o : Op) → (o ≡ Unknown → ⊥) → opOf name ≡ o → name ≡ nameOf o
+unfolding opOf
+name-of-op name o known e =
+    tried Read name _ o e
+    (λ e. tried ReadSector name _ o e
+    (λ e. tried Write name _ o e
+    (λ e. tried Copy name _ o e
+    (λ e. tried Swap name _ o e
+    (λ e. tried Truncate name _ o e
+    (λ e. absurd (known (sym e))))))))
+
 -- ---- numbers
 
 -- A number of 64 bits is read back from its 8 bytes.

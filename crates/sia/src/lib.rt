@@ -74,6 +74,7 @@ impl Operand {
 }
 
 impl Instruction {
+    // The largest operand count.
     pub const OPERANDS: u64 = 4;
 
     pub fn empty() -> Instruction
@@ -114,6 +115,7 @@ impl Head {
 }
 
 impl Op {
+    // The names, filled with zero bytes; an unknown instruction has none.
     pub const READ: [u8; 16] = *b"Read\0\0\0\0\0\0\0\0\0\0\0\0";
 
     pub const READ_SECTOR: [u8; 16] = *b"ReadSector\0\0\0\0\0\0";
