@@ -1,6 +1,8 @@
 -- `sia::op_of` meets its contract: the names are tried in the definition's order. Assumes nothing.
 use mathlib.Core.Path.{_≡_, refl, sym, _∙_}
 use mathlib.Core.Bool.{false}
+use mathlib.Core.List.{List}
+use Prim.Native.Nat.{ℕ}
 use borrow.Author.Needs.{needs}
 use Rattle.area.specs.Area.{same}
 use Rattle.area.proofs.Laws.Pick.{yes, no}
@@ -9,24 +11,42 @@ use Rattle.sia.specs.declared.Op.the-variants.{Read, ReadSector, Write, 
 use Rattle.sia.proofs.op_of.Statement.{statement}
 use Rattle.sia.proofs.op_of.Tie as tie
 
--- ---- the names that it is not, where the code goes on
+-- ---- where the code goes on, the name that was asked for, and that it is not the one just tried
 
-not-1 : (c : tie.Else1) → same (c .before .before .args .name) (nameOf Read) ≡ false
+abbrev name-1 : tie.Else1 → List ℕ
+name-1 c = c .before .before .args .name
+
+not-1 : (c : tie.Else1) → same (name-1 c) (nameOf Read) ≡ false
 not-1 c = sym (c .before .is .ensures) ∙ c .if1 .left
 
-not-2 : (c : tie.Else2) → same (c .before .before .before .before .args .name) (nameOf ReadSector) ≡ false
+abbrev name-2 : tie.Else2 → List ℕ
+name-2 c = name-1 (c .before .before)
+
+not-2 : (c : tie.Else2) → same (name-2 c) (nameOf ReadSector) ≡ false
 not-2 c = sym (c .before .is2 .ensures) ∙ c .if2 .left
 
-not-3 : (c : tie.Else3) → same (c .before .before .before .before .before .before .args .name) (nameOf Write) ≡ false
+abbrev name-3 : tie.Else3 → List ℕ
+name-3 c = name-2 (c .before .before)
+
+not-3 : (c : tie.Else3) → same (name-3 c) (nameOf Write) ≡ false
 not-3 c = sym (c .before .is3 .ensures) ∙ c .if3 .left
 
-not-4 : (c : tie.Else4) → same (c .before .before .before .before .before .before .before .before .args .name) (nameOf Copy) ≡ false
+abbrev name-4 : tie.Else4 → List ℕ
+name-4 c = name-3 (c .before .before)
+
+not-4 : (c : tie.Else4) → same (name-4 c) (nameOf Copy) ≡ false
 not-4 c = sym (c .before .is4 .ensures) ∙ c .if4 .left
 
-not-5 : (c : tie.Else5) → same (c .before .before .before .before .before .before .before .before .before .before .args .name) (nameOf Swap) ≡ false
+abbrev name-5 : tie.Else5 → List ℕ
+name-5 c = name-4 (c .before .before)
+
+not-5 : (c : tie.Else5) → same (name-5 c) (nameOf Swap) ≡ false
 not-5 c = sym (c .before .is5 .ensures) ∙ c .if5 .left
 
-not-6 : (c : tie.Else6) → same (c .before .before .before .before .before .before .before .before .before .before .before .before .args .name) (nameOf Truncate) ≡ false
+abbrev name-6 : tie.Else6 → List ℕ
+name-6 c = name-5 (c .before .before)
+
+not-6 : (c : tie.Else6) → same (name-6 c) (nameOf Truncate) ≡ false
 not-6 c = sym (c .before .is6 .ensures) ∙ c .if6 .left
 
 -- ---- the answers
@@ -45,7 +65,9 @@ is-requires-2 c κs = search needs
 returns-2 : tie.Need-returns-2
 unfolding opOf
 returns-2 c =
-    no _ _ _ (not-1 (c .before .before)) (yes _ _ _ (sym (c .before .is2 .ensures) ∙ c .if2 .taken) refl)
+    let one = c .before .before in
+    no _ _ _ (not-1 one)
+    (yes _ _ _ (sym (c .before .is2 .ensures) ∙ c .if2 .taken) refl)
 
 is-requires-3 : tie.Need-is-requires-3
 is-requires-3 c κs = search needs
@@ -53,8 +75,11 @@ is-requires-3 c κs = search needs
 returns-3 : tie.Need-returns-3
 unfolding opOf
 returns-3 c =
-    no _ _ _ (not-1 (c .before .before .before .before))
-    (no _ _ _ (not-2 (c .before .before)) (yes _ _ _ (sym (c .before .is3 .ensures) ∙ c .if3 .taken) refl))
+    let two = c .before .before in
+    let one = two .before .before in
+    no _ _ _ (not-1 one)
+    (no _ _ _ (not-2 two)
+    (yes _ _ _ (sym (c .before .is3 .ensures) ∙ c .if3 .taken) refl))
 
 is-requires-4 : tie.Need-is-requires-4
 is-requires-4 c κs = search needs
@@ -62,9 +87,13 @@ is-requires-4 c κs = search needs
 returns-4 : tie.Need-returns-4
 unfolding opOf
 returns-4 c =
-    no _ _ _ (not-1 (c .before .before .before .before .before .before))
-    (no _ _ _ (not-2 (c .before .before .before .before))
-    (no _ _ _ (not-3 (c .before .before)) (yes _ _ _ (sym (c .before .is4 .ensures) ∙ c .if4 .taken) refl)))
+    let three = c .before .before in
+    let two = three .before .before in
+    let one = two .before .before in
+    no _ _ _ (not-1 one)
+    (no _ _ _ (not-2 two)
+    (no _ _ _ (not-3 three)
+    (yes _ _ _ (sym (c .before .is4 .ensures) ∙ c .if4 .taken) refl)))
 
 is-requires-5 : tie.Need-is-requires-5
 is-requires-5 c κs = search needs
@@ -72,10 +101,15 @@ is-requires-5 c κs = search needs
 returns-5 : tie.Need-returns-5
 unfolding opOf
 returns-5 c =
-    no _ _ _ (not-1 (c .before .before .before .before .before .before .before .before))
-    (no _ _ _ (not-2 (c .before .before .before .before .before .before))
-    (no _ _ _ (not-3 (c .before .before .before .before))
-    (no _ _ _ (not-4 (c .before .before)) (yes _ _ _ (sym (c .before .is5 .ensures) ∙ c .if5 .taken) refl))))
+    let four = c .before .before in
+    let three = four .before .before in
+    let two = three .before .before in
+    let one = two .before .before in
+    no _ _ _ (not-1 one)
+    (no _ _ _ (not-2 two)
+    (no _ _ _ (not-3 three)
+    (no _ _ _ (not-4 four)
+    (yes _ _ _ (sym (c .before .is5 .ensures) ∙ c .if5 .taken) refl))))
 
 is-requires-6 : tie.Need-is-requires-6
 is-requires-6 c κs = search needs
@@ -83,21 +117,33 @@ is-requires-6 c κs = search needs
 returns-6 : tie.Need-returns-6
 unfolding opOf
 returns-6 c =
-    no _ _ _ (not-1 (c .before .before .before .before .before .before .before .before .before .before))
-    (no _ _ _ (not-2 (c .before .before .before .before .before .before .before .before))
-    (no _ _ _ (not-3 (c .before .before .before .before .before .before))
-    (no _ _ _ (not-4 (c .before .before .before .before))
-    (no _ _ _ (not-5 (c .before .before)) (yes _ _ _ (sym (c .before .is6 .ensures) ∙ c .if6 .taken) refl)))))
+    let five = c .before .before in
+    let four = five .before .before in
+    let three = four .before .before in
+    let two = three .before .before in
+    let one = two .before .before in
+    no _ _ _ (not-1 one)
+    (no _ _ _ (not-2 two)
+    (no _ _ _ (not-3 three)
+    (no _ _ _ (not-4 four)
+    (no _ _ _ (not-5 five)
+    (yes _ _ _ (sym (c .before .is6 .ensures) ∙ c .if6 .taken) refl)))))
 
 returns-7 : tie.Need-returns-7
 unfolding opOf
 returns-7 c =
-    no _ _ _ (not-1 (c .before .before .before .before .before .before .before .before .before .before))
-    (no _ _ _ (not-2 (c .before .before .before .before .before .before .before .before))
-    (no _ _ _ (not-3 (c .before .before .before .before .before .before))
-    (no _ _ _ (not-4 (c .before .before .before .before))
-    (no _ _ _ (not-5 (c .before .before))
-    (no _ _ _ (not-6 c) refl)))))
+    let six = c in
+    let five = six .before .before in
+    let four = five .before .before in
+    let three = four .before .before in
+    let two = three .before .before in
+    let one = two .before .before in
+    no _ _ _ (not-1 one)
+    (no _ _ _ (not-2 two)
+    (no _ _ _ (not-3 three)
+    (no _ _ _ (not-4 four)
+    (no _ _ _ (not-5 five)
+    (no _ _ _ (not-6 six) refl)))))
 
 pub op-of-spec : {M : Type 1} → statement M
 op-of-spec =

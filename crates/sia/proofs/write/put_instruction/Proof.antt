@@ -14,6 +14,17 @@ use borrow.Author.Needs.{needs}
 use Rattle.sia.proofs.write.put_instruction.Statement.{statement}
 use Rattle.sia.proofs.write.put_instruction.Tie as tie
 
+-- ---- the places that the answers look back to
+
+abbrev before-name : tie.After-copy-between → tie.Start
+before-name c = c .before .before .before .before .before
+
+abbrev before-count : tie.After-store → tie.After-copy-between
+before-count c = c .before .before .before .before
+
+abbrev before-operands : tie.After-put-operands → tie.After-store
+before-operands c = c .before .before .before .before .before
+
 -- the lengths of the parts, and the room that the area has for them
 record Room (s : tie.Start) : Type 0 where
   few : s .args .x .count ≤ 4
@@ -27,6 +38,8 @@ room s =
     let long = known-instruction x _ (s .good .0) in
     record { few = s .pre .0; name = long .0; operands = long .1; fits = omega (arith, length-instruction x (long .0) (long .1) (s .pre .0)) }
 
+-- ---- the answers
+
 slice-aggregate-copy-between : tie.Need-slice-aggregate-copy-between
 slice-aggregate-copy-between c = search needs
 
@@ -37,13 +50,13 @@ add-store : tie.Need-add-store
 add-store c = search needs
 
 store-requires : tie.Need-store-requires
-store-requires c κs = let r = room (c .before .before .before .before .before .before .before .before) in omega arith
+store-requires c κs = let r = room (before-name (c .before .before .before)) in omega arith
 
 add-put-operands : tie.Need-add-put-operands
 add-put-operands c = search needs
 
 put-operands-requires : tie.Need-put-operands-requires
-put-operands-requires c κs = let r = room (c .before .before .before .before .before .before .before .before .before .before .before .before .before) in (r .few, omega arith)
+put-operands-requires c κs = let r = room (before-name (before-count (c .before .before .before .before))) in (r .few, omega arith)
 
 add-fill : tie.Need-add-fill
 add-fill c = search needs
@@ -58,7 +71,7 @@ flag-byte-requires : tie.Need-flag-byte-requires
 flag-byte-requires c κs = search needs
 
 fill-requires : tie.Need-fill-requires
-fill-requires c κs = let r = room (c .before .before .before .before .before .before .before .before .before .before .before .before .before .before .before .before .before .before) in omega arith
+fill-requires c κs = let r = room (before-name (before-count (before-operands (c .before .before .before .before)))) in omega arith
 
 same-length : tie.Need-same-length
 same-length c = search needs
@@ -66,12 +79,15 @@ same-length c = search needs
 returns : tie.Need-returns
 unfolding instructionBytes
 returns c =
-    let r = room (c .before .before .before .before .before .before .before .before .before .before .before .before .before .before .before .before .before .before .before .before .before) in
-    let x = c .before .before .before .before .before .before .before .before .before .before .before .before .before .before .before .before .before .before .before .before .before .args .x in
+    let operands = c .before .before .before .before .before .before .before in
+    let count = before-operands operands in
+    let name = before-count count in
+    let r = room (before-name name) in
+    let x = before-name name .args .x in
     lay-four _ _ _ _ _ _ _ _ _
-    (lay-same _ _ _ (c .before .before .before .before .before .before .before .before .before .before .before .before .before .before .before .before .copy-between .ensures) (part-whole _ 16 (sym (r .name))))
-    (c .before .before .before .before .before .before .before .before .before .before .before .before .store .ensures)
-    (c .before .before .before .before .before .before .before .put-operands .ensures)
+    (lay-same _ _ _ (name .copy-between .ensures) (part-whole _ 16 (sym (r .name))))
+    (count .store .ensures)
+    (operands .put-operands .ensures)
     (lay-same _ _ _ (c .before .before .fill .ensures) (ap (λ (b : ℕ). b ∷ []) (c .before .before .before .flag-byte .ensures)))
     (r .name) (length-bytes 8 _) (length-operands (operandsIn x) ∙ ap (λ (n : ℕ). 16 * n) (length-take-le (x .count) (x .operands) (omega arith)))
     refl (omega arith) refl
