@@ -1,12 +1,12 @@
 -- What holds of every head, number, name and id. Assumes nothing.
 use mathlib.Core.Path.{_≡_, refl, sym, ap, _∙_}
-use mathlib.Core.Bool.{true}
+use mathlib.Core.Bool.{true, not}
 use mathlib.Core.List.{List, [], _∷_, append-nil}
 use Prim.Native.Nat.{ℕ, _+_, _*_, _^_, _≤_, _<_}
 use native.Mathlib.Omega.{arith}
 use lib.ListN.{length, getD, length-append}
 use lib.Seq.{ext-getD, length-take-le}
-use lib.Dec.{eqb}
+use lib.Dec.{eqb, ltb}
 use borrow.Author.Tests.{eq-eqb, eqb-true, le-ltb, leb-true}
 use Rattle.area.specs.Pick.{pick}
 use Rattle.area.specs.Area.{same, put, zeros}
@@ -22,9 +22,9 @@ use Rattle.sia.specs.declared.Head.{Head}
 use Rattle.sia.specs.declared.Told.{Told}
 use Rattle.sia.specs.Number.{number}
 use Rattle.sia.specs.Names.{nameOf, opOf}
-use Rattle.sia.specs.Empty.{filled}
-use Rattle.sia.specs.Encode.{joined, operandBytes, instructionBytes, instructionsIn, encode, every, fewOperands, within, left, write}
-use Rattle.sia.specs.Decode.{decode, told}
+use Rattle.sia.specs.Empty.{noHead, filled}
+use Rattle.sia.specs.Encode.{joined, operandBytes, instructionBytes, instructionsIn, encode, every, fewOperands, within, Left, left, write}
+use Rattle.sia.specs.Decode.{Reading, value, fault, head, answer, decode, told}
 use Rattle.sia.specs.Trim.{trimmed, Each, ProperInstruction, Proper, operandCount}
 use Rattle.sia.specs.Bench.{truncate, truncateAlone}
 use Rattle.sia.proofs.Laws.Limits.{within-is}
@@ -39,6 +39,15 @@ use Rattle.sia.proofs.Laws.Proper.{head-good}
 -- Reading what was written gives the head back, its entries past a count as 0.
 pub reading-what-was-written : (h : Head) → Proper h → within h ≡ true → decode (encode h) ≡ told 0 (trimmed h)
 reading-what-was-written h p w = decode-encode h p (within-is h w)
+
+-- On a fault the reader answers the empty head.
+pub refused-read : (bs : List ℕ) → (decode bs .number ≡ 0 → ⊥) → decode bs .head ≡ noHead
+unfolding decode answer
+refused-read bs n = go (head bs) n where
+  go : (r : Reading Head) → (answer r .number ≡ 0 → ⊥) → answer r .head ≡ noHead
+  go (value h []) n = absurd (n refl)
+  go (value h (b ∷ rest)) n = refl
+  go (fault k) n = refl
 
 -- Writing what was read gives the same bytes back.
 pub writing-what-was-read : (bs : List ℕ) → Bytes bs → (h : Head) → decode bs ≡ told 0 h → encode h ≡ bs
@@ -67,6 +76,17 @@ written-again bs b h e area l =
     skips _ _ _ (rw w)
     ∙ skips _ _ _ (le-ltb (length area) (length (encode h)) m)
     ∙ (λ i. left (record { number = 0; length = length (q i) }) (put area 0 (q i)))
+
+-- A refusal of the writer leaves the area as it was and answers length 0.
+pub refused-write : (h : Head) (area : List ℕ) → (write h area .answer .number ≡ 0 → ⊥) → (write h area .area ≡ area) × (write h area .answer .length ≡ 0)
+unfolding write
+refused-write h area n =
+    by (not (within h)) (λ t. kept (picks _ _ _ t))
+    (λ f. let past = skips (not (within h)) _ _ f in
+    by (ltb (length area) (length (encode h))) (λ t. kept (past ∙ picks _ _ _ t))
+    (λ g. absurd (n (ap (λ (l : Left). l .answer .number) (past ∙ skips _ _ _ g))))) where
+      kept : {k : ℕ} → write h area ≡ left (record { number = k; length = 0 }) area → (write h area .area ≡ area) × (write h area .answer .length ≡ 0)
+      kept e = (ap (λ (l : Left). l .area) e, ap (λ (l : Left). l .answer .length) e)
 
 -- ---- lengths
 

@@ -53,6 +53,7 @@ entries one room none n bs = after (several one n bs) (λ xs rest. value (filled
 unfoldable pub operand : List ℕ → Reading Operand
 operand bs = after (number bs) (λ o rest. after (number rest) (λ n end. value (record { offset = o; len = n }) end))
 
+-- n of the 4 operands that an instruction has room for
 abbrev pub operands : ℕ → List ℕ → Reading (List Operand)
 operands n bs = entries operand 4 noOperand n bs
 
@@ -62,6 +63,7 @@ instruction bs =
     after (bytes 16 bs) (λ name r. after (limited 4 r) (λ n s. after (operands n s) (λ os t. after (flag t) (λ p end.
     value (record { name = name; count = n; operands = os; proof = p }) end))))
 
+-- n of the 32 instructions that a head has room for
 abbrev pub instructions : ℕ → List ℕ → Reading (List Instruction)
 instructions n bs = entries instruction 32 noInstruction n bs
 
@@ -80,6 +82,7 @@ answer (value h []) = told 0 h
 answer (value h (b ∷ bs)) = told 9 noHead
 answer (fault n) = told n noHead
 
+-- what the reader answers for bytes
 unfoldable pub decode : List ℕ → Told
 decode bs = answer (head bs)
 

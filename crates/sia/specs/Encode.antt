@@ -39,11 +39,13 @@ instructionsIn h = take (h .count) (h .instructions)
 unfoldable pub instructionBytes : Instruction → List ℕ
 instructionBytes x = x .name ++ (le8 (x .count) ++ (joined operandBytes (operandsIn x) ++ (flagByte (x .proof) ∷ [])))
 
+-- the four sections of a head
 unfoldable pub encode : Head → List ℕ
 encode h = h .contract ++ (le8 (h .count) ++ (joined instructionBytes (instructionsIn h) ++ le8 (h .length)))
 
 -- ---- "At most 32 instructions, 4 operands each, 65,536 bytes declared."
 
+-- every entry passes the test
 unfoldable pub every : {A : Type 0} → (A → Bool) → List A → Bool
 every p [] = true
 every p (x ∷ xs) = both (p x) (every p xs)
@@ -51,6 +53,7 @@ every p (x ∷ xs) = both (p x) (every p xs)
 abbrev pub fewOperands : Instruction → Bool
 fewOperands x = leb (x .count) 4
 
+-- the three limits; the operands of instructions past the count do not matter
 unfoldable pub within : Head → Bool
 within h = both (leb (h .count) 32) (both (leb (h .length) 65536) (every fewOperands (instructionsIn h)))
 
