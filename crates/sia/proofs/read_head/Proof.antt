@@ -1,5 +1,6 @@
 -- `sia::read_head` meets its contract: a fault, bytes left over, or the head. Assumes nothing.
 use mathlib.Core.Path.{ap, _∙_}
+use native.Mathlib.Omega.{arith}
 use Rattle.sia.specs.Decode.{decode, told}
 use Rattle.sia.proofs.Laws.Reading.{answer-fault, answer-more, answer-all}
 use borrow.Author.Needs.{needs}
@@ -21,11 +22,11 @@ empty-requires-2 c κs = search needs
 
 returns-2 : tie.Need-returns-2
 unfolding decode
-returns-2 c = ap (told 9) (c .empty2 .ensures) ∙ answer-more (c .before .before .before .before .before .head .ensures) (c .before .before .before .if1 .left) (c .before .if2 .taken)
+returns-2 c = ap (told 9) (c .empty2 .ensures) ∙ answer-more (c .before .before .before .before .before .head .ensures) (c .before .before .before .if1 .left) (λ e. omega (arith, c .before .if2 .taken))
 
 returns-3 : tie.Need-returns-3
 unfolding decode
-returns-3 c = answer-all (c .before .before .before .before .before .head .ensures) (c .before .before .before .if1 .left) (c .before .if2 .left)
+returns-3 c = answer-all (c .before .before .before .before .before .head .ensures) (c .before .before .before .if1 .left) (omega (arith, c .before .if2 .left))
 
 pub read-head-spec : {M : Type 1} → statement M
 read-head-spec =
