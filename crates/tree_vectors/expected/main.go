@@ -18,18 +18,16 @@ const most = 320
 
 var counts = []int{1, 2, 3, 5, 7, 64, 65, 128, 192, 200, 320}
 
-var ranges = [][3]int{
-	{1, 0, 1},
-	{2, 0, 1}, {2, 1, 2}, {2, 0, 2},
-	{3, 0, 1}, {3, 2, 3}, {3, 1, 3}, {3, 0, 3},
-	{5, 0, 1}, {5, 4, 5}, {5, 1, 4}, {5, 0, 5},
-	{7, 0, 1}, {7, 6, 7}, {7, 3, 4}, {7, 2, 6},
-	{64, 0, 1}, {64, 63, 64}, {64, 0, 64}, {64, 31, 33},
-	{65, 0, 1}, {65, 64, 65}, {65, 63, 65}, {65, 0, 65},
-	{128, 0, 1}, {128, 127, 128}, {128, 63, 65}, {128, 64, 128},
-	{192, 0, 1}, {192, 128, 129}, {192, 191, 192}, {192, 63, 129},
-	{200, 0, 1}, {200, 199, 200}, {200, 128, 192}, {200, 191, 193},
-	{320, 0, 1}, {320, 319, 320}, {320, 255, 257}, {320, 256, 320},
+// ranges at both ends, at the middle, and at the edges of parts
+func ranges(n int) [][2]int {
+	r := [][2]int{{0, 1}, {n - 1, n}, {0, n}, {n / 2, n}}
+	if 65 <= n {
+		r = append(r, [2]int{63, 65})
+	}
+	if 129 <= n {
+		r = append(r, [2]int{128, 129}, [2]int{64, 128})
+	}
+	return r
 }
 
 // parts of 64 segments: how many, which one, and a range within it
@@ -37,7 +35,7 @@ var within = [][4]int{{1, 0, 0, 1}, {2, 1, 0, 64}, {3, 2, 0, 1}, {3, 0, 63, 64},
 
 var segments [most][]byte
 
-func tree(from, to int) *merkletree.Tree {
+func tree() *merkletree.Tree {
 	h, err := blake2b.New256(nil)
 	if err != nil {
 		panic(err)
@@ -46,7 +44,7 @@ func tree(from, to int) *merkletree.Tree {
 }
 
 func root(from, to int) []byte {
-	t := tree(from, to)
+	t := tree()
 	for _, s := range segments[from:to] {
 		t.Push(s)
 	}
@@ -70,7 +68,7 @@ func walk(at, n, first, end int) [][]byte {
 
 // The library's proof of one segment has the same hashes, from the segment up.
 func agrees(n, i int, hashes [][]byte) {
-	t := tree(0, n)
+	t := tree()
 	if err := t.SetIndex(uint64(i)); err != nil {
 		panic(err)
 	}
@@ -102,13 +100,13 @@ func main() {
 	}
 	for _, n := range counts {
 		fmt.Printf("root %d %x\n", n, root(0, n))
-	}
-	for _, r := range ranges {
-		hashes := walk(0, r[0], r[1], r[2])
-		if r[2] == r[1]+1 {
-			agrees(r[0], r[1], hashes)
+		for _, r := range ranges(n) {
+			hashes := walk(0, n, r[0], r[1])
+			if r[1] == r[0]+1 {
+				agrees(n, r[0], hashes)
+			}
+			fmt.Printf("range %d %d %d %d %x yes\n", n, r[0], r[1], len(hashes), bytes.Join(hashes, nil))
 		}
-		fmt.Printf("range %d %d %d %d %x yes\n", r[0], r[1], r[2], len(hashes), bytes.Join(hashes, nil))
 	}
 	for _, w := range within {
 		n := 64 * w[0]

@@ -4,160 +4,8 @@ ghost use Prim.Native.Nat.{_+_, _≤_};
 ghost use lib.ListN.{length};
 use libc::STDOUT_FILENO;
 
-// The counts of segments whose roots are written.
+// The counts of segments whose roots and proofs are written.
 const COUNTS: [usize; 11] = [1, 2, 3, 5, 7, 64, 65, 128, 192, 200, 320];
-
-// Ranges, each as count of segments, first, end.
-const RANGES: [usize; 120] = [
-    1,
-    0,
-    1,
-    2,
-    0,
-    1,
-    2,
-    1,
-    2,
-    2,
-    0,
-    2,
-    3,
-    0,
-    1,
-    3,
-    2,
-    3,
-    3,
-    1,
-    3,
-    3,
-    0,
-    3,
-    5,
-    0,
-    1,
-    5,
-    4,
-    5,
-    5,
-    1,
-    4,
-    5,
-    0,
-    5,
-    7,
-    0,
-    1,
-    7,
-    6,
-    7,
-    7,
-    3,
-    4,
-    7,
-    2,
-    6,
-    64,
-    0,
-    1,
-    64,
-    63,
-    64,
-    64,
-    0,
-    64,
-    64,
-    31,
-    33,
-    65,
-    0,
-    1,
-    65,
-    64,
-    65,
-    65,
-    63,
-    65,
-    65,
-    0,
-    65,
-    128,
-    0,
-    1,
-    128,
-    127,
-    128,
-    128,
-    63,
-    65,
-    128,
-    64,
-    128,
-    192,
-    0,
-    1,
-    192,
-    128,
-    129,
-    192,
-    191,
-    192,
-    192,
-    63,
-    129,
-    200,
-    0,
-    1,
-    200,
-    199,
-    200,
-    200,
-    128,
-    192,
-    200,
-    191,
-    193,
-    320,
-    0,
-    1,
-    320,
-    319,
-    320,
-    320,
-    255,
-    257,
-    320,
-    256,
-    320,
-];
-
-// Ranges within a part of 64 segments, each as number of parts, part, first, end.
-const WITHIN: [usize; 24] = [
-    1,
-    0,
-    0,
-    1,
-    2,
-    1,
-    0,
-    64,
-    3,
-    2,
-    0,
-    1,
-    3,
-    0,
-    63,
-    64,
-    5,
-    3,
-    10,
-    20,
-    5,
-    4,
-    0,
-    64,
-];
 
 fn fill(bytes: &mut [u8]) {
     let mut k = 0;
@@ -211,14 +59,6 @@ fn root_line(bytes: &[u8], n: usize) {
         word(b"root");
         number(n);
         hash_line(&root);
-    }
-}
-
-fn root_lines(bytes: &[u8]) {
-    let mut i = 0;
-    while i < 11 {
-        root_line(bytes, COUNTS[i]);
-        i += 1;
     }
 }
 
@@ -280,16 +120,39 @@ fn range_line(bytes: &[u8], n: usize, first: usize, end: usize, out: &mut [u8]) 
     verdict(checked(bytes, n, first, end, &out[0..used]));
 }
 
-fn ranges(bytes: &[u8], out: &mut [u8]) {
+// Ranges at both ends, whole and half, and at the edges of parts of 64.
+fn ranges(bytes: &[u8], n: usize, out: &mut [u8]) {
+    if n < 1 {
+        return;
+    }
+    range_line(bytes, n, 0, 1, out);
+    range_line(bytes, n, n - 1, n, out);
+    spans(bytes, n, out);
+}
+
+fn spans(bytes: &[u8], n: usize, out: &mut [u8]) {
+    range_line(bytes, n, 0, n, out);
+    range_line(bytes, n, n / 2, n, out);
+    edges(bytes, n, out);
+}
+
+fn edges(bytes: &[u8], n: usize, out: &mut [u8]) {
+    if n < 65 {
+        return;
+    }
+    range_line(bytes, n, 63, 65, out);
+    if n < 129 {
+        return;
+    }
+    range_line(bytes, n, 128, 129, out);
+    range_line(bytes, n, 64, 128, out);
+}
+
+fn counts(bytes: &[u8], out: &mut [u8]) {
     let mut i = 0;
-    while i < 40 {
-        range_line(
-            bytes,
-            RANGES[3 * i],
-            RANGES[3 * i + 1],
-            RANGES[3 * i + 2],
-            out,
-        );
+    while i < 11 {
+        root_line(bytes, COUNTS[i]);
+        ranges(bytes, COUNTS[i], out);
         i += 1;
     }
 }
@@ -360,20 +223,22 @@ fn within_line(
     end_line();
 }
 
+// Parts of 64 segments: how many, which one, and a range within it.
 fn withins(bytes: &[u8], roots: &mut [u8], out: &mut [u8]) {
-    let mut i = 0;
-    while i < 6 {
-        within_line(
-            bytes,
-            WITHIN[4 * i],
-            WITHIN[4 * i + 1],
-            WITHIN[4 * i + 2],
-            WITHIN[4 * i + 3],
-            roots,
-            out,
-        );
-        i += 1;
-    }
+    within_line(bytes, 1, 0, 0, 1, roots, out);
+    within_line(bytes, 2, 1, 0, 64, roots, out);
+    more_withins(bytes, roots, out);
+}
+
+fn more_withins(bytes: &[u8], roots: &mut [u8], out: &mut [u8]) {
+    within_line(bytes, 3, 2, 0, 1, roots, out);
+    within_line(bytes, 3, 0, 63, 64, roots, out);
+    most_withins(bytes, roots, out);
+}
+
+fn most_withins(bytes: &[u8], roots: &mut [u8], out: &mut [u8]) {
+    within_line(bytes, 5, 3, 10, 20, roots, out);
+    within_line(bytes, 5, 4, 0, 64, roots, out);
 }
 
 // Whether the checker takes what stands in `all`: a root in the first `root` of 32 bytes, segments up to byte `given` of 160, hashes up to
@@ -501,12 +366,11 @@ fn damaged(bytes: &[u8], all: &mut [u8]) {
 }
 
 fn main() {
-    let mut bytes = [0u8; 20480];
-    let mut roots = [0u8; 160];
-    let mut out = [0u8; 1024];
+    let mut bytes = io::large_buffer();
+    let mut roots = io::buffer();
+    let mut out = io::buffer();
     fill(&mut bytes);
-    root_lines(&bytes);
-    ranges(&bytes, &mut out);
+    counts(&bytes, &mut out);
     withins(&bytes, &mut roots, &mut out);
     damaged(&bytes, &mut out);
 }
