@@ -24,6 +24,7 @@ trimmed h = record {
 
 -- ---- array lengths, and numbers of 64 bits
 
+-- P holds of every entry
 unfoldable pub Each : {A : Type 0} → (A → Type 0) → List A → Type 0
 Each P [] = Unit
 Each P (x ∷ xs) = P x × Each P xs
