@@ -2,7 +2,6 @@
 pub mod Reading
 pub mod Entries
 pub mod Inverse
-pub mod Areas
 pub mod Known
 pub mod Every
 pub mod Joined

@@ -5,6 +5,7 @@ use Prim.Native.Nat.{ℕ, zero, suc, _+_, _≤_, _<_}
 use native.Mathlib.Omega.{arith}
 use lib.ListN.{length, take, drop, getD, set, drop-of-length-le}
 use Rattle.area.specs.Area.{part, put}
+use Rattle.area.proofs.Laws.Parts.{length-part}
 
 cons : (x : ℕ) {l m : List ℕ} → l ≡ m → x ∷ l ≡ x ∷ m
 cons x e = ap (λ (l : List ℕ). x ∷ l) e
@@ -91,6 +92,10 @@ put-all a bs e =
     put-is a 0 bs (length bs) (omega arith) (omega arith)
     ∙ ap (λ (l : List ℕ). bs ++ l) (drop-of-length-le a {i = length bs} (omega arith))
     ∙ append-nil bs
+
+-- a part of other bytes, as long as the area
+pub put-part : {e : List ℕ} (a bs : List ℕ) (at n : ℕ) → length a ≡ n → at + n ≤ length bs → e ≡ put a 0 (part bs at n) → e ≡ part bs at n
+put-part a bs at n l h p = p ∙ put-all a (part bs at n) (length-part bs at n h ∙ sym l)
 
 -- ---- parts of what results: what was laid, what lies in front of it, what lies behind it
 

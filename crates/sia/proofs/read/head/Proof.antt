@@ -9,7 +9,7 @@ use Rattle.area.specs.Pick.{pick}
 use Rattle.area.specs.Area.{part}
 use Rattle.sia.specs.declared.Head.{Head}
 use Rattle.sia.specs.Decode.{Reading, value, after, bytes, head, reading}
-use Rattle.sia.proofs.Laws.Areas.{copied}
+use Rattle.area.proofs.Laws.Puts.{put-part}
 use Rattle.sia.proofs.Laws.Reading.{fine, short, long, stops, goes}
 use Rattle.sia.proofs.Laws.Inverse.{limited-within}
 use borrow.Author.Needs.{needs}
@@ -95,7 +95,7 @@ returns-5 c =
     let list = declared .before .before .before in
     let count = list .before .before .before in
     let bytes = start count .args .bytes .now in
-    let id = copied _ bytes 0 32 refl (there count) (count .before .before .copy-between .ensures) in
+    let id = put-part _ bytes 0 32 refl (there count) (count .before .before .copy-between .ensures) in
     record {
       stays = declared .limited2 .ensures .stays;
       says =

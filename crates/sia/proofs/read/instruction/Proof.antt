@@ -9,7 +9,7 @@ use Rattle.area.specs.Pick.{pick}
 use Rattle.area.specs.Area.{part}
 use Rattle.sia.specs.declared.Instruction.{Instruction}
 use Rattle.sia.specs.Decode.{Reading, value, after, bytes, instruction, reading}
-use Rattle.sia.proofs.Laws.Areas.{copied}
+use Rattle.area.proofs.Laws.Puts.{put-part}
 use Rattle.sia.proofs.Laws.Reading.{fine, short, long, stops, goes}
 use Rattle.sia.proofs.Laws.Inverse.{limited-within}
 use borrow.Author.Needs.{needs}
@@ -104,7 +104,7 @@ returns-5 c =
     let count = list .before .before .before .before in
     let bytes = start count .args .bytes .now in
     let entry = start count .args .entry .name in
-    let name = copied entry bytes (start count .args .at) 16 (ap (λ (x : Instruction). length (x .name)) (start count .pre .1)) (omega (arith, there count)) (count .before .before .copy-between .ensures) in
+    let name = put-part entry bytes (start count .args .at) 16 (ap (λ (x : Instruction). length (x .name)) (start count .pre .1)) (omega (arith, there count)) (count .before .before .copy-between .ensures) in
     record {
       stays = proof .flag .ensures .stays;
       says =
