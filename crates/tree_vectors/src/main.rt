@@ -37,9 +37,13 @@ fn hex(bytes: &[u8]) {
     }
 }
 
-fn hash_line(hash: &[u8; 32]) {
-    hex(hash);
+fn hex_line(bytes: &[u8]) {
+    hex(bytes);
     end_line();
+}
+
+fn hash_line(hash: &[u8; 32]) {
+    hex_line(hash);
 }
 
 fn hash_word(hash: &[u8; 32]) {
@@ -99,6 +103,21 @@ fn accepted(
     tree::check(root, n, first, end, bytes, hashes)
 }
 
+fn label(text: &[u8], a: usize, b: usize, c: usize, d: usize) {
+    word(text);
+    number(a);
+    number(b);
+    number(c);
+    number(d);
+}
+
+// The hashes, and what the checker says to them.
+fn shown(bytes: &[u8], n: usize, first: usize, end: usize, hashes: &[u8]) {
+    hex(hashes);
+    io::write_all(STDOUT_FILENO, b" ");
+    verdict(checked(bytes, n, first, end, hashes));
+}
+
 fn range_line(bytes: &[u8], n: usize, first: usize, end: usize, out: &mut [u8]) {
     if bytes.len() / 64 < n {
         return;
@@ -110,14 +129,8 @@ fn range_line(bytes: &[u8], n: usize, first: usize, end: usize, out: &mut [u8]) 
         return;
     }
     let used = 32 * count;
-    word(b"range");
-    number(n);
-    number(first);
-    number(end);
-    number(count);
-    hex(&out[0..used]);
-    io::write_all(STDOUT_FILENO, b" ");
-    verdict(checked(bytes, n, first, end, &out[0..used]));
+    label(b"range", n, first, end, count);
+    shown(bytes, n, first, end, &out[0..used]);
 }
 
 // Ranges at both ends, whole and half, and at the edges of parts of 64.
@@ -213,14 +226,9 @@ fn within_line(
         return;
     }
     let used = 32 * count;
-    word(b"within");
-    number(parts);
-    number(at);
-    number(first);
-    number(end);
+    label(b"within", parts, at, first, end);
     hash_word(&root);
-    hex(&out[0..used]);
-    end_line();
+    hex_line(&out[0..used]);
 }
 
 // Parts of 64 segments: how many, which one, and a range within it.
@@ -305,7 +313,27 @@ fn flipped(all: &mut [u8], total: usize) -> usize {
     times
 }
 
-// A proof of the segments from 63 up to 65 of 200, whole and with one thing changed at a time, each with what the checker says.
+fn count_line(text: &[u8], n: usize) {
+    word(text);
+    io::print_decimal(STDOUT_FILENO, n as u64);
+    end_line();
+}
+
+fn damage(
+    text: &[u8],
+    all: &[u8],
+    root: usize,
+    n: usize,
+    first: usize,
+    end: usize,
+    given: usize,
+    total: usize,
+) {
+    word(text);
+    verdict(taken(all, root, n, first, end, given, total));
+}
+
+// A proof of the segments from 63 up to 65 of 200 with one thing changed at a time, each with what the checker says.
 fn damages(all: &[u8], total: usize) {
     if total < 192 {
         return;
@@ -313,26 +341,16 @@ fn damages(all: &[u8], total: usize) {
     if 992 < total {
         return;
     }
-    word(b"one hash more");
-    verdict(taken(all, 32, 200, 63, 65, 160, total + 32));
-    word(b"one hash fewer");
-    verdict(taken(all, 32, 200, 63, 65, 160, total - 32));
-    word(b"a hash of 31 bytes");
-    verdict(taken(all, 32, 200, 63, 65, 160, total - 1));
-    word(b"a root of 31 bytes");
-    verdict(taken(all, 31, 200, 63, 65, 160, total));
-    word(b"one segment fewer");
-    verdict(taken(all, 32, 200, 63, 65, 96, total));
-    word(b"range swapped");
-    verdict(taken(all, 32, 200, 65, 63, 160, total));
-    word(b"empty range");
-    verdict(taken(all, 32, 200, 63, 63, 160, total));
-    word(b"range past the count");
-    verdict(taken(all, 32, 64, 63, 65, 160, total));
-    word(b"count 0");
-    verdict(taken(all, 32, 0, 63, 65, 160, total));
-    word(b"count 4097");
-    verdict(taken(all, 32, 4097, 63, 65, 160, total));
+    damage(b"one hash more", all, 32, 200, 63, 65, 160, total + 32);
+    damage(b"one hash fewer", all, 32, 200, 63, 65, 160, total - 32);
+    damage(b"a hash of 31 bytes", all, 32, 200, 63, 65, 160, total - 1);
+    damage(b"a root of 31 bytes", all, 31, 200, 63, 65, 160, total);
+    damage(b"one segment fewer", all, 32, 200, 63, 65, 96, total);
+    damage(b"range swapped", all, 32, 200, 65, 63, 160, total);
+    damage(b"empty range", all, 32, 200, 63, 63, 160, total);
+    damage(b"range past the count", all, 32, 64, 63, 65, 160, total);
+    damage(b"count 0", all, 32, 0, 63, 65, 160, total);
+    damage(b"count 4097", all, 32, 4097, 63, 65, 160, total);
 }
 
 // The area takes a root, the segments from 63 up to 65 of 200, and their proof.
@@ -357,11 +375,8 @@ fn damaged(bytes: &[u8], all: &mut [u8]) {
         return;
     }
     let total = 160 + 32 * count;
-    word(b"whole");
-    verdict(taken(all, 32, 200, 63, 65, 160, total));
-    word(b"a bit flipped in each byte in turn");
-    io::print_decimal(STDOUT_FILENO, flipped(all, total) as u64);
-    end_line();
+    damage(b"whole", all, 32, 200, 63, 65, 160, total);
+    count_line(b"a bit flipped in each byte in turn", flipped(all, total));
     damages(all, total);
 }
 
