@@ -133,7 +133,12 @@ rebuild-node-requires t c κs = search needs
 
 rebuild-returns-4 : (t : ℕ) → rebuild-lts.Need-returns-4 (calls t) (rebuild-at t) rebuild.Post
 rebuild-returns-4 t c =
-    built-more _ _ _ _ (at-level t (c .before .before .before .before .before .before .before .before .before)) (c .before .before .before .before .before .before .before .before .power .ensures) (c .before .before .before .before .before .before .before .if3 .left) (c .before .before .before .before .before .before .rebuild2 .ensures) (c .before .before .before .before .before .rebuild3 .ensures) (c .node .ensures)
+    let two = c .before .before .before .before .before in
+    let one = two .before in
+    let test = one .before in
+    let half = test .before in
+    built-more _ _ _ _ (at-level t (half .before)) (half .power .ensures) (test .if3 .left) (one .rebuild2 .ensures) (two .rebuild3 .ensures)
+    (c .node .ensures)
 
 pub +rebuild-spec : {M : Type 1} → statement M
 +rebuild-spec = close μ-rebuild λ t. rebuild-lts.spec (calls t) (rebuild-at t)

@@ -107,7 +107,9 @@ write-same-length-2 t c = search needs
 
 write-returns-3 : (t : ℕ) → write-lts.Need-returns-3 (calls t) (write-at t) write.Post
 write-returns-3 t c =
-    laid-less _ _ _ _ _ (at-level t (c .before .before .before .before .before .before)) (c .before .before .before .before .before .power .ensures) (c .before .before .before .before .if3 .taken) (c .before .before .write .ensures)
+    let test = c .before .before .before .before in
+    let half = test .before in
+    laid-less _ _ _ _ _ (at-level t (half .before)) (half .power .ensures) (test .if3 .taken) (c .before .before .write .ensures)
 
 write-add-middle : (t : ℕ) → write-lts.Need-add-middle (calls t) (write-at t) write.Post
 write-add-middle t c = let l = at-level t (c .before .before) in omega (arith, l .walked .top)
@@ -152,8 +154,13 @@ write-same-length-3 t c = search needs
 
 write-returns-4 : (t : ℕ) → write-lts.Need-returns-4 (calls t) (write-at t) write.Post
 write-returns-4 t c =
-    let w = c .before .before .before .before .before .before .before .before .before .before .before .before .before .before .before .before .pre .1 in
-    laid-more _ _ _ _ _ (at-level t (c .before .before .before .before .before .before .before .before .before .before)) (c .before .before .before .before .before .before .before .before .before .power .ensures) (w .all) (c .before .before .before .before .before .before .before .before .if3 .left) (c .before .before .before .before .before .before .write2 .ensures) (c .before .before .write3 .ensures)
+    let two = c .before .before in
+    let one = two .before .before .before .before in
+    let test = one .before .before in
+    let half = test .before in
+    let start = half .before .before .before .before .before .before .before in
+    laid-more _ _ _ _ _ (at-level t (half .before)) (half .power .ensures) (start .pre .1 .all) (test .if3 .left) (one .write2 .ensures)
+    (two .write3 .ensures)
 
 pub +write-spec : {M : Type 1} → statement M
 +write-spec = close μ-write λ t. write-lts.spec (calls t) (write-at t)
