@@ -30,8 +30,8 @@ pub fn over(bytes: &[u8], roots: bool, at: usize, n: usize, depth: usize) -> [u8
     if n <= largest {
         return over(bytes, roots, at, n, depth - 1);
     }
-    let middle = at + largest;
     let rest = n - largest;
+    let middle = at + largest;
     let left = over(bytes, roots, at, largest, depth - 1);
     let right = over(bytes, roots, middle, rest, depth - 1);
     hashing::node(&left, &right)

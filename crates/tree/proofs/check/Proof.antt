@@ -2,15 +2,16 @@
 use mathlib.Core.Path.{_≡_, refl, sym, ap, _∙_}
 use mathlib.Core.Bool.{true}
 use mathlib.Core.List.{List}
-use Prim.Native.Nat.{ℕ, _*_, _≤_}
+use Prim.Native.Nat.{ℕ, _≤_, _*_}
 use native.Mathlib.Omega.{arith}
+use lib.ListN.{length}
 use lib.Dec.{leb}
 use borrow.Author.Needs.{needs}
 use borrow.Author.Tests.{not-true, not-false, le-leb, lt-leb, eq-eqb, ne-eqb}
 use Rattle.area.specs.Pick.{both}
 use Rattle.area.specs.Area.{same}
 use Rattle.area.proofs.Laws.Pick.{yes, no, both-join, both-not-left, both-not-right}
-use Rattle.tree.specs.Walk.{count}
+use Rattle.tree.specs.Walk.{hashes, count}
 use Rattle.tree.specs.Checker.{limit, rebuild, verdict}
 use Rattle.tree.proofs.Laws.Counts.{hashes-few}
 use Rattle.tree.proofs.Laws.Answered.{ranged-tells, from-top}
@@ -59,10 +60,11 @@ mul-if5 c =
 returns-5 : tie.Need-returns-5
 unfolding verdict count
 returns-5 c =
+    let a = c .before .before .before .before .before .before .before .before .before .before .args in
+    let other : length (a .hashes .now) ≡ 32 * hashes 64 0 (a .count) (a .first) (a .end) → ⊥ = λ e. omega (arith, e, c .if5 .taken, c .before .count .ensures) in
     yes _ _ _ (limited _ (c .before .before .before .before .before .before .if1 .left) (c .before .before .before .before .before .if2 .left))
     (yes _ _ _ (sym (c .before .before .before .before .ranged .ensures) ∙ not-false _ (c .before .before .before .if3 .left))
-    (yes _ _ _ (eq-eqb _ _ (c .before .before .if4 .left))
-    (no _ _ _ (ne-eqb _ _ (λ e. c .if5 .taken (e ∙ ap (λ (x : ℕ). 32 * x) (sym (c .before .count .ensures))))) refl)))
+    (yes _ _ _ (eq-eqb _ _ (c .before .before .if4 .left)) (no _ _ _ (ne-eqb _ _ other) refl)))
 
 rebuild-requires : tie.Need-rebuild-requires
 rebuild-requires c κs =
@@ -81,11 +83,15 @@ agrees-requires c κs = search needs
 returns-6 : tie.Need-returns-6
 unfolding verdict count rebuild
 returns-6 c =
-    yes _ _ _ (limited _ (c .before .before .before .before .before .before .before .before .before .before .if1 .left) (c .before .before .before .before .before .before .before .before .before .if2 .left))
-    (yes _ _ _ (sym (c .before .before .before .before .before .before .before .before .ranged .ensures) ∙ not-false _ (c .before .before .before .before .before .before .before .if3 .left))
-    (yes _ _ _ (eq-eqb _ _ (c .before .before .before .before .before .before .if4 .left))
-    (yes _ _ _ (eq-eqb _ _ (c .before .before .before .before .if5 .left ∙ ap (λ (x : ℕ). 32 * x) (c .before .before .before .before .before .count .ensures)))
-    (c .agrees .ensures ∙ ap (λ (l : List ℕ). same (c .before .before .before .before .before .before .before .before .before .before .before .before .before .before .args .root .now) l) (c .before .before .before .rebuild .ensures .1)))))
+    let same-count = c .before .before .before .before .before in
+    let a = same-count .before .before .before .before .before .before .before .before .before .args in
+    let used : length (a .hashes .now) ≡ 32 * hashes 64 0 (a .count) (a .first) (a .end) =
+    omega (arith, c .before .before .before .before .if5 .left, same-count .count .ensures) in
+    yes _ _ _ (limited _ (same-count .before .before .before .before .before .if1 .left) (same-count .before .before .before .before .if2 .left))
+    (yes _ _ _ (sym (same-count .before .before .before .ranged .ensures) ∙ not-false _ (same-count .before .before .if3 .left))
+    (yes _ _ _ (eq-eqb _ _ (same-count .before .if4 .left))
+    (yes _ _ _ (eq-eqb _ _ used)
+    (c .agrees .ensures ∙ ap (λ (l : List ℕ). same (a .root .now) l) (c .before .before .before .rebuild .ensures .1)))))
 
 pub check-spec : {M : Type 1} → statement M
 check-spec =
