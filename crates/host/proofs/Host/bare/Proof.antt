@@ -1,0 +1,24 @@
+-- `host::Host::bare` meets its contract: 8 times no contract, and no program. Assumes nothing.
+use mathlib.Core.Path.{ap₂}
+use lib.ListN.{replicate}
+use Rattle.host.specs.declared.Place.{Place}
+use Rattle.host.specs.declared.Program.{Program}
+use Rattle.host.specs.Empty.{bare}
+use borrow.Author.Needs.{needs}
+use Rattle.host.proofs.Host.bare.Statement.{statement}
+use Rattle.host.proofs.Host.bare.Tie as tie
+
+none-requires : tie.Need-none-requires
+none-requires c κs = search needs
+
+none-requires-2 : tie.Need-none-requires-2
+none-requires-2 c κs = search needs
+
+returns : tie.Need-returns
+unfolding bare
+returns c =
+    ap₂ (λ (none : Place) (program : Program). record { disk = c .before .before .args .disk; stage = c .before .before .args .stage; places = replicate 8 none; program = program })
+    (c .before .none .ensures) (c .none2 .ensures)
+
+pub bare-spec : {M : Type 1} → statement M
+bare-spec = tie.close (tie.spec none-requires none-requires-2 returns)

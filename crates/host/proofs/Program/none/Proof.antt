@@ -1,0 +1,24 @@
+-- `host::Program::none` meets its contract: no terms and no progress. Assumes nothing.
+use mathlib.Core.Path.{ap₂}
+use mathlib.Core.Bool.{false}
+use Rattle.host.specs.declared.Terms.{Terms}
+use Rattle.host.specs.declared.Progress.{Progress}
+use Rattle.host.specs.Empty.{noProgram}
+use borrow.Author.Needs.{needs}
+use Rattle.host.proofs.Program.none.Statement.{statement}
+use Rattle.host.proofs.Program.none.Tie as tie
+
+none-requires : tie.Need-none-requires
+none-requires c κs = search needs
+
+none-requires-2 : tie.Need-none-requires-2
+none-requires-2 c κs = search needs
+
+returns : tie.Need-returns
+unfolding noProgram
+returns c =
+    ap₂ (λ (terms : Terms) (progress : Progress). record { active = false; terms = terms; came = 0; progress = progress })
+    (c .before .none .ensures) (c .none2 .ensures)
+
+pub none-spec : {M : Type 1} → statement M
+none-spec = tie.close (tie.spec none-requires none-requires-2 returns)

@@ -1,0 +1,23 @@
+-- `host::Terms::none` meets its contract: the empty head, and prices of 0. Assumes nothing.
+use mathlib.Core.Path.{ap₂}
+use Rattle.sia.specs.declared.Head.{Head}
+use Rattle.host.specs.declared.Prices.{Prices}
+use Rattle.host.specs.declared.Terms.{Terms}
+use Rattle.host.specs.Empty.{noTerms}
+use borrow.Author.Needs.{needs}
+use Rattle.host.proofs.Terms.none.Statement.{statement}
+use Rattle.host.proofs.Terms.none.Tie as tie
+
+empty-requires : tie.Need-empty-requires
+empty-requires c κs = search needs
+
+none-requires : tie.Need-none-requires
+none-requires c κs = search needs
+
+returns : tie.Need-returns
+unfolding noTerms
+returns c =
+    ap₂ (λ (head : Head) (prices : Prices). record { head = head; prices = prices; budget = 0; room = 0 }) (c .before .empty .ensures) (c .none .ensures)
+
+pub none-spec : {M : Type 1} → statement M
+none-spec = tie.close (tie.spec empty-requires none-requires returns)

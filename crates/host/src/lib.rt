@@ -1,0 +1,188 @@
+// The record of a host: plain data, so that a damaged record is a value like any other; whether it is in order, where its contracts
+// and slots are, and the calls that make a host, form a contract and drop one.
+ghost use mathlib.Core.Path.{_≡_};
+ghost use Rattle.host.specs.Empty.{noPlace, noPrices, noTerms, noProgress, noProgram};
+ghost use Rattle.host.specs.Empty as Says;
+use sia::Head;
+
+// A place for a contract. Of the slots, those below its size in sectors: `slots[p]` is the disk slot of position p.
+pub struct Place {
+    pub held: bool,
+    pub id: [u8; 32],
+    pub size: u64,
+    pub slots: [u8; 64],
+}
+
+// What instructions are charged.
+pub struct Prices {
+    pub init: u16,
+    pub memory: u16,
+    pub readbase: u16,
+    pub readlength: u16,
+    pub writebase: u16,
+    pub writelength: u16,
+    pub truncatebase: u16,
+}
+
+// What opening fixes; `room` is the output length.
+pub struct Terms {
+    pub head: Head,
+    pub prices: Prices,
+    pub budget: u64,
+    pub room: u64,
+}
+
+// What instructions change: how many ran, the tally, the bytes written, the running size, and whether one failed. `staged[p]` is
+// the stage slot of position p, or NONE.
+pub struct Progress {
+    pub ran: u64,
+    pub tally: u64,
+    pub written: u64,
+    pub size: u64,
+    pub failed: bool,
+    pub staged: [u8; 64],
+}
+
+// The program, if one is open; `came` counts the data bytes that have come.
+pub struct Program {
+    pub active: bool,
+    pub terms: Terms,
+    pub came: u64,
+    pub progress: Progress,
+}
+
+// The sectors of the disk area and of the stage area, the places for contracts, and the program.
+pub struct Host {
+    pub disk: u64,
+    pub stage: u64,
+    pub places: [Place; 8],
+    pub program: Program,
+}
+
+// Where the first place of a kind is.
+pub enum Found {
+    At(usize),
+    Nothing,
+}
+
+// What a call answers: document 01's number, and the host.
+pub struct Answer {
+    pub number: u64,
+    pub host: Host,
+}
+
+impl Place {
+    // The positions that a place has slots for.
+    pub const SLOTS: u64 = 64;
+
+    pub fn none() -> Place
+        ensures { λ r. ⌜ r ≡ noPlace ⌝ }
+    {
+        let id = [0u8; 32];
+        let slots = [0u8; 64];
+        Place {
+            held: false,
+            id,
+            size: 0,
+            slots,
+        }
+    }
+}
+
+impl Prices {
+    pub fn none() -> Prices
+        ensures { λ r. ⌜ r ≡ noPrices ⌝ }
+    {
+        Prices {
+            init: 0,
+            memory: 0,
+            readbase: 0,
+            readlength: 0,
+            writebase: 0,
+            writelength: 0,
+            truncatebase: 0,
+        }
+    }
+}
+
+impl Terms {
+    // The output length, least and most. The least is also what is left of it unless the program failed.
+    pub const LEAST: u64 = 72;
+
+    pub const MOST: u64 = 65_536;
+
+    pub fn none() -> Terms
+        ensures { λ r. ⌜ r ≡ noTerms ⌝ }
+    {
+        let head = Head::empty();
+        let prices = Prices::none();
+        Terms {
+            head,
+            prices,
+            budget: 0,
+            room: 0,
+        }
+    }
+}
+
+impl Progress {
+    // The stage slot of a position that is not staged.
+    pub const NONE: u8 = 255;
+
+    pub fn none() -> Progress
+        ensures { λ r. ⌜ r ≡ noProgress ⌝ }
+    {
+        let staged = [0u8; 64];
+        Progress {
+            ran: 0,
+            tally: 0,
+            written: 0,
+            size: 0,
+            failed: false,
+            staged,
+        }
+    }
+}
+
+impl Program {
+    // No open program.
+    pub fn none() -> Program
+        ensures { λ r. ⌜ r ≡ noProgram ⌝ }
+    {
+        let terms = Terms::none();
+        let progress = Progress::none();
+        Program {
+            active: false,
+            terms,
+            came: 0,
+            progress,
+        }
+    }
+}
+
+impl Host {
+    // The bytes of a sector.
+    pub const SECTOR: u64 = 4_096;
+
+    // The most sectors of a disk area, and of a stage area.
+    pub const DISK: u64 = 64;
+
+    pub const STAGE: u64 = 16;
+
+    pub const PLACES: usize = 8;
+
+    // A host with so many sectors that holds no contract and no open program.
+    fn bare(disk: u64, stage: u64) -> Host
+        ensures { λ r. ⌜ r ≡ Says.bare disk stage ⌝ }
+    {
+        let none = Place::none();
+        let places = [none; 8];
+        let program = Program::none();
+        Host {
+            disk,
+            stage,
+            places,
+            program,
+        }
+    }
+}
