@@ -1,1 +1,8 @@
 -- The laws, a file for each subject.
+pub mod Slices
+pub mod Places
+pub mod Slots
+pub mod Sums
+pub mod Order
+pub mod Forming
+pub mod Lengths

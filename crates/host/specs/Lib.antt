@@ -3,6 +3,7 @@ pub mod Lists
 pub mod Empty
 pub mod With
 pub mod Places
+pub mod Listed
 pub mod Order
 pub mod Facts
 pub mod Calls

@@ -3,7 +3,24 @@
 ghost use mathlib.Core.Path.{_≡_};
 ghost use Rattle.host.specs.Empty.{noPlace, noPrices, noTerms, noProgress, noProgram};
 ghost use Rattle.host.specs.Empty as Says;
+ghost use Rattle.host.specs.Calls.{lengthRight, freshed};
+
+mod calls; // calls.rt: forming a contract and dropping one
+mod order; // order.rt: whether a host is in order
+mod places; // places.rt: contracts by id, and their sizes
+mod slots; // slots.rt: the slots that contracts take, and the lowest free ones
+mod staged; // staged.rt: whether the staged positions of a program are in order
+
+pub use calls::drop;
+pub use calls::form;
+pub use calls::replaced_in;
+pub use order::in_order;
+pub use places::find;
+pub use places::place_of;
+pub use places::sizes_fit;
 use sia::Head;
+pub use slots::free_copy;
+pub use slots::free_slot;
 
 // A place for a contract. Of the slots, those below its size in sectors: `slots[p]` is the disk slot of position p.
 pub struct Place {
@@ -185,4 +202,31 @@ impl Host {
             program,
         }
     }
+
+    // Makes a host for areas of these lengths in bytes, that holds no contract and no open program: 0; or 2 for a bad length, and a host
+    // with no slots, which every later call refuses with 1.
+    pub fn fresh(disk: u64, stage: u64) -> Answer
+        ensures { λ r. ⌜ r ≡ freshed 4096 disk stage ⌝ }
+    {
+        if !length_right(disk, Host::DISK) {
+            let host = Host::bare(0, 0);
+            return Answer { number: 2, host };
+        }
+        if !length_right(stage, Host::STAGE) {
+            let host = Host::bare(0, 0);
+            return Answer { number: 2, host };
+        }
+        let host = Host::bare(disk / Host::SECTOR, stage / Host::SECTOR);
+        Answer { number: 0, host }
+    }
+}
+
+// Whether an area of n bytes can be lent: whole sectors, one at least.
+fn length_right(n: u64, most: u64) -> bool
+    ensures { λ r. ⌜ r ≡ lengthRight 4096 most n ⌝ }
+{
+    if n % Host::SECTOR != 0 {
+        return false;
+    }
+    order::lent(n / Host::SECTOR, most)
 }

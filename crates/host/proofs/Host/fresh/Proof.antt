@@ -1,0 +1,54 @@
+-- `host::Host::fresh` meets its contract: a walk down the definition. Assumes nothing.
+use mathlib.Core.Path.{sym, ap, _∙_}
+use mathlib.Core.Bool.{not}
+use Rattle.area.proofs.Laws.Pick.{yes, no}
+use Rattle.host.specs.Calls.{answered, freshed}
+use Rattle.host.specs.declared.Host.{Host}
+use borrow.Author.Needs.{needs}
+use Rattle.host.proofs.Host.fresh.Statement.{statement}
+use Rattle.host.proofs.Host.fresh.Tie as tie
+
+length-right-requires : tie.Need-length-right-requires
+length-right-requires c κs = search needs
+
+bare-requires : tie.Need-bare-requires
+bare-requires c κs = search needs
+
+returns : tie.Need-returns
+unfolding freshed
+returns c =
+    yes _ _ _ (ap not (sym (c .before .before .length-right .ensures)) ∙ c .before .if1 .taken) (ap (λ (h : Host). answered 2 h) (c .bare .ensures))
+
+length-right-requires-2 : tie.Need-length-right-requires-2
+length-right-requires-2 c κs = search needs
+
+bare-requires-2 : tie.Need-bare-requires-2
+bare-requires-2 c κs = search needs
+
+returns-2 : tie.Need-returns-2
+unfolding freshed
+returns-2 c =
+    no _ _ _ (ap not (sym (c .before .before .before .before .length-right .ensures)) ∙ c .before .before .before .if1 .left)
+    (yes _ _ _ (ap not (sym (c .before .before .length-right2 .ensures)) ∙ c .before .if2 .taken) (ap (λ (h : Host). answered 2 h) (c .bare2 .ensures)))
+
+bare-requires-3 : tie.Need-bare-requires-3
+bare-requires-3 c κs = search needs
+
+returns-3 : tie.Need-returns-3
+unfolding freshed
+returns-3 c =
+    no _ _ _ (ap not (sym (c .before .before .before .before .length-right .ensures)) ∙ c .before .before .before .if1 .left)
+    (no _ _ _ (ap not (sym (c .before .before .length-right2 .ensures)) ∙ c .before .if2 .left) (ap (λ (h : Host). answered 0 h) (c .bare3 .ensures)))
+
+pub fresh-spec : {M : Type 1} → statement M
+fresh-spec =
+    tie.close
+    (tie.spec
+    length-right-requires
+    bare-requires
+    returns
+    length-right-requires-2
+    bare-requires-2
+    returns-2
+    bare-requires-3
+    returns-3)

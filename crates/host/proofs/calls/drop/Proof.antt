@@ -1,0 +1,77 @@
+-- `host::calls::drop` meets its contract: a walk down the definition. Assumes nothing.
+use mathlib.Core.Path.{refl, sym, ap, _∙_}
+use mathlib.Core.Bool.{not}
+use mathlib.Core.List.{List}
+use Rattle.area.proofs.Laws.Pick.{yes, no}
+use Rattle.host.specs.With.{withPlaces}
+use Rattle.host.specs.Calls.{answered, replaced, dropped}
+use Rattle.host.specs.declared.Place.{Place}
+use borrow.Author.Needs.{needs}
+use Rattle.host.proofs.calls.drop.Statement.{statement}
+use Rattle.host.proofs.calls.drop.Tie as tie
+
+in-order-requires : tie.Need-in-order-requires
+in-order-requires c κs = search needs
+
+returns : tie.Need-returns
+unfolding dropped withPlaces
+returns c = yes _ _ _ (ap not (sym (c .before .in-order .ensures)) ∙ c .if1 .taken) refl
+
+returns-2 : tie.Need-returns-2
+unfolding dropped withPlaces
+returns-2 c =
+    no _ _ _ (ap not (sym (c .before .before .before .in-order .ensures)) ∙ c .before .before .if1 .left)
+    (yes _ _ _ (c .if2 .taken) refl)
+
+is-read-only-requires : tie.Need-is-read-only-requires
+is-read-only-requires c κs = search needs
+
+returns-3 : tie.Need-returns-3
+unfolding dropped withPlaces
+returns-3 c =
+    no _ _ _ (ap not (sym (c .before .before .before .before .before .in-order .ensures)) ∙ c .before .before .before .before .if1 .left)
+    (no _ _ _ (c .before .before .if2 .left)
+    (yes _ _ _ (sym (c .before .is-read-only .ensures) ∙ c .if3 .taken) refl))
+
+place-of-requires : tie.Need-place-of-requires
+place-of-requires c κs = search needs
+
+returns-4 : tie.Need-returns-4
+unfolding dropped withPlaces
+returns-4 c =
+    no _ _ _ (ap not (sym (c .before .before .before .before .before .before .before .before .before .in-order .ensures)) ∙ c .before .before .before .before .before .before .before .before .if1 .left)
+    (no _ _ _ (c .before .before .before .before .before .before .if2 .left)
+    (no _ _ _ (sym (c .before .before .before .before .before .is-read-only .ensures) ∙ c .before .before .before .before .if3 .left)
+    (yes _ _ _ (ap (λ (p : Place). not (p .held)) (sym (c .before .before .place-of .ensures)) ∙ c .if4 .taken) refl)))
+
+none-requires : tie.Need-none-requires
+none-requires c κs = search needs
+
+replaced-in-requires : tie.Need-replaced-in-requires
+replaced-in-requires c κs = search needs
+
+returns-5 : tie.Need-returns-5
+unfolding dropped withPlaces
+returns-5 c =
+    let s = c .before .before .before .before .before .before .before .before .before .before .before .before in
+    no _ _ _ (ap not (sym (c .before .before .before .before .before .before .before .before .before .before .before .in-order .ensures)) ∙ c .before .before .before .before .before .before .before .before .before .before .if1 .left)
+    (no _ _ _ (c .before .before .before .before .before .before .before .before .if2 .left)
+    (no _ _ _ (sym (c .before .before .before .before .before .before .before .is-read-only .ensures) ∙ c .before .before .before .before .before .before .if3 .left)
+    (no _ _ _ (ap (λ (p : Place). not (p .held)) (sym (c .before .before .before .before .place-of .ensures)) ∙ c .before .before .if4 .left)
+    (ap (λ (l : List Place). answered 0 (withPlaces (s .args .host) l))
+    (c .replaced-in .ensures ∙ ap (λ (p : Place). replaced (s .args .id) p (s .args .host .places)) (c .before .none .ensures))))))
+
+pub drop-spec : {M : Type 1} → statement M
+drop-spec =
+    tie.close
+    (tie.spec
+    in-order-requires
+    returns
+    returns-2
+    is-read-only-requires
+    returns-3
+    place-of-requires
+    returns-4
+    none-requires
+    replaced-in-requires
+    returns-5)

@@ -1,0 +1,70 @@
+-- `host::order::in_order` meets its contract: a walk down the definition. Assumes nothing.
+use mathlib.Core.Path.{refl, sym, _∙_}
+use borrow.Author.Tests.{not-true, not-false}
+use Rattle.area.proofs.Laws.Pick.{yes, no}
+use Rattle.host.specs.Order.{inOrder}
+use Rattle.host.proofs.Laws.Order.{lent-facts}
+use borrow.Author.Needs.{needs}
+use Rattle.host.proofs.order.in_order.Statement.{statement}
+use Rattle.host.proofs.order.in_order.Tie as tie
+
+lent-requires : tie.Need-lent-requires
+lent-requires c κs = search needs
+
+returns : tie.Need-returns
+unfolding inOrder
+returns c = no _ _ _ (sym (c .before .lent .ensures) ∙ not-true _ (c .if1 .taken)) refl
+
+lent-requires-2 : tie.Need-lent-requires-2
+lent-requires-2 c κs = search needs
+
+returns-2 : tie.Need-returns-2
+unfolding inOrder
+returns-2 c =
+    yes _ _ _ (sym (c .before .before .before .lent .ensures) ∙ not-false _ (c .before .before .if1 .left))
+    (no _ _ _ (sym (c .before .lent2 .ensures) ∙ not-true _ (c .if2 .taken)) refl)
+
+places-in-order-requires : tie.Need-places-in-order-requires
+places-in-order-requires c κs = search needs
+
+returns-3 : tie.Need-returns-3
+unfolding inOrder
+returns-3 c =
+    yes _ _ _ (sym (c .before .before .before .before .before .lent .ensures) ∙ not-false _ (c .before .before .before .before .if1 .left))
+    (yes _ _ _ (sym (c .before .before .before .lent2 .ensures) ∙ not-false _ (c .before .before .if2 .left))
+    (no _ _ _ (sym (c .before .places-in-order .ensures) ∙ not-true _ (c .if3 .taken)) refl))
+
+returns-4 : tie.Need-returns-4
+unfolding inOrder
+returns-4 c =
+    yes _ _ _ (sym (c .before .before .before .before .before .before .before .lent .ensures) ∙ not-false _ (c .before .before .before .before .before .before .if1 .left))
+    (yes _ _ _ (sym (c .before .before .before .before .before .lent2 .ensures) ∙ not-false _ (c .before .before .before .before .if2 .left))
+    (yes _ _ _ (sym (c .before .before .before .places-in-order .ensures) ∙ not-false _ (c .before .before .if3 .left))
+    (yes _ _ _ (c .if4 .taken) refl)))
+
+program-in-order-requires : tie.Need-program-in-order-requires
+program-in-order-requires c κs =
+    lent-facts 64 _ (sym (c .before .before .before .before .before .before .before .lent .ensures) ∙ not-false _ (c .before .before .before .before .before .before .if1 .left)) .1
+
+returns-5 : tie.Need-returns-5
+unfolding inOrder
+returns-5 c =
+    yes _ _ _ (sym (c .before .before .before .before .before .before .before .before .lent .ensures) ∙ not-false _ (c .before .before .before .before .before .before .before .if1 .left))
+    (yes _ _ _ (sym (c .before .before .before .before .before .before .lent2 .ensures) ∙ not-false _ (c .before .before .before .before .before .if2 .left))
+    (yes _ _ _ (sym (c .before .before .before .before .places-in-order .ensures) ∙ not-false _ (c .before .before .before .if3 .left))
+    (no _ _ _ (c .before .if4 .left)
+    (c .program-in-order .ensures))))
+
+pub in-order-spec : {M : Type 1} → statement M
+in-order-spec =
+    tie.close
+    (tie.spec
+    lent-requires
+    returns
+    lent-requires-2
+    returns-2
+    places-in-order-requires
+    returns-3
+    returns-4
+    program-in-order-requires
+    returns-5)

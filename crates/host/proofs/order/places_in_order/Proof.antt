@@ -1,0 +1,66 @@
+-- `host::order::places_in_order` meets its contract: a walk down the definition. Assumes nothing.
+use mathlib.Core.Path.{refl, sym, ap, _∙_}
+use lib.Dec.{ltb, eqb}
+use borrow.Author.Tests.{not-true, not-false}
+use Rattle.area.proofs.Laws.Pick.{yes, no}
+use Rattle.sia.specs.Encode.{every}
+use Rattle.host.specs.Lists.{apart}
+use Rattle.host.specs.Order.{placesInOrder}
+use borrow.Author.Needs.{needs}
+use Rattle.host.proofs.order.places_in_order.Statement.{statement}
+use Rattle.host.proofs.order.places_in_order.Tie as tie
+
+each-in-order-requires : tie.Need-each-in-order-requires
+each-in-order-requires c κs = search needs
+
+returns : tie.Need-returns
+unfolding placesInOrder
+returns c = no _ _ _ (sym (c .before .each-in-order .ensures) ∙ not-true _ (c .if1 .taken)) refl
+
+no-twins-requires : tie.Need-no-twins-requires
+no-twins-requires c κs = search needs
+
+returns-2 : tie.Need-returns-2
+unfolding placesInOrder
+returns-2 c =
+    yes _ _ _ (sym (c .before .before .before .each-in-order .ensures) ∙ not-false _ (c .before .before .if1 .left))
+    (no _ _ _ (sym (c .before .no-twins .ensures) ∙ not-true _ (c .if2 .taken)) refl)
+
+slots-taken-requires : tie.Need-slots-taken-requires
+slots-taken-requires c κs = search needs
+
+distinct-requires : tie.Need-distinct-requires
+distinct-requires c κs = search needs
+
+returns-3 : tie.Need-returns-3
+unfolding placesInOrder
+returns-3 c =
+    yes _ _ _ (sym (c .before .before .before .before .before .before .before .each-in-order .ensures) ∙ not-false _ (c .before .before .before .before .before .before .if1 .left))
+    (yes _ _ _ (sym (c .before .before .before .before .before .no-twins .ensures) ∙ not-false _ (c .before .before .before .before .if2 .left))
+    (no _ _ _ (ap (apart eqb) (sym (c .before .before .before .slots-taken .ensures .0)) ∙ sym (c .before .distinct .ensures) ∙ not-true _ (c .if3 .taken)) refl))
+
+below-requires : tie.Need-below-requires
+below-requires c κs = search needs
+
+returns-4 : tie.Need-returns-4
+unfolding placesInOrder
+returns-4 c =
+    let s = c .before .before .before .before .before .before .before .before .before in
+    yes _ _ _ (sym (c .before .before .before .before .before .before .before .before .each-in-order .ensures) ∙ not-false _ (c .before .before .before .before .before .before .before .if1 .left))
+    (yes _ _ _ (sym (c .before .before .before .before .before .before .no-twins .ensures) ∙ not-false _ (c .before .before .before .before .before .if2 .left))
+    (yes _ _ _ (ap (apart eqb) (sym (c .before .before .before .before .slots-taken .ensures .0)) ∙ sym (c .before .before .distinct .ensures) ∙ not-false _ (c .before .if3 .left))
+    (c .below .ensures ∙ ap (every (λ n. ltb n (s .args .disk))) (c .before .before .before .before .slots-taken .ensures .0))))
+
+pub places-in-order-spec : {M : Type 1} → statement M
+places-in-order-spec =
+    tie.close
+    (tie.spec
+    each-in-order-requires
+    returns
+    no-twins-requires
+    returns-2
+    slots-taken-requires
+    distinct-requires
+    returns-3
+    below-requires
+    returns-4)

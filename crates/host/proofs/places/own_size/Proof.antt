@@ -1,0 +1,29 @@
+-- `host::places::own_size` meets its contract. Assumes nothing.
+use mathlib.Core.Path.{refl, sym, ap, _∙_}
+use mathlib.Core.Bool.{not}
+use borrow.Author.Tests.{not-true, not-false}
+use Rattle.area.proofs.Laws.Pick.{yes, no}
+use Rattle.host.specs.Places.{ownSize}
+use borrow.Author.Needs.{needs}
+use Rattle.host.proofs.places.own_size.Statement.{statement}
+use Rattle.host.proofs.places.own_size.Tie as tie
+
+returns : tie.Need-returns
+unfolding ownSize
+returns c = no _ _ _ (sym (no _ _ _ (not-true _ (c .if1 .taken)) refl)) refl
+
+same-id-requires : tie.Need-same-id-requires
+same-id-requires c κs = search needs
+
+returns-2 : tie.Need-returns-2
+unfolding ownSize
+returns-2 c =
+    no _ _ _ (sym (yes _ _ _ (not-false _ (c .before .before .before .if1 .left)) (sym (ap not (sym (c .before .same-id .ensures) ∙ c .if2 .taken))))) refl
+
+returns-3 : tie.Need-returns-3
+unfolding ownSize
+returns-3 c =
+    yes _ _ _ (sym (yes _ _ _ (not-false _ (c .before .before .before .if1 .left)) (sym (ap not (sym (c .before .same-id .ensures) ∙ c .if2 .left))))) refl
+
+pub own-size-spec : {M : Type 1} → statement M
+own-size-spec = tie.close (tie.spec returns same-id-requires returns-2 returns-3)

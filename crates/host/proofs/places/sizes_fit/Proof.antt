@@ -1,0 +1,74 @@
+-- `host::places::sizes_fit` meets its contract. The loop's invariant: the answer is whether the sizes that are left to look at are
+-- within what is left of the limit. Assumes nothing.
+use mathlib.Core.Path.{_≡_, sym, _∙_}
+use Prim.Native.Nat.{_+_, _-_}
+use native.Mathlib.Omega.{arith}
+use lib.Seq.{slice}
+use lib.Dec.{leb}
+use Rattle.host.specs.Places.{others}
+use Rattle.host.proofs.Laws.Places.{blank}
+use Rattle.host.proofs.Laws.Sums.{above-first, fits-first, fits-none, fits-further, fits-done}
+use borrow.Author.Needs.{needs}
+use Rattle.host.proofs.places.sizes_fit.Statement.{statement}
+use Rattle.host.proofs.places.sizes_fit.Tie as tie
+
+abbrev Inv-loop : tie.InvT-loop
+Inv-loop id size limit places left₀ i₀ left i = leb (size + others id places) limit ≡ leb (others id (slice i 8 places)) left
+
+abbrev μ-loop : tie.MeasureT-loop
+μ-loop id size limit places left₀ i₀ left i = 8 - i
+
+returns : tie.Need-returns Inv-loop μ-loop
+returns c = above-first _ _ _ (c .if1 .taken)
+
+loop-holds : tie.Need-loop-holds Inv-loop μ-loop
+loop-holds c = fits-first (c .before .args .id) (c .before .args .t1) 8 (c .before .good .0 .1 .0 .1) _ _ (c .if1 .left)
+
+mul-p : tie.Need-mul-p Inv-loop μ-loop
+mul-p c = search needs
+
+array-copy-out-p : tie.Need-array-copy-out-p Inv-loop μ-loop
+array-copy-out-p c = search needs
+
+own-size-requires : tie.Need-own-size-requires Inv-loop μ-loop
+own-size-requires c κs = tt
+
+returns-2 : tie.Need-returns-2 Inv-loop μ-loop
+returns-2 c =
+    let l = c .before .before .before .before .loop in
+    let s = c .before .before .before .before .before .before in
+    fits-none (s .args .id) (s .args .t1) (l .i) 8 (s .good .0 .1 .0 .1) blank _ _ (c .before .own-size .ensures) (omega arith) (c .if2 .taken) ∙ sym (l .inv)
+
+add-i : tie.Need-add-i Inv-loop μ-loop
+add-i c = search needs
+
+loop-less : tie.Need-loop-less Inv-loop μ-loop
+loop-less c = search needs
+
+loop-again : tie.Need-loop-again Inv-loop μ-loop
+loop-again c =
+    let l = c .before .before .before .before .loop in
+    let s = c .before .before .before .before .before .before in
+    l .inv ∙ fits-further (s .args .id) (s .args .t1) (l .i) 8 (s .good .0 .1 .0 .1) blank _ _ (c .before .own-size .ensures) (omega arith) (c .if2 .left)
+
+returns-3 : tie.Need-returns-3 Inv-loop μ-loop
+returns-3 c =
+    let s = c .before .before .before in
+    fits-done (s .args .id) (s .args .t1) (c .before .loop .i) 8 (s .good .0 .1 .0 .1) _ (omega arith) ∙ sym (c .before .loop .inv)
+
+pub sizes-fit-spec : {M : Type 1} → statement M
+sizes-fit-spec =
+    tie.close
+    (tie.spec
+    Inv-loop
+    μ-loop
+    returns
+    loop-holds
+    mul-p
+    array-copy-out-p
+    own-size-requires
+    returns-2
+    add-i
+    loop-less
+    loop-again
+    returns-3)

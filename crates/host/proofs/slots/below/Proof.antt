@@ -1,0 +1,71 @@
+-- `host::slots::below` meets its contract. The loop's invariant: the answer is that of the items that are left to look at.
+-- Assumes nothing.
+use mathlib.Core.Path.{_≡_, refl, sym, _∙_}
+use Prim.Native.Nat.{_-_}
+use native.Mathlib.Omega.{arith}
+use lib.ListN.{take}
+use lib.Seq.{slice}
+use lib.Dec.{ltb}
+use borrow.Author.Tests.{lt-ltb, le-ltb}
+use Rattle.sia.specs.Encode.{every}
+use Rattle.host.proofs.Laws.Slices.{every-stops, every-further, every-done}
+use borrow.Author.Needs.{needs}
+use Rattle.host.proofs.slots.below.Statement.{statement}
+use Rattle.host.proofs.slots.below.Tie as tie
+
+abbrev Inv-loop : tie.InvT-loop
+Inv-loop end limit items i₀ i = every (λ n. ltb n limit) (take end items) ≡ every (λ n. ltb n limit) (slice i end items)
+
+abbrev μ-loop : tie.MeasureT-loop
+μ-loop end limit items i₀ i = end - i
+
+loop-holds : tie.Need-loop-holds Inv-loop μ-loop
+loop-holds c = refl
+
+array-read-wide : tie.Need-array-read-wide Inv-loop μ-loop
+array-read-wide c = search needs
+
+wide-requires : tie.Need-wide-requires Inv-loop μ-loop
+wide-requires c κs = tt
+
+returns : tie.Need-returns Inv-loop μ-loop
+returns c =
+    let l = c .before .before .before .loop in
+    let s = c .before .before .before .before in
+    every-stops (λ n. ltb n (s .args .limit)) (s .args .t1) (l .i) (s .args .end) 0 (s .good .0 .1 .0 .1) (omega arith) (omega arith)
+    (le-ltb _ (s .args .limit) (rw (sym (c .before .wide .ensures)) (c .if1 .taken)))
+    ∙ sym (l .inv)
+
+add-i : tie.Need-add-i Inv-loop μ-loop
+add-i c = search needs
+
+loop-less : tie.Need-loop-less Inv-loop μ-loop
+loop-less c = search needs
+
+loop-again : tie.Need-loop-again Inv-loop μ-loop
+loop-again c =
+    let l = c .before .before .before .loop in
+    let s = c .before .before .before .before in
+    l .inv
+    ∙ every-further (λ n. ltb n (s .args .limit)) (s .args .t1) (l .i) (s .args .end) 0 (s .good .0 .1 .0 .1) (omega arith) (omega arith)
+    (lt-ltb _ (s .args .limit) (rw (sym (c .before .wide .ensures)) (c .if1 .left)))
+
+returns-2 : tie.Need-returns-2 Inv-loop μ-loop
+returns-2 c =
+    let s = c .before .before in
+    every-done (λ n. ltb n (s .args .limit)) (s .args .t1) (c .before .loop .i) (s .args .end) (omega arith) ∙ sym (c .before .loop .inv)
+
+pub below-spec : {M : Type 1} → statement M
+below-spec =
+    tie.close
+    (tie.spec
+    Inv-loop
+    μ-loop
+    loop-holds
+    array-read-wide
+    wide-requires
+    returns
+    add-i
+    loop-less
+    loop-again
+    returns-2)

@@ -1,0 +1,78 @@
+-- `host::slots::distinct` meets its contract. The loop's invariant: the answer is that of the items that are left to look at.
+-- Assumes nothing.
+use mathlib.Core.Path.{_≡_, refl, sym, ap, _∙_}
+use Prim.Native.Nat.{ℕ, _+_, _-_}
+use native.Mathlib.Omega.{arith}
+use lib.ListN.{take}
+use lib.Seq.{slice}
+use lib.Dec.{eqb}
+use Rattle.host.specs.Lists.{some, apart}
+use Rattle.host.proofs.Laws.Slices.{apart-stops, apart-further, apart-done}
+use borrow.Author.Needs.{needs}
+use Rattle.host.proofs.slots.distinct.Statement.{statement}
+use Rattle.host.proofs.slots.distinct.Tie as tie
+
+abbrev Inv-loop : tie.InvT-loop
+Inv-loop end items i₀ i = apart eqb (take end items) ≡ apart eqb (slice i end items)
+
+abbrev μ-loop : tie.MeasureT-loop
+μ-loop end items i₀ i = end - i
+
+loop-holds : tie.Need-loop-holds Inv-loop μ-loop
+loop-holds c = refl
+
+array-read-wide : tie.Need-array-read-wide Inv-loop μ-loop
+array-read-wide c = search needs
+
+wide-requires : tie.Need-wide-requires Inv-loop μ-loop
+wide-requires c κs = tt
+
+add-again : tie.Need-add-again Inv-loop μ-loop
+add-again c = search needs
+
+again-requires : tie.Need-again-requires Inv-loop μ-loop
+again-requires c κs = search needs
+
+returns : tie.Need-returns Inv-loop μ-loop
+returns c =
+    let l = c .before .before .before .before .loop in
+    let s = c .before .before .before .before .before in
+    apart-stops _ (s .args .t1) (l .i) (s .args .end) 0 (s .good .0 .1 .0 .1) (omega arith) (omega arith)
+    (ap (λ (x : ℕ). some (eqb x) (slice (l .i + 1) (s .args .end) (s .args .t1))) (sym (c .before .before .wide .ensures)) ∙ sym (c .before .again .ensures) ∙ c .if1 .taken)
+    ∙ sym (l .inv)
+
+add-i : tie.Need-add-i Inv-loop μ-loop
+add-i c = search needs
+
+loop-less : tie.Need-loop-less Inv-loop μ-loop
+loop-less c = search needs
+
+loop-again : tie.Need-loop-again Inv-loop μ-loop
+loop-again c =
+    let l = c .before .before .before .before .loop in
+    let s = c .before .before .before .before .before in
+    l .inv
+    ∙ apart-further _ (s .args .t1) (l .i) (s .args .end) 0 (s .good .0 .1 .0 .1) (omega arith) (omega arith)
+    (ap (λ (x : ℕ). some (eqb x) (slice (l .i + 1) (s .args .end) (s .args .t1))) (sym (c .before .before .wide .ensures)) ∙ sym (c .before .again .ensures) ∙ c .if1 .left)
+
+returns-2 : tie.Need-returns-2 Inv-loop μ-loop
+returns-2 c =
+    let s = c .before .before in
+    apart-done _ (s .args .t1) (c .before .loop .i) (s .args .end) (omega arith) ∙ sym (c .before .loop .inv)
+
+pub distinct-spec : {M : Type 1} → statement M
+distinct-spec =
+    tie.close
+    (tie.spec
+    Inv-loop
+    μ-loop
+    loop-holds
+    array-read-wide
+    wide-requires
+    add-again
+    again-requires
+    returns
+    add-i
+    loop-less
+    loop-again
+    returns-2)

@@ -1,0 +1,71 @@
+-- `host::slots::free_copy` meets its contract. The loop's invariant: no slot below i is free. Assumes nothing.
+use mathlib.Core.Path.{_≡_, sym, ap, _∙_}
+use mathlib.Core.Bool.{not}
+use Prim.Native.Nat.{_-_, _≤_}
+use native.Mathlib.Nat.{sub-zero}
+use native.Mathlib.Omega.{arith}
+use Rattle.area.specs.Lowest.{lowest}
+use Rattle.area.proofs.Laws.Lowest.{lowest-here, lowest-further, lowest-none}
+use Rattle.host.specs.Lists.{unused}
+use Rattle.host.specs.Places.{freeCopy}
+use borrow.Author.Needs.{needs}
+use Rattle.host.proofs.slots.free_copy.Statement.{statement}
+use Rattle.host.proofs.slots.free_copy.Tie as tie
+
+abbrev Inv-loop : tie.InvT-loop
+Inv-loop stage staged i₀ i = (i ≤ stage) × (lowest (unused staged) 0 stage ≡ lowest (unused staged) i (stage - i))
+
+abbrev μ-loop : tie.MeasureT-loop
+μ-loop stage staged i₀ i = stage - i
+
+loop-holds : tie.Need-loop-holds Inv-loop μ-loop
+unfolding freeCopy
+loop-holds c = (omega arith, ap (lowest _ 0) (sym (sub-zero _)))
+
+staged-in-requires : tie.Need-staged-in-requires Inv-loop μ-loop
+staged-in-requires c κs = tt
+
+returns : tie.Need-returns Inv-loop μ-loop
+unfolding freeCopy
+returns c =
+    let l = c .before .before .before .loop in
+    let s = c .before .before .before .before in
+    lowest-here (unused (s .args .staged)) (l .i) (s .args .stage) (omega arith) (ap not (sym (c .before .staged-in .ensures)) ∙ c .if1 .taken)
+    ∙ sym (l .inv .1)
+
+add-i : tie.Need-add-i Inv-loop μ-loop
+unfolding freeCopy
+add-i c = search needs
+
+loop-less : tie.Need-loop-less Inv-loop μ-loop
+unfolding freeCopy
+loop-less c = search needs
+
+loop-again : tie.Need-loop-again Inv-loop μ-loop
+unfolding freeCopy
+loop-again c =
+    let l = c .before .before .before .loop in
+    let s = c .before .before .before .before in (
+      omega arith,
+      l .inv .1 ∙ sym (lowest-further (unused (s .args .staged)) (l .i) (s .args .stage) (omega arith) (ap not (sym (c .before .staged-in .ensures)) ∙ c .if1 .left)),
+    )
+
+returns-2 : tie.Need-returns-2 Inv-loop μ-loop
+unfolding freeCopy
+returns-2 c =
+    let s = c .before .before in
+    lowest-none (unused (s .args .staged)) (c .before .loop .i) (s .args .stage) (omega arith) ∙ sym (c .before .loop .inv .1)
+
+pub free-copy-spec : {M : Type 1} → statement M
+free-copy-spec =
+    tie.close
+    (tie.spec
+    Inv-loop
+    μ-loop
+    loop-holds
+    staged-in-requires
+    returns
+    add-i
+    loop-less
+    loop-again
+    returns-2)

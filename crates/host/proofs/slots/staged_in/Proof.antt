@@ -1,0 +1,68 @@
+-- `host::slots::staged_in` meets its contract. The loop's invariant: the answer is that of the positions that are left to look at.
+-- Assumes nothing.
+use mathlib.Core.Path.{_≡_, sym, ap, _∙_}
+use Prim.Native.Nat.{_-_}
+use native.Mathlib.Omega.{arith}
+use lib.Seq.{slice}
+use lib.Dec.{eqb}
+use borrow.Author.Tests.{eq-eqb, ne-eqb}
+use Rattle.host.specs.Lists.{some}
+use Rattle.host.proofs.Laws.Slices.{slice-all, some-here, some-further, some-done}
+use borrow.Author.Needs.{needs}
+use Rattle.host.proofs.slots.staged_in.Statement.{statement}
+use Rattle.host.proofs.slots.staged_in.Tie as tie
+
+abbrev Inv-loop : tie.InvT-loop
+Inv-loop x staged i₀ i = some (eqb x) staged ≡ some (eqb x) (slice i 64 staged)
+
+abbrev μ-loop : tie.MeasureT-loop
+μ-loop x staged i₀ i = 64 - i
+
+loop-holds : tie.Need-loop-holds Inv-loop μ-loop
+loop-holds c = ap (some (eqb (c .args .x))) (sym (slice-all (c .args .t1) (c .good .0 .1 .0 .1)))
+
+array-read-wide : tie.Need-array-read-wide Inv-loop μ-loop
+array-read-wide c = search needs
+
+wide-requires : tie.Need-wide-requires Inv-loop μ-loop
+wide-requires c κs = tt
+
+returns : tie.Need-returns Inv-loop μ-loop
+returns c =
+    let l = c .before .before .before .loop in
+    let s = c .before .before .before .before in
+    some-here _ (s .args .t1) (l .i) 64 0 (s .good .0 .1 .0 .1) (omega arith) (omega arith) (eq-eqb _ _ (c .if1 .taken ∙ c .before .wide .ensures)) ∙ sym (l .inv)
+
+add-i : tie.Need-add-i Inv-loop μ-loop
+add-i c = search needs
+
+loop-less : tie.Need-loop-less Inv-loop μ-loop
+loop-less c = search needs
+
+loop-again : tie.Need-loop-again Inv-loop μ-loop
+loop-again c =
+    let l = c .before .before .before .loop in
+    let s = c .before .before .before .before in
+    l .inv
+    ∙ some-further _ (s .args .t1) (l .i) 64 0 (s .good .0 .1 .0 .1) (omega arith) (omega arith)
+    (ne-eqb _ _ (λ e. c .if1 .left (e ∙ sym (c .before .wide .ensures))))
+
+returns-2 : tie.Need-returns-2 Inv-loop μ-loop
+returns-2 c =
+    let s = c .before .before in
+    some-done _ (s .args .t1) (c .before .loop .i) 64 (omega arith) ∙ sym (c .before .loop .inv)
+
+pub staged-in-spec : {M : Type 1} → statement M
+staged-in-spec =
+    tie.close
+    (tie.spec
+    Inv-loop
+    μ-loop
+    loop-holds
+    array-read-wide
+    wide-requires
+    returns
+    add-i
+    loop-less
+    loop-again
+    returns-2)
