@@ -20,7 +20,9 @@ returns c = yes _ _ _ (ap not (sym (c .before .in-order .ensures)) ∙ c .if1 .t
 returns-2 : tie.Need-returns-2
 unfolding formed withPlaces
 returns-2 c =
-    no _ _ _ (ap not (sym (c .before .before .before .in-order .ensures)) ∙ c .before .before .if1 .left)
+    let at-if1 = c .before .before in
+    let at-in-order = at-if1 .before in
+    no _ _ _ (ap not (sym (at-in-order .in-order .ensures)) ∙ at-if1 .if1 .left)
     (yes _ _ _ (c .if2 .taken) refl)
 
 is-read-only-requires : tie.Need-is-read-only-requires
@@ -29,8 +31,11 @@ is-read-only-requires c κs = search needs
 returns-3 : tie.Need-returns-3
 unfolding formed withPlaces
 returns-3 c =
-    no _ _ _ (ap not (sym (c .before .before .before .before .before .in-order .ensures)) ∙ c .before .before .before .before .if1 .left)
-    (no _ _ _ (c .before .before .if2 .left)
+    let at-if2 = c .before .before in
+    let at-if1 = at-if2 .before .before in
+    let at-in-order = at-if1 .before in
+    no _ _ _ (ap not (sym (at-in-order .in-order .ensures)) ∙ at-if1 .if1 .left)
+    (no _ _ _ (at-if2 .if2 .left)
     (yes _ _ _ (sym (c .before .is-read-only .ensures) ∙ c .if3 .taken) refl))
 
 place-of-requires : tie.Need-place-of-requires
@@ -39,9 +44,14 @@ place-of-requires c κs = search needs
 returns-4 : tie.Need-returns-4
 unfolding formed withPlaces
 returns-4 c =
-    no _ _ _ (ap not (sym (c .before .before .before .before .before .before .before .before .in-order .ensures)) ∙ c .before .before .before .before .before .before .before .if1 .left)
-    (no _ _ _ (c .before .before .before .before .before .if2 .left)
-    (no _ _ _ (sym (c .before .before .before .before .is-read-only .ensures) ∙ c .before .before .before .if3 .left)
+    let at-if3 = c .before .before .before in
+    let at-is-read-only = at-if3 .before in
+    let at-if2 = at-is-read-only .before in
+    let at-if1 = at-if2 .before .before in
+    let at-in-order = at-if1 .before in
+    no _ _ _ (ap not (sym (at-in-order .in-order .ensures)) ∙ at-if1 .if1 .left)
+    (no _ _ _ (at-if2 .if2 .left)
+    (no _ _ _ (sym (at-is-read-only .is-read-only .ensures) ∙ at-if3 .if3 .left)
     (yes _ _ _ (ap (λ (p : Place). p .held) (sym (c .before .place-of .ensures)) ∙ c .if4 .taken) refl)))
 
 has-free-requires : tie.Need-has-free-requires
@@ -50,10 +60,17 @@ has-free-requires c κs = search needs
 returns-5 : tie.Need-returns-5
 unfolding formed withPlaces
 returns-5 c =
-    no _ _ _ (ap not (sym (c .before .before .before .before .before .before .before .before .before .before .in-order .ensures)) ∙ c .before .before .before .before .before .before .before .before .before .if1 .left)
-    (no _ _ _ (c .before .before .before .before .before .before .before .if2 .left)
-    (no _ _ _ (sym (c .before .before .before .before .before .before .is-read-only .ensures) ∙ c .before .before .before .before .before .if3 .left)
-    (no _ _ _ (ap (λ (p : Place). p .held) (sym (c .before .before .before .place-of .ensures)) ∙ c .before .before .if4 .left)
+    let at-if4 = c .before .before in
+    let at-place-of = at-if4 .before in
+    let at-if3 = at-place-of .before .before in
+    let at-is-read-only = at-if3 .before in
+    let at-if2 = at-is-read-only .before in
+    let at-if1 = at-if2 .before .before in
+    let at-in-order = at-if1 .before in
+    no _ _ _ (ap not (sym (at-in-order .in-order .ensures)) ∙ at-if1 .if1 .left)
+    (no _ _ _ (at-if2 .if2 .left)
+    (no _ _ _ (sym (at-is-read-only .is-read-only .ensures) ∙ at-if3 .if3 .left)
+    (no _ _ _ (ap (λ (p : Place). p .held) (sym (at-place-of .place-of .ensures)) ∙ at-if4 .if4 .left)
     (yes _ _ _ (ap not (sym (c .before .has-free .ensures)) ∙ c .if5 .taken) refl))))
 
 formed-at-requires : tie.Need-formed-at-requires
@@ -62,12 +79,20 @@ formed-at-requires c κs = search needs
 returns-6 : tie.Need-returns-6
 unfolding formed withPlaces
 returns-6 c =
-    let s = c .before .before .before .before .before .before .before .before .before .before .before .before in
-    no _ _ _ (ap not (sym (c .before .before .before .before .before .before .before .before .before .before .before .in-order .ensures)) ∙ c .before .before .before .before .before .before .before .before .before .before .if1 .left)
-    (no _ _ _ (c .before .before .before .before .before .before .before .before .if2 .left)
-    (no _ _ _ (sym (c .before .before .before .before .before .before .before .is-read-only .ensures) ∙ c .before .before .before .before .before .before .if3 .left)
-    (no _ _ _ (ap (λ (p : Place). p .held) (sym (c .before .before .before .before .place-of .ensures)) ∙ c .before .before .before .if4 .left)
-    (no _ _ _ (ap not (sym (c .before .before .has-free .ensures)) ∙ c .before .if5 .left)
+    let at-has-free = c .before .before in
+    let at-if4 = at-has-free .before in
+    let at-place-of = at-if4 .before in
+    let at-if3 = at-place-of .before .before in
+    let at-is-read-only = at-if3 .before in
+    let at-if2 = at-is-read-only .before in
+    let at-if1 = at-if2 .before .before in
+    let at-in-order = at-if1 .before in
+    let s = at-in-order .before in
+    no _ _ _ (ap not (sym (at-in-order .in-order .ensures)) ∙ at-if1 .if1 .left)
+    (no _ _ _ (at-if2 .if2 .left)
+    (no _ _ _ (sym (at-is-read-only .is-read-only .ensures) ∙ at-if3 .if3 .left)
+    (no _ _ _ (ap (λ (p : Place). p .held) (sym (at-place-of .place-of .ensures)) ∙ at-if4 .if4 .left)
+    (no _ _ _ (ap not (sym (at-has-free .has-free .ensures)) ∙ c .before .if5 .left)
     (ap (λ (l : List Place). answered 0 (withPlaces (s .args .host) l)) (c .formed-at .ensures))))))
 
 pub form-spec : {M : Type 1} → statement M

@@ -13,7 +13,9 @@ returns c = no _ _ _ (not-true _ (c .if1 .taken)) refl
 
 returns-2 : tie.Need-returns-2
 unfolding twins
-returns-2 c = yes _ _ _ (not-false _ (c .before .before .if1 .left)) (no _ _ _ (not-true _ (c .if2 .taken)) refl)
+returns-2 c =
+    let at-if1 = c .before .before in
+    yes _ _ _ (not-false _ (at-if1 .if1 .left)) (no _ _ _ (not-true _ (c .if2 .taken)) refl)
 
 same-id-requires : tie.Need-same-id-requires
 same-id-requires c κs = search needs
@@ -21,7 +23,9 @@ same-id-requires c κs = search needs
 returns-3 : tie.Need-returns-3
 unfolding twins
 returns-3 c =
-    yes _ _ _ (not-false _ (c .before .before .before .before .before .if1 .left)) (yes _ _ _ (not-false _ (c .before .before .before .if2 .left)) (c .same-id .ensures))
+    let at-if2 = c .before .before .before in
+    let at-if1 = at-if2 .before .before in
+    yes _ _ _ (not-false _ (at-if1 .if1 .left)) (yes _ _ _ (not-false _ (at-if2 .if2 .left)) (c .same-id .ensures))
 
 pub are-twins-spec : {M : Type 1} → statement M
 are-twins-spec = tie.close (tie.spec returns returns-2 same-id-requires returns-3)

@@ -21,7 +21,9 @@ lent-requires-2 c κs = search needs
 returns-2 : tie.Need-returns-2
 unfolding inOrder
 returns-2 c =
-    yes _ _ _ (sym (c .before .before .before .lent .ensures) ∙ not-false _ (c .before .before .if1 .left))
+    let at-if1 = c .before .before in
+    let at-lent = at-if1 .before in
+    yes _ _ _ (sym (at-lent .lent .ensures) ∙ not-false _ (at-if1 .if1 .left))
     (no _ _ _ (sym (c .before .lent2 .ensures) ∙ not-true _ (c .if2 .taken)) refl)
 
 places-in-order-requires : tie.Need-places-in-order-requires
@@ -30,28 +32,46 @@ places-in-order-requires c κs = search needs
 returns-3 : tie.Need-returns-3
 unfolding inOrder
 returns-3 c =
-    yes _ _ _ (sym (c .before .before .before .before .before .lent .ensures) ∙ not-false _ (c .before .before .before .before .if1 .left))
-    (yes _ _ _ (sym (c .before .before .before .lent2 .ensures) ∙ not-false _ (c .before .before .if2 .left))
+    let at-if2 = c .before .before in
+    let at-lent2 = at-if2 .before in
+    let at-if1 = at-lent2 .before in
+    let at-lent = at-if1 .before in
+    yes _ _ _ (sym (at-lent .lent .ensures) ∙ not-false _ (at-if1 .if1 .left))
+    (yes _ _ _ (sym (at-lent2 .lent2 .ensures) ∙ not-false _ (at-if2 .if2 .left))
     (no _ _ _ (sym (c .before .places-in-order .ensures) ∙ not-true _ (c .if3 .taken)) refl))
 
 returns-4 : tie.Need-returns-4
 unfolding inOrder
 returns-4 c =
-    yes _ _ _ (sym (c .before .before .before .before .before .before .before .lent .ensures) ∙ not-false _ (c .before .before .before .before .before .before .if1 .left))
-    (yes _ _ _ (sym (c .before .before .before .before .before .lent2 .ensures) ∙ not-false _ (c .before .before .before .before .if2 .left))
-    (yes _ _ _ (sym (c .before .before .before .places-in-order .ensures) ∙ not-false _ (c .before .before .if3 .left))
+    let at-if3 = c .before .before in
+    let at-places-in-order = at-if3 .before in
+    let at-if2 = at-places-in-order .before in
+    let at-lent2 = at-if2 .before in
+    let at-if1 = at-lent2 .before in
+    let at-lent = at-if1 .before in
+    yes _ _ _ (sym (at-lent .lent .ensures) ∙ not-false _ (at-if1 .if1 .left))
+    (yes _ _ _ (sym (at-lent2 .lent2 .ensures) ∙ not-false _ (at-if2 .if2 .left))
+    (yes _ _ _ (sym (at-places-in-order .places-in-order .ensures) ∙ not-false _ (at-if3 .if3 .left))
     (yes _ _ _ (c .if4 .taken) refl)))
 
 program-in-order-requires : tie.Need-program-in-order-requires
 program-in-order-requires c κs =
-    lent-facts 64 _ (sym (c .before .before .before .before .before .before .before .lent .ensures) ∙ not-false _ (c .before .before .before .before .before .before .if1 .left)) .1
+    let at-if1 = c .before .before .before .before .before .before in
+    let at-lent = at-if1 .before in
+    lent-facts 64 _ (sym (at-lent .lent .ensures) ∙ not-false _ (at-if1 .if1 .left)) .1
 
 returns-5 : tie.Need-returns-5
 unfolding inOrder
 returns-5 c =
-    yes _ _ _ (sym (c .before .before .before .before .before .before .before .before .lent .ensures) ∙ not-false _ (c .before .before .before .before .before .before .before .if1 .left))
-    (yes _ _ _ (sym (c .before .before .before .before .before .before .lent2 .ensures) ∙ not-false _ (c .before .before .before .before .before .if2 .left))
-    (yes _ _ _ (sym (c .before .before .before .before .places-in-order .ensures) ∙ not-false _ (c .before .before .before .if3 .left))
+    let at-if3 = c .before .before .before in
+    let at-places-in-order = at-if3 .before in
+    let at-if2 = at-places-in-order .before in
+    let at-lent2 = at-if2 .before in
+    let at-if1 = at-lent2 .before in
+    let at-lent = at-if1 .before in
+    yes _ _ _ (sym (at-lent .lent .ensures) ∙ not-false _ (at-if1 .if1 .left))
+    (yes _ _ _ (sym (at-lent2 .lent2 .ensures) ∙ not-false _ (at-if2 .if2 .left))
+    (yes _ _ _ (sym (at-places-in-order .places-in-order .ensures) ∙ not-false _ (at-if3 .if3 .left))
     (no _ _ _ (c .before .if4 .left)
     (c .program-in-order .ensures))))
 

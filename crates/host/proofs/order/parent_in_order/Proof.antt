@@ -20,7 +20,8 @@ place-of-requires c κs = search needs
 returns-2 : tie.Need-returns-2
 unfolding parentInOrder
 returns-2 c =
-    no _ _ _ (sym (c .before .before .is-read-only .ensures) ∙ c .before .if1 .left) (ap (λ (p : Place). p .held) (c .place-of .ensures))
+    let at-is-read-only = c .before .before in
+    no _ _ _ (sym (at-is-read-only .is-read-only .ensures) ∙ c .before .if1 .left) (ap (λ (p : Place). p .held) (c .place-of .ensures))
 
 pub parent-in-order-spec : {M : Type 1} → statement M
 parent-in-order-spec =

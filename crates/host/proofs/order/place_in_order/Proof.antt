@@ -18,17 +18,24 @@ is-read-only-requires c κs = search needs
 returns-2 : tie.Need-returns-2
 unfolding placeInOrder
 returns-2 c =
-    no _ _ _ (c .before .before .before .if1 .left) (no _ _ _ (ap not (sym (c .before .is-read-only .ensures) ∙ c .if2 .taken)) refl)
+    let at-if1 = c .before .before .before in
+    no _ _ _ (at-if1 .if1 .left) (no _ _ _ (ap not (sym (c .before .is-read-only .ensures) ∙ c .if2 .taken)) refl)
 
 returns-3 : tie.Need-returns-3
 unfolding placeInOrder
 returns-3 c =
-    no _ _ _ (c .before .before .before .before .before .if1 .left) (yes _ _ _ (ap not (sym (c .before .before .before .is-read-only .ensures) ∙ c .before .before .if2 .left)) (no _ _ _ (ne-eqb _ _ (c .if3 .taken)) refl))
+    let at-if2 = c .before .before in
+    let at-is-read-only = at-if2 .before in
+    let at-if1 = at-is-read-only .before .before in
+    no _ _ _ (at-if1 .if1 .left) (yes _ _ _ (ap not (sym (at-is-read-only .is-read-only .ensures) ∙ at-if2 .if2 .left)) (no _ _ _ (ne-eqb _ _ (c .if3 .taken)) refl))
 
 returns-4 : tie.Need-returns-4
 unfolding placeInOrder
 returns-4 c =
-    no _ _ _ (c .before .before .before .before .before .before .if1 .left) (yes _ _ _ (ap not (sym (c .before .before .before .before .is-read-only .ensures) ∙ c .before .before .before .if2 .left)) (yes _ _ _ (eq-eqb _ _ (c .before .if3 .left)) refl))
+    let at-if2 = c .before .before .before in
+    let at-is-read-only = at-if2 .before in
+    let at-if1 = at-is-read-only .before .before in
+    no _ _ _ (at-if1 .if1 .left) (yes _ _ _ (ap not (sym (at-is-read-only .is-read-only .ensures) ∙ at-if2 .if2 .left)) (yes _ _ _ (eq-eqb _ _ (c .before .if3 .left)) refl))
 
 pub place-in-order-spec : {M : Type 1} → statement M
 place-in-order-spec =

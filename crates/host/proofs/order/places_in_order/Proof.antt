@@ -23,7 +23,9 @@ no-twins-requires c κs = search needs
 returns-2 : tie.Need-returns-2
 unfolding placesInOrder
 returns-2 c =
-    yes _ _ _ (sym (c .before .before .before .each-in-order .ensures) ∙ not-false _ (c .before .before .if1 .left))
+    let at-if1 = c .before .before in
+    let at-each-in-order = at-if1 .before in
+    yes _ _ _ (sym (at-each-in-order .each-in-order .ensures) ∙ not-false _ (at-if1 .if1 .left))
     (no _ _ _ (sym (c .before .no-twins .ensures) ∙ not-true _ (c .if2 .taken)) refl)
 
 slots-taken-requires : tie.Need-slots-taken-requires
@@ -35,9 +37,14 @@ distinct-requires c κs = search needs
 returns-3 : tie.Need-returns-3
 unfolding placesInOrder
 returns-3 c =
-    yes _ _ _ (sym (c .before .before .before .before .before .before .before .each-in-order .ensures) ∙ not-false _ (c .before .before .before .before .before .before .if1 .left))
-    (yes _ _ _ (sym (c .before .before .before .before .before .no-twins .ensures) ∙ not-false _ (c .before .before .before .before .if2 .left))
-    (no _ _ _ (ap (apart eqb) (sym (c .before .before .before .slots-taken .ensures .0)) ∙ sym (c .before .distinct .ensures) ∙ not-true _ (c .if3 .taken)) refl))
+    let at-slots-taken = c .before .before .before in
+    let at-if2 = at-slots-taken .before in
+    let at-no-twins = at-if2 .before in
+    let at-if1 = at-no-twins .before in
+    let at-each-in-order = at-if1 .before in
+    yes _ _ _ (sym (at-each-in-order .each-in-order .ensures) ∙ not-false _ (at-if1 .if1 .left))
+    (yes _ _ _ (sym (at-no-twins .no-twins .ensures) ∙ not-false _ (at-if2 .if2 .left))
+    (no _ _ _ (ap (apart eqb) (sym (at-slots-taken .slots-taken .ensures .0)) ∙ sym (c .before .distinct .ensures) ∙ not-true _ (c .if3 .taken)) refl))
 
 below-requires : tie.Need-below-requires
 below-requires c κs = search needs
@@ -45,11 +52,17 @@ below-requires c κs = search needs
 returns-4 : tie.Need-returns-4
 unfolding placesInOrder
 returns-4 c =
-    let s = c .before .before .before .before .before .before .before .before .before in
-    yes _ _ _ (sym (c .before .before .before .before .before .before .before .before .each-in-order .ensures) ∙ not-false _ (c .before .before .before .before .before .before .before .if1 .left))
-    (yes _ _ _ (sym (c .before .before .before .before .before .before .no-twins .ensures) ∙ not-false _ (c .before .before .before .before .before .if2 .left))
-    (yes _ _ _ (ap (apart eqb) (sym (c .before .before .before .before .slots-taken .ensures .0)) ∙ sym (c .before .before .distinct .ensures) ∙ not-false _ (c .before .if3 .left))
-    (c .below .ensures ∙ ap (every (λ n. ltb n (s .args .disk))) (c .before .before .before .before .slots-taken .ensures .0))))
+    let at-distinct = c .before .before in
+    let at-slots-taken = at-distinct .before .before in
+    let at-if2 = at-slots-taken .before in
+    let at-no-twins = at-if2 .before in
+    let at-if1 = at-no-twins .before in
+    let at-each-in-order = at-if1 .before in
+    let s = at-each-in-order .before in
+    yes _ _ _ (sym (at-each-in-order .each-in-order .ensures) ∙ not-false _ (at-if1 .if1 .left))
+    (yes _ _ _ (sym (at-no-twins .no-twins .ensures) ∙ not-false _ (at-if2 .if2 .left))
+    (yes _ _ _ (ap (apart eqb) (sym (at-slots-taken .slots-taken .ensures .0)) ∙ sym (at-distinct .distinct .ensures) ∙ not-false _ (c .before .if3 .left))
+    (c .below .ensures ∙ ap (every (λ n. ltb n (s .args .disk))) (at-slots-taken .slots-taken .ensures .0))))
 
 pub places-in-order-spec : {M : Type 1} → statement M
 places-in-order-spec =

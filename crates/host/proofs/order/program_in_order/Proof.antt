@@ -17,7 +17,9 @@ returns c = no _ _ _ (sym (c .before .terms-in-order .ensures) ∙ not-true _ (c
 returns-2 : tie.Need-returns-2
 unfolding programInOrder
 returns-2 c =
-    yes _ _ _ (sym (c .before .before .before .before .before .terms-in-order .ensures) ∙ not-false _ (c .before .before .before .before .if1 .left))
+    let at-if1 = c .before .before .before .before in
+    let at-terms-in-order = at-if1 .before in
+    yes _ _ _ (sym (at-terms-in-order .terms-in-order .ensures) ∙ not-false _ (at-if1 .if1 .left))
     (no _ _ _ (lt-leb _ _ (c .if2 .taken)) refl)
 
 progress-in-order-requires : tie.Need-progress-in-order-requires
@@ -26,7 +28,9 @@ progress-in-order-requires c κs = search needs
 returns-3 : tie.Need-returns-3
 unfolding programInOrder
 returns-3 c =
-    yes _ _ _ (sym (c .before .before .before .before .before .before .terms-in-order .ensures) ∙ not-false _ (c .before .before .before .before .before .if1 .left))
+    let at-if1 = c .before .before .before .before .before in
+    let at-terms-in-order = at-if1 .before in
+    yes _ _ _ (sym (at-terms-in-order .terms-in-order .ensures) ∙ not-false _ (at-if1 .if1 .left))
     (yes _ _ _ (le-leb _ _ (c .before .if2 .left))
     (c .progress-in-order .ensures))
 

@@ -20,21 +20,31 @@ within-requires c κs = search needs
 returns-2 : tie.Need-returns-2
 unfolding termsInOrder
 returns-2 c =
-    yes _ _ _ (sym (c .before .before .before .parent-in-order .ensures) ∙ not-false _ (c .before .before .if1 .left))
+    let at-if1 = c .before .before in
+    let at-parent-in-order = at-if1 .before in
+    yes _ _ _ (sym (at-parent-in-order .parent-in-order .ensures) ∙ not-false _ (at-if1 .if1 .left))
     (no _ _ _ (sym (c .before .within .ensures) ∙ not-true _ (c .if2 .taken)) refl)
 
 returns-3 : tie.Need-returns-3
 unfolding termsInOrder
 returns-3 c =
-    yes _ _ _ (sym (c .before .before .before .before .before .parent-in-order .ensures) ∙ not-false _ (c .before .before .before .before .if1 .left))
-    (yes _ _ _ (sym (c .before .before .before .within .ensures) ∙ not-false _ (c .before .before .if2 .left))
+    let at-if2 = c .before .before in
+    let at-within = at-if2 .before in
+    let at-if1 = at-within .before in
+    let at-parent-in-order = at-if1 .before in
+    yes _ _ _ (sym (at-parent-in-order .parent-in-order .ensures) ∙ not-false _ (at-if1 .if1 .left))
+    (yes _ _ _ (sym (at-within .within .ensures) ∙ not-false _ (at-if2 .if2 .left))
     (no _ _ _ (lt-leb _ _ (c .if3 .taken)) refl))
 
 returns-4 : tie.Need-returns-4
 unfolding termsInOrder
 returns-4 c =
-    yes _ _ _ (sym (c .before .before .before .before .before .before .parent-in-order .ensures) ∙ not-false _ (c .before .before .before .before .before .if1 .left))
-    (yes _ _ _ (sym (c .before .before .before .before .within .ensures) ∙ not-false _ (c .before .before .before .if2 .left))
+    let at-if2 = c .before .before .before in
+    let at-within = at-if2 .before in
+    let at-if1 = at-within .before in
+    let at-parent-in-order = at-if1 .before in
+    yes _ _ _ (sym (at-parent-in-order .parent-in-order .ensures) ∙ not-false _ (at-if1 .if1 .left))
+    (yes _ _ _ (sym (at-within .within .ensures) ∙ not-false _ (at-if2 .if2 .left))
     (yes _ _ _ (le-leb _ _ (c .before .if3 .left)) refl))
 
 pub terms-in-order-spec : {M : Type 1} → statement M

@@ -16,7 +16,9 @@ same-id-requires c κs = search needs
 
 returns-2 : tie.Need-returns-2
 unfolding hasId
-returns-2 c = yes _ _ _ (not-false _ (c .before .before .if1 .left)) (c .same-id .ensures)
+returns-2 c =
+    let at-if1 = c .before .before in
+    yes _ _ _ (not-false _ (at-if1 .if1 .left)) (c .same-id .ensures)
 
 pub has-id-spec : {M : Type 1} → statement M
 has-id-spec = tie.close (tie.spec returns same-id-requires returns-2)

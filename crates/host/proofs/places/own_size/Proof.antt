@@ -18,12 +18,14 @@ same-id-requires c κs = search needs
 returns-2 : tie.Need-returns-2
 unfolding ownSize
 returns-2 c =
-    no _ _ _ (sym (yes _ _ _ (not-false _ (c .before .before .before .if1 .left)) (sym (ap not (sym (c .before .same-id .ensures) ∙ c .if2 .taken))))) refl
+    let at-if1 = c .before .before .before in
+    no _ _ _ (sym (yes _ _ _ (not-false _ (at-if1 .if1 .left)) (sym (ap not (sym (c .before .same-id .ensures) ∙ c .if2 .taken))))) refl
 
 returns-3 : tie.Need-returns-3
 unfolding ownSize
 returns-3 c =
-    yes _ _ _ (sym (yes _ _ _ (not-false _ (c .before .before .before .if1 .left)) (sym (ap not (sym (c .before .same-id .ensures) ∙ c .if2 .left))))) refl
+    let at-if1 = c .before .before .before in
+    yes _ _ _ (sym (yes _ _ _ (not-false _ (at-if1 .if1 .left)) (sym (ap not (sym (c .before .same-id .ensures) ∙ c .if2 .left))))) refl
 
 pub own-size-spec : {M : Type 1} → statement M
 own-size-spec = tie.close (tie.spec returns same-id-requires returns-2 returns-3)

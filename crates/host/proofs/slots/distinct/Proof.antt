@@ -35,10 +35,11 @@ again-requires c κs = search needs
 
 returns : tie.Need-returns Inv-loop μ-loop
 returns c =
-    let l = c .before .before .before .before .loop in
-    let s = c .before .before .before .before .before in
+    let at-wide = c .before .before in
+    let l = at-wide .before .before .loop in
+    let s = at-wide .before .before .before in
     apart-stops _ (s .args .t1) (l .i) (s .args .end) 0 (s .good .0 .1 .0 .1) (omega arith) (omega arith)
-    (ap (λ (x : ℕ). some (eqb x) (slice (l .i + 1) (s .args .end) (s .args .t1))) (sym (c .before .before .wide .ensures)) ∙ sym (c .before .again .ensures) ∙ c .if1 .taken)
+    (ap (λ (x : ℕ). some (eqb x) (slice (l .i + 1) (s .args .end) (s .args .t1))) (sym (at-wide .wide .ensures)) ∙ sym (c .before .again .ensures) ∙ c .if1 .taken)
     ∙ sym (l .inv)
 
 add-i : tie.Need-add-i Inv-loop μ-loop
@@ -49,11 +50,12 @@ loop-less c = search needs
 
 loop-again : tie.Need-loop-again Inv-loop μ-loop
 loop-again c =
-    let l = c .before .before .before .before .loop in
-    let s = c .before .before .before .before .before in
+    let at-wide = c .before .before in
+    let l = at-wide .before .before .loop in
+    let s = at-wide .before .before .before in
     l .inv
     ∙ apart-further _ (s .args .t1) (l .i) (s .args .end) 0 (s .good .0 .1 .0 .1) (omega arith) (omega arith)
-    (ap (λ (x : ℕ). some (eqb x) (slice (l .i + 1) (s .args .end) (s .args .t1))) (sym (c .before .before .wide .ensures)) ∙ sym (c .before .again .ensures) ∙ c .if1 .left)
+    (ap (λ (x : ℕ). some (eqb x) (slice (l .i + 1) (s .args .end) (s .args .t1))) (sym (at-wide .wide .ensures)) ∙ sym (c .before .again .ensures) ∙ c .if1 .left)
 
 returns-2 : tie.Need-returns-2 Inv-loop μ-loop
 returns-2 c =

@@ -19,7 +19,6 @@ abbrev μ-loop : tie.MeasureT-loop
 μ-loop stage staged i₀ i = stage - i
 
 loop-holds : tie.Need-loop-holds Inv-loop μ-loop
-unfolding freeCopy
 loop-holds c = (omega arith, ap (lowest _ 0) (sym (sub-zero _)))
 
 staged-in-requires : tie.Need-staged-in-requires Inv-loop μ-loop
@@ -34,15 +33,12 @@ returns c =
     ∙ sym (l .inv .1)
 
 add-i : tie.Need-add-i Inv-loop μ-loop
-unfolding freeCopy
 add-i c = search needs
 
 loop-less : tie.Need-loop-less Inv-loop μ-loop
-unfolding freeCopy
 loop-less c = search needs
 
 loop-again : tie.Need-loop-again Inv-loop μ-loop
-unfolding freeCopy
 loop-again c =
     let l = c .before .before .before .loop in
     let s = c .before .before .before .before in (

@@ -24,43 +24,44 @@ slots-taken-requires : tie.Need-slots-taken-requires Inv-loop μ-loop
 slots-taken-requires c κs = tt
 
 loop-holds : tie.Need-loop-holds Inv-loop μ-loop
-unfolding freeSlot
 loop-holds c = (omega arith, ap (lowest _ 0) (sym (sub-zero _)))
 
 again-requires : tie.Need-again-requires Inv-loop μ-loop
-again-requires c κs = c .before .before .before .slots-taken .ensures .1
+again-requires c κs =
+    let at-slots-taken = c .before .before .before in
+    at-slots-taken .slots-taken .ensures .1
 
 returns : tie.Need-returns Inv-loop μ-loop
 unfolding freeSlot
 returns c =
     let l = c .before .before .before .loop in
-    let s = c .before .before .before .before .before .before in
-    lowest-here (unused (take (c .before .before .before .before .before .slots-taken .result .count) (c .before .before .before .before .before .slots-taken .result .items))) (l .i) (s .args .disk) (omega arith) (ap not (sym (c .before .again .ensures)) ∙ c .if1 .taken)
-    ∙ sym (l .inv .1) ∙ ap (λ (x : List ℕ). lowest (unused x) 0 (s .args .disk)) (c .before .before .before .before .before .slots-taken .ensures .0)
+    let at-slots-taken = c .before .before .before .before .before in
+    let s = at-slots-taken .before in
+    lowest-here (unused (take (at-slots-taken .slots-taken .result .count) (at-slots-taken .slots-taken .result .items))) (l .i) (s .args .disk) (omega arith) (ap not (sym (c .before .again .ensures)) ∙ c .if1 .taken)
+    ∙ sym (l .inv .1) ∙ ap (λ (x : List ℕ). lowest (unused x) 0 (s .args .disk)) (at-slots-taken .slots-taken .ensures .0)
 
 add-i : tie.Need-add-i Inv-loop μ-loop
-unfolding freeSlot
 add-i c = search needs
 
 loop-less : tie.Need-loop-less Inv-loop μ-loop
-unfolding freeSlot
 loop-less c = search needs
 
 loop-again : tie.Need-loop-again Inv-loop μ-loop
-unfolding freeSlot
 loop-again c =
     let l = c .before .before .before .loop in
-    let s = c .before .before .before .before .before .before in (
+    let at-slots-taken = c .before .before .before .before .before in
+    let s = at-slots-taken .before in (
       omega arith,
-      l .inv .1 ∙ sym (lowest-further (unused (take (c .before .before .before .before .before .slots-taken .result .count) (c .before .before .before .before .before .slots-taken .result .items))) (l .i) (s .args .disk) (omega arith) (ap not (sym (c .before .again .ensures)) ∙ c .if1 .left)),
+      l .inv .1 ∙ sym (lowest-further (unused (take (at-slots-taken .slots-taken .result .count) (at-slots-taken .slots-taken .result .items))) (l .i) (s .args .disk) (omega arith) (ap not (sym (c .before .again .ensures)) ∙ c .if1 .left)),
     )
 
 returns-2 : tie.Need-returns-2 Inv-loop μ-loop
 unfolding freeSlot
 returns-2 c =
-    let s = c .before .before .before .before in
-    lowest-none (unused (take (c .before .before .before .slots-taken .result .count) (c .before .before .before .slots-taken .result .items))) (c .before .loop .i) (s .args .disk) (omega arith)
-    ∙ sym (c .before .loop .inv .1) ∙ ap (λ (x : List ℕ). lowest (unused x) 0 (s .args .disk)) (c .before .before .before .slots-taken .ensures .0)
+    let at-slots-taken = c .before .before .before in
+    let s = at-slots-taken .before in
+    lowest-none (unused (take (at-slots-taken .slots-taken .result .count) (at-slots-taken .slots-taken .result .items))) (c .before .loop .i) (s .args .disk) (omega arith)
+    ∙ sym (c .before .loop .inv .1) ∙ ap (λ (x : List ℕ). lowest (unused x) 0 (s .args .disk)) (at-slots-taken .slots-taken .ensures .0)
 
 pub free-slot-spec : {M : Type 1} → statement M
 free-slot-spec =

@@ -48,21 +48,24 @@ loop-less c = search needs
 
 loop-again : tie.Need-loop-again Inv-loop μ-loop
 loop-again c =
-    let s = c .before .before .before .before .before .before .before in (
+    let at-sectors = c .before .before in
+    let s = at-sectors .before .before .before .before .before in (
       omega arith,
       omega (arith, c .before .loop .inv .1),
       simp length-set (c .before .loop .inv .2),
       grown (c .before .loop .items) (s .args .p .slots) (listed (s .args .s)) (c .before .loop .count) (c .before .loop .i) (c .before .loop .inv .2) (placed (s .args .p) _ (s .good .1 .0))
-          (omega (arith, c .before .loop .inv .1)) (omega (arith, c .before .before .sectors .ensures .1)) (c .before .loop .inv .3),
+          (omega (arith, c .before .loop .inv .1)) (omega (arith, at-sectors .sectors .ensures .1)) (c .before .loop .inv .3),
     )
 
 returns-2 : tie.Need-returns-2 Inv-loop μ-loop
 returns-2 c =
-    let s = c .before .before .before .before .before .before .before in (
+    let at-sectors = c .before .before in
+    let at-if1 = at-sectors .before .before .before in
+    let s = at-if1 .before .before in (
       c .before .loop .inv .3
-          ∙ its-slots 4096 (s .args .p) (listed (s .args .s)) (c .before .loop .i) 64 (not-false _ (c .before .before .before .before .before .if1 .left)) (placed (s .args .p) _ (s .good .1 .0))
-          (omega (arith, c .before .before .sectors .ensures .0)),
-      omega (arith, c .before .loop .inv .1, c .before .before .sectors .ensures .1),
+          ∙ its-slots 4096 (s .args .p) (listed (s .args .s)) (c .before .loop .i) 64 (not-false _ (at-if1 .if1 .left)) (placed (s .args .p) _ (s .good .1 .0))
+          (omega (arith, at-sectors .sectors .ensures .0)),
+      omega (arith, c .before .loop .inv .1, at-sectors .sectors .ensures .1),
     )
 
 pub with-slots-spec : {M : Type 1} → statement M
