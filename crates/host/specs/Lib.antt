@@ -7,3 +7,4 @@ pub mod Listed
 pub mod Order
 pub mod Facts
 pub mod Calls
+pub mod Bench

@@ -1,0 +1,54 @@
+-- What holds of the record of a host and of its calls, besides the contracts. Assumes nothing.
+use mathlib.Core.Path.{_≡_, refl, sym, ap, _∙_}
+use mathlib.Core.Bool.{Bool, true, false, not}
+use mathlib.Core.List.{List, [], _∷_}
+use Prim.Native.Nat.{ℕ}
+use lib.ListN.{length}
+use lib.Dec.{leb}
+use borrow.Author.Tests.{lt-leb}
+use Rattle.area.specs.Pick.{pick, both}
+use Rattle.area.specs.Area.{same}
+use Rattle.area.proofs.Laws.Pick.{picks, skips, by, never, both-join, both-left, both-right, both-not-left}
+use Rattle.area.proofs.Laws.Same.{same-eq, eq-same}
+use Rattle.sia.specs.Names.{readOnly}
+use Rattle.sia.specs.Encode.{every, joined}
+use Rattle.host.specs.Lists.{some, those, each, apart}
+use Rattle.host.specs.Empty.{noPlace, noProgress, noPrices, noTerms, noProgram, newPlace, bare}
+use Rattle.host.specs.With.{withPlaces}
+use Rattle.host.specs.Places.{hasId, whose, committed, taken}
+use Rattle.host.specs.Order.{lent, placeInOrder, twins, placesInOrder, inOrder}
+use Rattle.host.specs.Calls.{answered, lengthRight, freshed, formedAt, formed, replaced, dropped}
+use Rattle.host.specs.Bench.{idOf, benchHost, twoForms}
+use Rattle.host.specs.declared.Place.{Place}
+use Rattle.host.specs.declared.Host.{Host}
+use Rattle.host.specs.declared.Answer.{Answer}
+
+-- ---- identity: a place holds the contract of an id exactly when all bytes are those
+
+pub found-same : (id : List ℕ) (p : Place) → hasId id p ≡ true → p .id ≡ id
+unfolding hasId
+found-same id p e = same-eq _ _ (both-right (p .held) _ e)
+
+pub same-found : (id : List ℕ) (p : Place) → p .held ≡ true → p .id ≡ id → hasId id p ≡ true
+unfolding hasId
+same-found id p h e = both-join _ _ h (eq-same _ _ e)
+
+-- ---- a host with no slots: every later call refuses it with 1
+
+pub no-slots-refused : (z : ℕ) → inOrder z (bare 0 0) ≡ false
+unfolding inOrder lent bare pick
+no-slots-refused z = refl
+
+pub no-slots-formed : (z : ℕ) (id : List ℕ) → formed z (bare 0 0) id ≡ answered 1 (bare 0 0)
+unfolding formed
+no-slots-formed z id = picks _ _ _ (ap not (no-slots-refused z))
+
+pub no-slots-dropped : (z : ℕ) (id : List ℕ) → dropped z (bare 0 0) id ≡ answered 1 (bare 0 0)
+unfolding dropped
+no-slots-dropped z id = picks _ _ _ (ap not (no-slots-refused z))
+
+-- ---- "(P) Ids equal but for byte 31 form two contracts."
+
+pub two-contracts : twoForms (idOf 1) (idOf 2) ≡ 0 ∷ 0 ∷ 2 ∷ []
+unfolding twoForms benchHost freshed lengthRight lent bare noPlace noProgram noTerms noPrices noProgress formed inOrder placesInOrder placeInOrder twins taken committed every joined some those apart whose hasId same formedAt newPlace withPlaces pick
+two-contracts = refl
