@@ -1,27 +1,21 @@
 -- What holds of the record of a host and of its calls, besides the contracts. Assumes nothing.
-use mathlib.Core.Path.{_≡_, refl, sym, ap, _∙_}
-use mathlib.Core.Bool.{Bool, true, false, not}
+use mathlib.Core.Path.{_≡_, refl, ap}
+use mathlib.Core.Bool.{true, false, not}
 use mathlib.Core.List.{List, [], _∷_}
 use Prim.Native.Nat.{ℕ}
-use lib.ListN.{length}
-use lib.Dec.{leb}
-use borrow.Author.Tests.{lt-leb}
-use Rattle.area.specs.Pick.{pick, both}
+use Rattle.area.specs.Pick.{pick}
 use Rattle.area.specs.Area.{same}
-use Rattle.area.proofs.Laws.Pick.{picks, skips, by, never, both-join, both-left, both-right, both-not-left}
+use Rattle.area.proofs.Laws.Pick.{picks, both-join, both-right}
 use Rattle.area.proofs.Laws.Same.{same-eq, eq-same}
-use Rattle.sia.specs.Names.{readOnly}
 use Rattle.sia.specs.Encode.{every, joined}
-use Rattle.host.specs.Lists.{some, those, each, apart}
+use Rattle.host.specs.Lists.{some, those, apart}
 use Rattle.host.specs.Empty.{noPlace, noProgress, noPrices, noTerms, noProgram, newPlace, bare}
 use Rattle.host.specs.With.{withPlaces}
 use Rattle.host.specs.Places.{hasId, whose, committed, taken}
 use Rattle.host.specs.Order.{lent, placeInOrder, twins, placesInOrder, inOrder}
-use Rattle.host.specs.Calls.{answered, lengthRight, freshed, formedAt, formed, replaced, dropped}
+use Rattle.host.specs.Calls.{answered, lengthRight, freshed, formedAt, formed, dropped}
 use Rattle.host.specs.Bench.{idOf, benchHost, twoForms}
 use Rattle.host.specs.declared.Place.{Place}
-use Rattle.host.specs.declared.Host.{Host}
-use Rattle.host.specs.declared.Answer.{Answer}
 
 -- ---- identity: a place holds the contract of an id exactly when all bytes are those
 

@@ -1,6 +1,6 @@
 -- Making a host, forming a contract and dropping one: what each call answers and leaves. A refusal leaves the host as it was. z is the
 -- sector size. Assumes nothing.
-use mathlib.Core.Bool.{Bool, true, false, not}
+use mathlib.Core.Bool.{Bool, not}
 use mathlib.Core.List.{List, [], _∷_}
 use Prim.Native.Nat.{ℕ, _/_, _%_}
 use lib.Dec.{eqb}

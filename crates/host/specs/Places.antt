@@ -1,5 +1,5 @@
 -- Contracts by id, their sizes, the slots that they take and the lowest free one. z is the sector size. Assumes nothing.
-use mathlib.Core.Bool.{Bool, true, false, not}
+use mathlib.Core.Bool.{Bool, not}
 use mathlib.Core.List.{List, [], _∷_}
 use Prim.Native.Nat.{ℕ, suc, _/_}
 use lib.ListN.{take}
@@ -7,7 +7,7 @@ use Rattle.area.specs.Pick.{pick, both}
 use Rattle.area.specs.Area.{same}
 use Rattle.area.specs.Lowest.{lowest}
 use Rattle.sia.specs.Encode.{joined}
-use Rattle.host.specs.Lists.{those, each, sum, unused}
+use Rattle.host.specs.Lists.{each, sum, unused}
 use Rattle.host.specs.Empty.{noPlace}
 use Rattle.host.specs.declared.Place.{Place}
 use Rattle.host.specs.declared.Found.{Found}

@@ -2,7 +2,6 @@
 use mathlib.Core.Path.{ap₂}
 use Rattle.sia.specs.declared.Head.{Head}
 use Rattle.host.specs.declared.Prices.{Prices}
-use Rattle.host.specs.declared.Terms.{Terms}
 use Rattle.host.specs.Empty.{noTerms}
 use borrow.Author.Needs.{needs}
 use Rattle.host.proofs.Terms.none.Statement.{statement}
