@@ -1,0 +1,32 @@
+// The machine: the calls that open a program, give it pieces, interrupt it, tell what it has reached, and close it.
+ghost use mathlib.Core.Path.{_≡_};
+ghost use Rattle.machine.specs.Run as Says;
+use host::Host;
+use host::Program;
+
+// What opening, a piece and an interrupt answer: document 01's number, the tally, and the host.
+pub struct Answer {
+    pub number: u64,
+    pub tally: u64,
+    pub host: Host,
+}
+
+// The size and root that a program has reached.
+pub struct Reached {
+    pub number: u64,
+    pub size: u64,
+    pub root: [u8; 32],
+}
+
+// Whether a program has neither ended nor failed.
+pub fn going(program: Program) -> bool
+    ensures { λ r. ⌜ r ≡ Says.going (program .terms) (program .progress) ⌝ }
+{
+    let progress = program.progress;
+    if progress.failed {
+        return false;
+    }
+    let terms = program.terms;
+    let head = terms.head;
+    progress.ran < head.count
+}
