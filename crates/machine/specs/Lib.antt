@@ -8,3 +8,4 @@ pub mod Record
 pub mod Run
 pub mod Calls
 pub mod Commit
+pub mod Bench

@@ -1,0 +1,2 @@
+-- What is proved about the definitions.
+pub mod Bench
