@@ -1,2 +1,6 @@
 -- What is proved about the definitions.
+pub mod Laws
 pub mod Bench
+pub mod Refusing
+pub mod Failing
+pub mod Cutting

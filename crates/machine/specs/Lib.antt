@@ -9,3 +9,4 @@ pub mod Run
 pub mod Calls
 pub mod Commit
 pub mod Bench
+pub mod Demands

@@ -1,0 +1,100 @@
+-- The demands as statements over the definitions; proofs/Demands.antt proves each. z is the sector size. Assumes nothing.
+use mathlib.Core.Path.{_≡_}
+use mathlib.Core.Bool.{Bool, true}
+use mathlib.Core.List.{List, [], _∷_, _++_}
+use Prim.Native.Nat.{ℕ, _+_, _≤_}
+use lib.ListN.{length, take}
+use lib.IntN.{pos}
+use Rattle.area.specs.Area.{put}
+use Rattle.sia.specs.Names.{opOf}
+use Rattle.host.specs.With.{withWritten, withFailed}
+use Rattle.machine.specs.View.{Setting, Turn, settingOf, turnOf, withRun}
+use Rattle.machine.specs.Inputs.{argsOf}
+use Rattle.machine.specs.Plan.{cost, judged}
+use Rattle.machine.specs.Record.{failureBytes}
+use Rattle.machine.specs.Run.{stepped, run}
+use Rattle.machine.specs.Calls.{answered, opened, Pieced, pieced, piece, interrupted, interrupt, reachedAt, noPair, reached}
+use Rattle.machine.specs.Commit.{closed, close}
+use Rattle.sia.specs.declared.Instruction.{Instruction}
+use Rattle.host.specs.declared.Prices.{Prices}
+use Rattle.host.specs.declared.Host.{Host}
+
+-- ---- refusals
+
+-- "Every refusal but 14 leaves host, numbers and areas unchanged; any other number it answers is 0."
+pub record Refusals : Type 0 where
+  pub opening : (z : ℕ) (h : Host) (bytes : List ℕ) (budget : ℕ) (p : Prices) (room : ℕ) → let r = opened z h bytes budget p room in
+      (r .number ≡ 0 → ⊥) → r ≡ answered (r .number) 0 h
+  pub piece : (z : ℕ) (disk : List ℕ) (h : Host) (stage input output bytes : List ℕ) → let r = piece z disk h stage input output bytes in
+      (r .number ≡ 0 → ⊥) → r ≡ pieced (r .number) 0 h stage input output
+  pub interrupt : (z : ℕ) (disk : List ℕ) (h : Host) (output : List ℕ) → let r = interrupt z disk h output in
+      (r .number ≡ 0 → ⊥) → r ≡ interrupted (r .number) 0 h output
+  pub reached : (z : ℕ) (disk : List ℕ) (h : Host) (stage : List ℕ) → let r = reached z disk h stage in
+      (r .number ≡ 0 → ⊥) → r ≡ reachedAt (r .number) noPair
+  pub closing : (z : ℕ) (disk : List ℕ) (h : Host) (stage : List ℕ) (agree : Bool) (size : ℕ) (root : List ℕ) → let r = close z disk h stage agree size root in
+      (r .number ≡ 0 → ⊥) → (r .number ≡ 14 → ⊥) → r ≡ closed (r .number) 0 (pos 0) h disk
+
+-- ---- failures
+
+-- "A failure ends the program and otherwise only writes its record.": its number, cost 0, the starting pair, both counts 0
+pub record Failed (z : ℕ) (s : Setting) (number : ℕ) (t after : Turn) : Type 0 where
+  pub progress : after .progress ≡ withFailed (withWritten (t .progress) (t .progress .written + 72)) true
+  pub stage : after .stage ≡ t .stage
+  pub output : after .output ≡ put (t .output) (t .progress .written) (failureBytes z s number)
+
+pub record Failures : Type 0 where
+  pub writes : (z : ℕ) (s : Setting) (i : Instruction) (l : List (List ℕ)) (t : Turn) → (judged z s (t .progress) i l ≡ 0 → ⊥)
+      → Failed z s (judged z s (t .progress) i l) t (stepped z s i l t)
+  pub ends : (z : ℕ) (s : Setting) (input : List ℕ) (k : ℕ) (t : Turn) → t .progress .failed ≡ true → run z s input k t ≡ t
+
+-- ---- cost
+
+-- "The running tally is a number in the result, equal to the definition's summed instruction costs and never above the given budget."
+pub record Tallied : Type 0 where
+  pub charged : (z : ℕ) (s : Setting) (i : Instruction) (l : List (List ℕ)) (t : Turn) → judged z s (t .progress) i l ≡ 0
+      → stepped z s i l t .progress .tally ≡ t .progress .tally + cost (s .terms) (opOf (i .name)) (argsOf (opOf (i .name)) l .len)
+  pub within : (z : ℕ) (s : Setting) (input : List ℕ) (k : ℕ) (t : Turn) → t .progress .tally ≤ s .terms .budget
+      → run z s input k t .progress .tally ≤ s .terms .budget
+
+-- ---- cutting
+
+-- pieces one after another
+unfoldable pub together : List (List ℕ) → List ℕ
+together [] = []
+together (b ∷ bs) = b ++ together bs
+
+-- a host and its areas before the first piece
+abbrev pub lentTo : Host → List ℕ → List ℕ → List ℕ → Pieced
+lentTo h stage input output = pieced 0 (h .program .progress .tally) h stage input output
+
+-- what pieces leave that are given in turn
+unfoldable pub fed : ℕ → List ℕ → Pieced → List (List ℕ) → Pieced
+fed z disk w [] = w
+fed z disk w (b ∷ bs) = fed z disk (piece z disk (w .host) (w .stage) (w .input) (w .output) b) bs
+
+-- each of them is answered with 0
+abbrev pub AllAccepted : ℕ → List ℕ → Pieced → List (List ℕ) → Type 0
+AllAccepted z disk w [] = Unit {0}
+AllAccepted z disk w (b ∷ bs) =
+    (piece z disk (w .host) (w .stage) (w .input) (w .output) b .number ≡ 0)
+    × AllAccepted z disk (piece z disk (w .host) (w .stage) (w .input) (w .output) b) bs
+
+-- what k bytes leave
+unfoldable pub made : Host → ℕ → Turn → List ℕ → Pieced
+made h k t area = pieced 0 (t .progress .tally) (withRun h k (t .progress)) (t .stage) area (t .output)
+
+-- the state once k bytes have come: the run on the whole data, stopped at the first need that has not come
+unfoldable pub after : ℕ → List ℕ → Host → List ℕ → List ℕ → List ℕ → List ℕ → ℕ → Pieced
+after z disk h stage input output all k = made h k (run z (settingOf h disk) all k (turnOf h stage output)) (put input 0 (take k all))
+
+-- Pieces cut anywhere from the front of the data, and accepted, leave what the whole data's run gives for the bytes come; and when all
+-- has come, host, cost and areas are the same for every cutting.
+pub record Cutting : Type 0 where
+  pub state : (z : ℕ) (disk : List ℕ) (h : Host) (stage input output all : List ℕ) → length all ≤ length input → h .program .came ≡ 0
+      → (b : List ℕ) (bs : List (List ℕ)) (rest : List ℕ) → together (b ∷ bs) ++ rest ≡ all
+      → AllAccepted z disk (lentTo h stage input output) (b ∷ bs)
+      → fed z disk (lentTo h stage input output) (b ∷ bs) ≡ after z disk h stage input output all (length (together (b ∷ bs)))
+  pub alike : (z : ℕ) (disk : List ℕ) (h : Host) (stage input output all : List ℕ) → length all ≤ length input → h .program .came ≡ 0
+      → (b c : List ℕ) (bs cs : List (List ℕ)) → together (b ∷ bs) ≡ all → together (c ∷ cs) ≡ all
+      → AllAccepted z disk (lentTo h stage input output) (b ∷ bs) → AllAccepted z disk (lentTo h stage input output) (c ∷ cs)
+      → fed z disk (lentTo h stage input output) (b ∷ bs) ≡ fed z disk (lentTo h stage input output) (c ∷ cs)
