@@ -1,2 +1,6 @@
 -- The laws, a file for each subject.
 pub mod Steps
+pub mod Lists
+pub mod Staged
+pub mod Effects
+pub mod Kept
