@@ -13,8 +13,9 @@ use Rattle.host.specs.With.{withProgram, withCame, withProgress}
 use Rattle.machine.specs.View.{Setting, Turn, settingOf, turnOf, withRun}
 use Rattle.machine.specs.Run.{run}
 use Rattle.machine.specs.Calls.{Pieced, pieced, accepted, piece}
-use Rattle.machine.specs.Demands.{together, lentTo, fed, AllAccepted, made, after, Cutting}
+use Rattle.machine.specs.Demands.{together, lentTo, fed, AllAccepted, made, after, Taking, Cutting, Cuttings}
 use Rattle.machine.proofs.Laws.Steps.{run-below, run-on}
+use Rattle.machine.proofs.Laws.Taking.{all-accepted}
 use Rattle.host.specs.declared.Host.{Host}
 
 take-put : (d x : List ℕ) (k : ℕ) → length x ≡ k → k ≤ length d → take k (put d 0 x) ≡ x
@@ -123,8 +124,20 @@ module _ (z : ℕ) (disk : List ℕ) (h : Host) (stage input output all : List �
       ∙ ap (λ (y : List ℕ). after z disk h stage input output all (length y)) (p ∙ sym q)
       ∙ sym (cutting c cs [] e (append-nil _ ∙ q) v)
 
-pub cuttings : Cutting
-cuttings = record {
-  state = λ z disk h stage input output all roomy c b bs rest e q. cutting z disk h stage input output all roomy b bs rest c e q;
-  alike = λ z disk h stage input output all roomy e b c bs cs p q u v. alike z disk h stage input output all roomy b c bs cs e p q u v;
-}
+module _ (z : ℕ) (disk : List ℕ) (h : Host) (stage input output all : List ℕ) (t : Taking z disk (lentTo h stage input output))
+    (none-came : h .program .came ≡ 0) (declared : length all ≡ h .program .terms .head .length) where
+  all-taken : (bs : List (List ℕ)) (rest : List ℕ) → together bs ++ rest ≡ all → AllAccepted z disk (lentTo h stage input output) bs
+  all-taken bs rest e = all-accepted z disk (lentTo h stage input output) bs t (omega (arith, none-came, declared, length-append (together bs) rest, ap length e))
+
+  holds : length all ≤ length input
+  holds = let i = t .input in omega arith
+
+  pub cut : Cutting z disk h stage input output all
+  cut = record {
+    accepted = all-taken;
+    state = λ b bs rest e. cutting z disk h stage input output all holds b bs rest none-came e (all-taken (b ∷ bs) rest e);
+    alike = λ b c bs cs p q. alike z disk h stage input output all holds b c bs cs none-came p q (all-taken (b ∷ bs) [] (append-nil _ ∙ p)) (all-taken (c ∷ cs) [] (append-nil _ ∙ q));
+  }
+
+pub every-cutting : Cuttings
+every-cutting = record { cuttings = cut }

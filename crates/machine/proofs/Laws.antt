@@ -4,3 +4,5 @@ pub mod Lists
 pub mod Staged
 pub mod Effects
 pub mod Kept
+pub mod Areas
+pub mod Taking

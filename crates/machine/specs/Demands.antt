@@ -2,13 +2,14 @@
 use mathlib.Core.Path.{_≡_}
 use mathlib.Core.Bool.{Bool, true}
 use mathlib.Core.List.{List, [], _∷_, _++_}
-use Prim.Native.Nat.{ℕ, _+_, _≤_}
+use Prim.Native.Nat.{ℕ, _+_, _≤_, _<_}
 use lib.ListN.{length, take}
 use lib.IntN.{pos}
 use Rattle.area.specs.Area.{put}
 use Rattle.sia.specs.Names.{opOf}
 use Rattle.host.specs.With.{withWritten, withFailed}
-use Rattle.machine.specs.View.{Setting, Turn, settingOf, turnOf, withRun}
+use Rattle.host.specs.Order.{inOrder}
+use Rattle.machine.specs.View.{Setting, Turn, settingOf, turnOf, withRun, areasRight}
 use Rattle.machine.specs.Inputs.{argsOf}
 use Rattle.machine.specs.Plan.{cost, judged}
 use Rattle.machine.specs.Record.{failureBytes}
@@ -79,6 +80,16 @@ AllAccepted z disk w (b ∷ bs) =
     (piece z disk (w .host) (w .stage) (w .input) (w .output) b .number ≡ 0)
     × AllAccepted z disk (piece z disk (w .host) (w .stage) (w .input) (w .output) b) bs
 
+-- a host in order with a program open, and areas as stated; its staged positions are an array of 64
+pub record Taking (z : ℕ) (disk : List ℕ) (w : Pieced) : Type 0 where
+  pub some : 0 < z
+  pub order : inOrder z (w .host) ≡ true
+  pub areas : areasRight z (w .host) disk (w .stage) ≡ true
+  pub live : w .host .program .active ≡ true
+  pub input : length (w .input) ≡ w .host .program .terms .head .length
+  pub output : length (w .output) ≡ w .host .program .terms .room
+  pub entries : length (w .host .program .progress .staged) ≡ 64
+
 -- what k bytes leave
 unfoldable pub made : Host → ℕ → Turn → List ℕ → Pieced
 made h k t area = pieced 0 (t .progress .tally) (withRun h k (t .progress)) (t .stage) area (t .output)
@@ -87,14 +98,16 @@ made h k t area = pieced 0 (t .progress .tally) (withRun h k (t .progress)) (t .
 unfoldable pub after : ℕ → List ℕ → Host → List ℕ → List ℕ → List ℕ → List ℕ → ℕ → Pieced
 after z disk h stage input output all k = made h k (run z (settingOf h disk) all k (turnOf h stage output)) (put input 0 (take k all))
 
--- Pieces cut anywhere from the front of the data, and accepted, leave what the whole data's run gives for the bytes come; and when all
+-- Pieces cut anywhere from the front of the data are all accepted, and leave what the whole data's run gives for the bytes come; when all
 -- has come, host, cost and areas are the same for every cutting.
-pub record Cutting : Type 0 where
-  pub state : (z : ℕ) (disk : List ℕ) (h : Host) (stage input output all : List ℕ) → length all ≤ length input → h .program .came ≡ 0
-      → (b : List ℕ) (bs : List (List ℕ)) (rest : List ℕ) → together (b ∷ bs) ++ rest ≡ all
-      → AllAccepted z disk (lentTo h stage input output) (b ∷ bs)
+pub record Cutting (z : ℕ) (disk : List ℕ) (h : Host) (stage input output all : List ℕ) : Type 0 where
+  pub accepted : (bs : List (List ℕ)) (rest : List ℕ) → together bs ++ rest ≡ all → AllAccepted z disk (lentTo h stage input output) bs
+  pub state : (b : List ℕ) (bs : List (List ℕ)) (rest : List ℕ) → together (b ∷ bs) ++ rest ≡ all
       → fed z disk (lentTo h stage input output) (b ∷ bs) ≡ after z disk h stage input output all (length (together (b ∷ bs)))
-  pub alike : (z : ℕ) (disk : List ℕ) (h : Host) (stage input output all : List ℕ) → length all ≤ length input → h .program .came ≡ 0
-      → (b c : List ℕ) (bs cs : List (List ℕ)) → together (b ∷ bs) ≡ all → together (c ∷ cs) ≡ all
-      → AllAccepted z disk (lentTo h stage input output) (b ∷ bs) → AllAccepted z disk (lentTo h stage input output) (c ∷ cs)
+  pub alike : (b c : List ℕ) (bs cs : List (List ℕ)) → together (b ∷ bs) ≡ all → together (c ∷ cs) ≡ all
       → fed z disk (lentTo h stage input output) (b ∷ bs) ≡ fed z disk (lentTo h stage input output) (c ∷ cs)
+
+-- the premise: no byte has come, and the data is as long as declared
+pub record Cuttings : Type 0 where
+  pub cuttings : (z : ℕ) (disk : List ℕ) (h : Host) (stage input output all : List ℕ) → Taking z disk (lentTo h stage input output)
+      → h .program .came ≡ 0 → length all ≡ h .program .terms .head .length → Cutting z disk h stage input output all
