@@ -52,7 +52,7 @@ open-host = 0
 
 -- opens the definitions of machine
 unfoldable open-machine : ℕ
-unfolding MachineView.settingOf MachineView.turnOf MachineView.withRun MachineView.diskRight MachineView.areasRight MachineView.readOnlyMode MachineView.parent MachineView.freeCopies MachineView.sector MachineView.spotOf MachineView.parentSpots MachineView.committedSpots MachineView.allSpots MachineView.whole MachineRoots.contractRoot MachineRoots.rangeCount MachineInputs.known MachineInputs.operandsOf MachineInputs.illFormed MachineInputs.pastEnd MachineInputs.largest MachineInputs.need MachineInputs.inputsOf MachineInputs.isTold MachineInputs.told MachineInputs.isNumber MachineInputs.isKey MachineInputs.isData MachineInputs.wellFormed MachineInputs.readArgs MachineInputs.spanArgs MachineInputs.argsOf MachinePlan.changes MachinePlan.isThere MachinePlan.spots MachinePlan.contractSource MachinePlan.unlessNone MachinePlan.sectorSource MachinePlan.sourceOf MachinePlan.badSpan MachinePlan.badSize MachinePlan.badSpans MachinePlan.badProof MachinePlan.time MachinePlan.own MachinePlan.cost MachinePlan.touched MachinePlan.wanted MachinePlan.newSize MachinePlan.proofCount MachinePlan.outputCount MachinePlan.recordCount MachinePlan.judgedInputs MachinePlan.judged MachineEffect.newCopy MachineEffect.sectorAt MachineEffect.copied MachineEffect.spanRead MachineEffect.laid MachineEffect.spanWritten MachineEffect.resized MachineEffect.effect MachineRecord.startingPair MachineRecord.runningPair MachineRecord.recordBytes MachineRecord.failureBytes MachineRecord.outputOf MachineRecord.successBytes MachineRun.failedProgress MachineRun.failing MachineRun.ranProgress MachineRun.succeeding MachineRun.stepped MachineRun.current MachineRun.step MachineRun.going MachineRun.ready MachineRun.runs MachineRun.run MachineCalls.roomRight MachineCalls.begun MachineCalls.openedHead MachineCalls.opened MachineCalls.accepted MachineCalls.inputRight MachineCalls.outputRight MachineCalls.piece MachineBench.prices MachineBench.id MachineBench.operand MachineBench.instruction MachineBench.program MachineBench.host MachineBench.sectorHost MachineBench.start MachineBench.given MachineBench.ran MachineBench.failed MachineBench.records MachineBench.counts MachineBench.number MachineBench.contracts MachineBench.grow MachineBench.alone MachineBench.growWrite MachineBench.growWriteData MachineBench.lateGrow MachineBench.lateGrowData MachineBench.onFour MachineBench.onFourData MachineBench.readSpan MachineBench.readSpanData MachineBench.aloneRow MachineBench.budgetRow MachineBench.needRow MachineBench.lateRow MachineBench.copyRow MachineBench.swapRow MachineBench.spanRow MachineBench.sizeRow MachineBench.proofRow MachineBench.idRow MachineBench.table
+unfolding MachineView.settingOf MachineView.turnOf MachineView.withRun MachineView.diskRight MachineView.areasRight MachineView.readOnlyMode MachineView.parent MachineView.freeCopies MachineView.sector MachineView.spotOf MachineView.parentSpots MachineView.committedSpots MachineView.allSpots MachineView.whole MachineRoots.contractRoot MachineRoots.rangeCount MachineInputs.known MachineInputs.operandsOf MachineInputs.illFormed MachineInputs.pastEnd MachineInputs.largest MachineInputs.need MachineInputs.inputsOf MachineInputs.isTold MachineInputs.told MachineInputs.isNumber MachineInputs.isKey MachineInputs.isData MachineInputs.wellFormed MachineInputs.readArgs MachineInputs.spanArgs MachineInputs.argsOf MachinePlan.changes MachinePlan.isThere MachinePlan.spots MachinePlan.contractSource MachinePlan.unlessNone MachinePlan.sectorSource MachinePlan.sourceOf MachinePlan.badSpan MachinePlan.badSize MachinePlan.badSpans MachinePlan.reads MachinePlan.badProof MachinePlan.time MachinePlan.own MachinePlan.cost MachinePlan.touched MachinePlan.wanted MachinePlan.newSize MachinePlan.proofCount MachinePlan.outputCount MachinePlan.recordCount MachinePlan.judgedInputs MachinePlan.judged MachineEffect.newCopy MachineEffect.sectorAt MachineEffect.copied MachineEffect.spanRead MachineEffect.laid MachineEffect.spanWritten MachineEffect.resized MachineEffect.effect MachineRecord.startingPair MachineRecord.runningPair MachineRecord.recordBytes MachineRecord.failureBytes MachineRecord.outputOf MachineRecord.successBytes MachineRun.failedProgress MachineRun.failing MachineRun.ranProgress MachineRun.succeeding MachineRun.stepped MachineRun.current MachineRun.step MachineRun.going MachineRun.ready MachineRun.runs MachineRun.run MachineCalls.roomRight MachineCalls.begun MachineCalls.openedHead MachineCalls.opened MachineCalls.accepted MachineCalls.inputRight MachineCalls.outputRight MachineCalls.piece MachineBench.prices MachineBench.id MachineBench.operand MachineBench.instruction MachineBench.program MachineBench.host MachineBench.sectorHost MachineBench.start MachineBench.given MachineBench.ran MachineBench.failed MachineBench.records MachineBench.counts MachineBench.number MachineBench.contracts MachineBench.grow MachineBench.alone MachineBench.growWrite MachineBench.growWriteData MachineBench.lateGrow MachineBench.lateGrowData MachineBench.onFour MachineBench.onFourData MachineBench.readSpan MachineBench.readSpanData MachineBench.aloneRow MachineBench.budgetRow MachineBench.needRow MachineBench.lateRow MachineBench.copyRow MachineBench.swapRow MachineBench.spanRow MachineBench.sizeRow MachineBench.proofRow MachineBench.idRow MachineBench.table
 open-machine = 0
 
 -- Every (P) line of document 01's figures, as one statement.

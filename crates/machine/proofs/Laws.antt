@@ -6,3 +6,6 @@ pub mod Effects
 pub mod Kept
 pub mod Areas
 pub mod Taking
+pub mod Trails
+pub mod Spots
+pub mod Lengths

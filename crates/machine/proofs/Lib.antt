@@ -4,3 +4,4 @@ pub mod Bench
 pub mod Refusing
 pub mod Failing
 pub mod Cutting
+pub mod Records

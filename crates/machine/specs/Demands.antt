@@ -2,18 +2,22 @@
 use mathlib.Core.Path.{_≡_}
 use mathlib.Core.Bool.{Bool, true}
 use mathlib.Core.List.{List, [], _∷_, _++_}
-use Prim.Native.Nat.{ℕ, _+_, _≤_, _<_}
-use lib.ListN.{length, take}
+use Prim.Native.Nat.{ℕ, zero, suc, _+_, _%_, _≤_, _<_, min}
+use lib.ListN.{length, take, getD}
+use lib.Dec.{leb, eqb}
 use lib.IntN.{pos}
+use Rattle.area.specs.Pick.{pick}
 use Rattle.area.specs.Area.{put}
 use Rattle.sia.specs.Names.{opOf}
+use Rattle.sia.specs.Empty.{noInstruction}
 use Rattle.host.specs.With.{withWritten, withFailed}
 use Rattle.host.specs.Order.{inOrder}
 use Rattle.machine.specs.View.{Setting, Turn, settingOf, turnOf, withRun, areasRight}
-use Rattle.machine.specs.Inputs.{argsOf}
-use Rattle.machine.specs.Plan.{cost, judged}
-use Rattle.machine.specs.Record.{failureBytes}
-use Rattle.machine.specs.Run.{stepped, run}
+use Rattle.machine.specs.Inputs.{need, inputsOf, argsOf}
+use Rattle.machine.specs.Plan.{sourceOf, cost, newSize, judged}
+use Rattle.machine.specs.Effect.{effect}
+use Rattle.machine.specs.Record.{failureBytes, successBytes}
+use Rattle.machine.specs.Run.{stepped, current, step, ready, run}
 use Rattle.machine.specs.Calls.{answered, opened, Pieced, pieced, piece, interrupted, interrupt, reachedAt, noPair, reached}
 use Rattle.machine.specs.Commit.{closed, close}
 use Rattle.sia.specs.declared.Instruction.{Instruction}
@@ -80,6 +84,11 @@ AllAccepted z disk w (b ∷ bs) =
     (piece z disk (w .host) (w .stage) (w .input) (w .output) b .number ≡ 0)
     × AllAccepted z disk (piece z disk (w .host) (w .stage) (w .input) (w .output) b) bs
 
+-- a sector is whole segments, and no larger than this
+pub record Sectors (z : ℕ) : Type 0 where
+  pub segments : z % 64 ≡ 0
+  pub most : z ≤ 4294967296
+
 -- a host in order with a program open, and areas as stated; its staged positions are an array of 64
 pub record Taking (z : ℕ) (disk : List ℕ) (w : Pieced) : Type 0 where
   pub some : 0 < z
@@ -111,3 +120,51 @@ pub record Cutting (z : ℕ) (disk : List ℕ) (h : Host) (stage input output al
 pub record Cuttings : Type 0 where
   pub cuttings : (z : ℕ) (disk : List ℕ) (h : Host) (stage input output all : List ℕ) → Taking z disk (lentTo h stage input output)
       → h .program .came ≡ 0 → length all ≡ h .program .terms .head .length → Cutting z disk h stage input output all
+
+-- ---- records
+
+-- the record that an instruction writes
+unfoldable pub recordOf : ℕ → Setting → Instruction → List (List ℕ) → Turn → List ℕ
+recordOf z s i l t =
+    let p = t .progress in
+    let op = opOf (i .name) in
+    let a = argsOf op l in
+    let n = judged z s p i l in
+    let good = successBytes z s p (i .proof) (sourceOf z s p op (a .key)) op a (cost (s .terms) op (a .len)) (newSize (p .size) op a)
+    (effect z s (p .size) op a (record { staged = p .staged; bytes = t .stage })) in
+    pick (eqb n 0) good (failureBytes z s n)
+
+-- that of the instruction whose turn it is
+unfoldable pub recorded : ℕ → Setting → List ℕ → Turn → List ℕ
+recorded z s a t = recordOf z s (current s t) (inputsOf (current s t) a) t
+
+-- the records that a run writes
+unfoldable pub trail : ℕ → Setting → List ℕ → ℕ → ℕ → Turn → List (List ℕ)
+trail z s a k zero t = []
+trail z s a k (suc n) t =
+    let more = recorded z s a t ∷ trail z s a k n (step z s a t) in
+    pick (ready s k t) more []
+
+-- m, as the demand counts: how many of the instructions i, i + 1, … (n of them) in a row have a need that has come
+unfoldable pub ripe : Setting → ℕ → ℕ → ℕ → ℕ
+ripe s k i zero = 0
+ripe s k i (suc n) =
+    let more = suc (ripe s k (i + 1) n) in
+    pick (leb (need (s .terms .head .length) (getD (s .terms .head .instructions) i noInstruction)) k) more 0
+
+-- the records of the whole run: what the data gives when all of it has come
+unfoldable pub wholeRun : ℕ → List ℕ → Host → List ℕ → List ℕ → List ℕ → List (List ℕ)
+wholeRun z disk h stage output all = trail z (settingOf h disk) all (h .program .terms .head .length) (h .program .terms .head .count) (turnOf h stage output)
+
+-- m: the instructions in a row, from the first, whose need has come with k bytes, but no more than there are records
+unfoldable pub met : ℕ → List ℕ → Host → List ℕ → List ℕ → List ℕ → ℕ → ℕ
+met z disk h stage output all k = min (ripe (settingOf h disk) k (h .program .progress .ran) (h .program .terms .head .count)) (length (wholeRun z disk h stage output all))
+
+-- After pieces cut from the front of the data, the output area holds the first m records of the whole data's run, one behind another, and
+-- is else as it was.
+pub record Records : Type 0 where
+  pub records : (z : ℕ) (disk : List ℕ) (h : Host) (stage input output all : List ℕ) → Sectors z → Taking z disk (lentTo h stage input output)
+      → h .program .came ≡ 0 → h .program .progress .written ≡ 0 → length all ≡ h .program .terms .head .length
+      → (b : List ℕ) (bs : List (List ℕ)) (rest : List ℕ) → together (b ∷ bs) ++ rest ≡ all
+      → fed z disk (lentTo h stage input output) (b ∷ bs) .output
+      ≡ put output 0 (together (take (met z disk h stage output all (length (together (b ∷ bs)))) (wholeRun z disk h stage output all)))

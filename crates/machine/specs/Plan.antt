@@ -93,9 +93,19 @@ badSpans z size from Swap a = either (badSpan z size (a .first) (a .len)) (badSp
 badSpans z size from Truncate a = badSize z size (a .first)
 badSpans z size from Unknown a = false
 
+-- "Read or ReadSector"
+unfoldable pub reads : Op → Bool
+reads Read = true
+reads ReadSector = true
+reads Write = false
+reads Copy = false
+reads Swap = false
+reads Truncate = false
+reads Unknown = false
+
 -- 27: "proof asked of other than Read or ReadSector, or with offset or length no multiple of 64"
 unfoldable pub badProof : Op → Args → Bool
-badProof op a = either (changes op) (either (not (eqb (a .first % 64) 0)) (not (eqb (a .len % 64) 0)))
+badProof op a = either (not (reads op)) (either (not (eqb (a .first % 64) 0)) (not (eqb (a .len % 64) 0)))
 
 -- ---- 28: cost
 
@@ -165,7 +175,7 @@ proofCount z asked from a = let n = rangeCount z (spots from) (a .first) (a .len
 
 -- Read and ReadSector hand out what they read
 unfoldable pub outputCount : Op → Args → ℕ
-outputCount op a = pick (changes op) 0 (a .len)
+outputCount op a = pick (reads op) (a .len) 0
 
 -- number, cost, size, root and the two counts are 72 bytes
 unfoldable pub recordCount : ℕ → Bool → Source → Op → Args → ℕ

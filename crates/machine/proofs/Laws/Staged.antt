@@ -38,7 +38,7 @@ slot-below : (stage slot : ℕ) → slot < stage → slotInOrder stage slot ≡ 
 unfolding slotInOrder
 slot-below stage slot h = by (eqb slot none) (λ e. picks _ true _ e) (λ e. skips _ true _ e ∙ lt-ltb _ _ h)
 
-slot-none : (stage : ℕ) → slotInOrder stage none ≡ true
+pub slot-none : (stage : ℕ) → slotInOrder stage none ≡ true
 unfolding slotInOrder
 slot-none stage = picks _ true _ refl
 
