@@ -9,3 +9,5 @@ pub mod Taking
 pub mod Trails
 pub mod Spots
 pub mod Lengths
+pub mod Pigeons
+pub mod Sizes

@@ -5,3 +5,4 @@ pub mod Refusing
 pub mod Failing
 pub mod Cutting
 pub mod Records
+pub mod Ordering

@@ -8,6 +8,7 @@ use lib.Dec.{leb, eqb}
 use lib.IntN.{pos}
 use Rattle.area.specs.Pick.{pick}
 use Rattle.area.specs.Area.{put}
+use Rattle.area.specs.Little.{Bytes}
 use Rattle.sia.specs.Names.{opOf}
 use Rattle.sia.specs.Empty.{noInstruction}
 use Rattle.host.specs.With.{withWritten, withFailed}
@@ -19,8 +20,9 @@ use Rattle.machine.specs.Effect.{effect}
 use Rattle.machine.specs.Record.{failureBytes, successBytes}
 use Rattle.machine.specs.Run.{stepped, current, step, ready, run}
 use Rattle.machine.specs.Calls.{answered, opened, Pieced, pieced, piece, interrupted, interrupt, reachedAt, noPair, reached}
-use Rattle.machine.specs.Commit.{closed, close}
+use Rattle.machine.specs.Commit.{closed, givenUp, close}
 use Rattle.sia.specs.declared.Instruction.{Instruction}
+use Rattle.host.specs.declared.Place.{Place}
 use Rattle.host.specs.declared.Prices.{Prices}
 use Rattle.host.specs.declared.Host.{Host}
 
@@ -60,6 +62,29 @@ pub record Tallied : Type 0 where
       → stepped z s i l t .progress .tally ≡ t .progress .tally + cost (s .terms) (opOf (i .name)) (argsOf (opOf (i .name)) l .len)
   pub within : (z : ℕ) (s : Setting) (input : List ℕ) (k : ℕ) (t : Turn) → t .progress .tally ≤ s .terms .budget
       → run z s input k t .progress .tally ≤ s .terms .budget
+
+-- ---- order
+
+-- the slots of each place are an array of 64
+abbrev pub Shaped : List Place → Type 0
+Shaped [] = Unit {0}
+Shaped (p ∷ ps) = (length (p .slots) ≡ 64) × Shaped ps
+
+-- a host whose arrays are as declared
+pub record Sound (z : ℕ) (h : Host) : Type 0 where
+  pub some : 0 < z
+  pub places : Shaped (h .places)
+  pub staged : length (h .program .progress .staged) ≡ 64
+
+-- Opening, pieces, interrupts and giving up leave a host in order that is in order. The bytes of a head are bytes.
+pub record Ordered : Type 0 where
+  pub opening : (z : ℕ) (h : Host) (bytes : List ℕ) (budget : ℕ) (p : Prices) (room : ℕ) → Sound z h → Bytes bytes → inOrder z h ≡ true
+      → inOrder z (opened z h bytes budget p room .host) ≡ true
+  pub pieces : (z : ℕ) (disk : List ℕ) (h : Host) (stage input output bytes : List ℕ) → Sound z h → inOrder z h ≡ true
+      → inOrder z (piece z disk h stage input output bytes .host) ≡ true
+  pub interrupts : (z : ℕ) (disk : List ℕ) (h : Host) (output : List ℕ) → Sound z h → inOrder z h ≡ true
+      → inOrder z (interrupt z disk h output .host) ≡ true
+  pub givingUp : (z n : ℕ) (disk : List ℕ) (h : Host) → inOrder z h ≡ true → inOrder z (givenUp n disk h .host) ≡ true
 
 -- ---- cutting
 

@@ -47,7 +47,7 @@ staged-facts stage start size l h =
     let c = both-right _ _ b in
     record { slots = both-left _ _ h; own = both-left _ _ b; below = both-left _ _ c; past = both-right _ _ c }
 
-facts-staged : (stage start size : ℕ) (l : List ℕ) → Staged stage start size l → stagedInOrder stage start size l ≡ true
+pub facts-staged : (stage start size : ℕ) (l : List ℕ) → Staged stage start size l → stagedInOrder stage start size l ≡ true
 unfolding stagedInOrder
 facts-staged stage start size l f = both-join _ _ (f .slots) (both-join _ _ (f .own) (both-join _ _ (f .below) (f .past)))
 
