@@ -6,3 +6,4 @@ pub mod Failing
 pub mod Cutting
 pub mod Records
 pub mod Ordering
+pub mod Opening

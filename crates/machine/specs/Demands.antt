@@ -11,6 +11,7 @@ use Rattle.area.specs.Area.{put}
 use Rattle.area.specs.Little.{Bytes}
 use Rattle.sia.specs.Names.{opOf}
 use Rattle.sia.specs.Empty.{noInstruction}
+use Rattle.sia.specs.Decode.{decode}
 use Rattle.host.specs.With.{withWritten, withFailed}
 use Rattle.host.specs.Order.{inOrder}
 use Rattle.machine.specs.View.{Setting, Turn, settingOf, turnOf, withRun, areasRight}
@@ -145,6 +146,17 @@ pub record Cutting (z : ℕ) (disk : List ℕ) (h : Host) (stage input output al
 pub record Cuttings : Type 0 where
   pub cuttings : (z : ℕ) (disk : List ℕ) (h : Host) (stage input output all : List ℕ) → Taking z disk (lentTo h stage input output)
       → h .program .came ≡ 0 → length all ≡ h .program .terms .head .length → Cutting z disk h stage input output all
+
+-- Every program that is opened is such a one: with areas as stated its host takes pieces, and nothing has come or was written.
+pub record Opened (z : ℕ) (disk : List ℕ) (h : Host) (stage input output : List ℕ) : Type 0 where
+  pub takes : Taking z disk (lentTo h stage input output)
+  pub came : h .program .came ≡ 0
+  pub written : h .program .progress .written ≡ 0
+
+pub record Openings : Type 0 where
+  pub openings : (z : ℕ) (h : Host) (bytes : List ℕ) (budget : ℕ) (p : Prices) (room : ℕ) (disk stage input output : List ℕ) → Sound z h → Bytes bytes
+      → opened z h bytes budget p room .number ≡ 0 → areasRight z h disk stage ≡ true → length input ≡ decode bytes .head .length → length output ≡ room
+      → Opened z disk (opened z h bytes budget p room .host) stage input output
 
 -- ---- records
 
