@@ -11,3 +11,5 @@ pub mod Spots
 pub mod Lengths
 pub mod Pigeons
 pub mod Sizes
+pub mod Slots
+pub mod Split

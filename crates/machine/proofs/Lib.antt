@@ -7,3 +7,4 @@ pub mod Cutting
 pub mod Records
 pub mod Ordering
 pub mod Opening
+pub mod Committing

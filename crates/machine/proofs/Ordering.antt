@@ -1,4 +1,4 @@
--- Order is kept by opening, pieces, interrupts and giving up: each goes down its chain of cases, where a refusal leaves the host as it was.
+-- Order is kept by every call: each goes down its chain of cases, where a refusal leaves the host as it was.
 -- An opening fits because slots are distinct and below the disk. Assumes nothing.
 use mathlib.Core.Path.{_≡_, refl, sym, ap, _∙_, subst}
 use mathlib.Core.Bool.{Bool, true, false, not}
@@ -25,20 +25,22 @@ use Rattle.host.specs.Order.{slotInOrder, clash, parentInOrder, termsInOrder, p
 use Rattle.host.specs.Facts.{Staged}
 use Rattle.machine.specs.View.{settingOf, turnOf, withRun}
 use Rattle.machine.specs.Run.{failing, going, run}
-use Rattle.machine.specs.Calls.{roomRight, begun, openedHead, opened, Pieced, accepted, piece, Interrupted, stopped, interrupt}
-use Rattle.machine.specs.Commit.{givenUp}
-use Rattle.machine.specs.Demands.{Sound, Ordered}
+use Rattle.machine.specs.Calls.{roomRight, begun, openedHead, opened, Pieced, accepted, piece, Interrupted, stopped, interrupt, reached}
+use Rattle.machine.specs.Commit.{Closed, givenUp, agreed, close}
+use Rattle.machine.specs.Demands.{Sound, Refused, Ordered}
 use Rattle.machine.proofs.Laws.Lists.{every-drop}
 use Rattle.machine.proofs.Laws.Pigeons.{pigeons}
 use Rattle.machine.proofs.Laws.Sizes.{sizes, whose-whole, read-only-size}
 use Rattle.machine.proofs.Laws.Steps.{not-failed}
 use Rattle.machine.proofs.Laws.Kept.{failed-good, runs-good, facts-staged}
 use Rattle.machine.proofs.Laws.Taking.{order-lent, order-program, order-good, good-order}
+use Rattle.machine.proofs.Committing.{commit-order}
 use Rattle.sia.specs.declared.Head.{Head}
 use Rattle.host.specs.declared.Prices.{Prices}
 use Rattle.host.specs.declared.Program.{Program}
 use Rattle.host.specs.declared.Host.{Host}
 use Rattle.machine.specs.declared.Answer.{Answer}
+use Rattle.machine.specs.declared.Reached.{Reached}
 
 -- down a case: what holds of both ways holds of the choice
 either-way : {R : Type 0} (K : R → Type 0) (b : Bool) (x y : R) → (b ≡ true → K x) → (b ≡ false → K y) → K (pick b x y)
@@ -148,11 +150,31 @@ interrupts z disk h output sound o =
     way _ _ _ (λ _. o) (λ _. way _ _ _ (λ _. o) (λ _. way _ _ _ (λ _. o) (λ _. way _ _ _ (λ _. o) (λ live.
     way _ _ _ (λ g. stopped-order z disk h output sound o (not-false _ live) g) (λ _. o)))))
 
--- ---- giving up
+-- ---- closing
 
-givingUp : (z n : ℕ) (disk : List ℕ) (h : Host) → inOrder z h ≡ true → inOrder z (givenUp n disk h .host) ≡ true
+given-up : (z n : ℕ) (disk : List ℕ) (h : Host) → inOrder z h ≡ true → inOrder z (givenUp n disk h .host) ≡ true
 unfolding givenUp noProgram
-givingUp z n disk h o = with-program z h noProgram o (picks (not false) true _ refl)
+given-up z n disk h o = with-program z h noProgram o (picks (not false) true _ refl)
+
+closing : (z : ℕ) (disk : List ℕ) (h : Host) (stage : List ℕ) (agree : Bool) (size : ℕ) (root : List ℕ) → Sound z h → inOrder z h ≡ true
+    → inOrder z (close z disk h stage agree size root .host) ≡ true
+unfolding close agreed
+closing z disk h stage agree size root sound o =
+    let way = either-way (λ (r : Closed). inOrder z (r .host) ≡ true) in
+    way _ _ _ (λ _. o) (λ _. way _ _ _ (λ _. o) (λ _. way _ _ _ (λ _. o) (λ live. way _ _ _ (λ _. given-up z 0 disk h o) (λ _. way _ _ _ (λ _. o) (λ _.
+    way _ _ _ (λ _. commit-order z disk h stage sound o (not-false _ live)) (λ _. given-up z 14 disk h o))))))
+
+-- ---- a host that is not in order
+
+refused : (z : ℕ) (h : Host) → inOrder z h ≡ false → Refused z h
+unfolding opened openedHead piece interrupt reached close
+refused z h e = record {
+  opening = λ bytes budget p room. ap (λ (r : Answer). r .number) (picks (not (inOrder z h)) _ _ (ap not e));
+  pieces = λ disk stage input output bytes. ap (λ (r : Pieced). r .number) (picks (not (inOrder z h)) _ _ (ap not e));
+  interrupts = λ disk output. ap (λ (r : Interrupted). r .number) (picks (not (inOrder z h)) _ _ (ap not e));
+  reached = λ disk stage. ap (λ (r : Reached). r .number) (picks (not (inOrder z h)) _ _ (ap not e));
+  closing = λ disk stage agree size root. ap (λ (r : Closed). r .number) (picks (not (inOrder z h)) _ _ (ap not e));
+}
 
 pub ordered : Ordered
-ordered = record { opening = opening; pieces = pieces; interrupts = interrupts; givingUp = givingUp }
+ordered = record { opening = opening; pieces = pieces; interrupts = interrupts; closing = closing; others = refused }

@@ -1,6 +1,6 @@
 -- The demands as statements over the definitions; proofs/Demands.antt proves each. z is the sector size. Assumes nothing.
 use mathlib.Core.Path.{_≡_}
-use mathlib.Core.Bool.{Bool, true}
+use mathlib.Core.Bool.{Bool, true, false}
 use mathlib.Core.List.{List, [], _∷_, _++_}
 use Prim.Native.Nat.{ℕ, zero, suc, _+_, _%_, _≤_, _<_, min}
 use lib.ListN.{length, take, getD}
@@ -21,7 +21,7 @@ use Rattle.machine.specs.Effect.{effect}
 use Rattle.machine.specs.Record.{failureBytes, successBytes}
 use Rattle.machine.specs.Run.{stepped, current, step, ready, run}
 use Rattle.machine.specs.Calls.{answered, opened, Pieced, pieced, piece, interrupted, interrupt, reachedAt, noPair, reached}
-use Rattle.machine.specs.Commit.{closed, givenUp, close}
+use Rattle.machine.specs.Commit.{closed, close}
 use Rattle.sia.specs.declared.Instruction.{Instruction}
 use Rattle.host.specs.declared.Place.{Place}
 use Rattle.host.specs.declared.Prices.{Prices}
@@ -77,7 +77,15 @@ pub record Sound (z : ℕ) (h : Host) : Type 0 where
   pub places : Shaped (h .places)
   pub staged : length (h .program .progress .staged) ≡ 64
 
--- Opening, pieces, interrupts and giving up leave a host in order that is in order. The bytes of a head are bytes.
+-- every call answers 1
+pub record Refused (z : ℕ) (h : Host) : Type 0 where
+  pub opening : (bytes : List ℕ) (budget : ℕ) (p : Prices) (room : ℕ) → opened z h bytes budget p room .number ≡ 1
+  pub pieces : (disk stage input output bytes : List ℕ) → piece z disk h stage input output bytes .number ≡ 1
+  pub interrupts : (disk output : List ℕ) → interrupt z disk h output .number ≡ 1
+  pub reached : (disk stage : List ℕ) → reached z disk h stage .number ≡ 1
+  pub closing : (disk stage : List ℕ) (agree : Bool) (size : ℕ) (root : List ℕ) → close z disk h stage agree size root .number ≡ 1
+
+-- Every call leaves a host in order that is in order, and answers 1 where it is not. The bytes of a head are bytes.
 pub record Ordered : Type 0 where
   pub opening : (z : ℕ) (h : Host) (bytes : List ℕ) (budget : ℕ) (p : Prices) (room : ℕ) → Sound z h → Bytes bytes → inOrder z h ≡ true
       → inOrder z (opened z h bytes budget p room .host) ≡ true
@@ -85,7 +93,10 @@ pub record Ordered : Type 0 where
       → inOrder z (piece z disk h stage input output bytes .host) ≡ true
   pub interrupts : (z : ℕ) (disk : List ℕ) (h : Host) (output : List ℕ) → Sound z h → inOrder z h ≡ true
       → inOrder z (interrupt z disk h output .host) ≡ true
-  pub givingUp : (z n : ℕ) (disk : List ℕ) (h : Host) → inOrder z h ≡ true → inOrder z (givenUp n disk h .host) ≡ true
+  pub closing : (z : ℕ) (disk : List ℕ) (h : Host) (stage : List ℕ) (agree : Bool) (size : ℕ) (root : List ℕ) → Sound z h → inOrder z h ≡ true
+      → inOrder z (close z disk h stage agree size root .host) ≡ true
+  -- 1: "host not in order"
+  pub others : (z : ℕ) (h : Host) → inOrder z h ≡ false → Refused z h
 
 -- ---- cutting
 

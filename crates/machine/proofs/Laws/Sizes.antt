@@ -76,7 +76,7 @@ pub whose-on : (id : List ℕ) (p : Place) (ps : List Place) → hasId id p ≡ 
 unfolding whose
 whose-on id p ps e = skips (hasId id p) p _ e
 
-taken-length : (z : ℕ) (p : Place) (ps : List Place) → length (taken z (p ∷ ps)) * z ≡ length (committed z p) * z + length (taken z ps) * z
+pub taken-length : (z : ℕ) (p : Place) (ps : List Place) → length (taken z (p ∷ ps)) * z ≡ length (committed z p) * z + length (taken z ps) * z
 unfolding taken joined
 taken-length z p ps = ap (λ (n : ℕ). n * z) (length-append (committed z p) _) ∙ add-mul (length (committed z p)) _ z
 
