@@ -3,6 +3,7 @@ use mathlib.Core.Path.{_≡_, refl, sym, ap, _∙_, subst}
 use mathlib.Core.Bool.{Bool, true, false, not}
 use mathlib.Core.List.{List}
 use Prim.Native.Nat.{ℕ, zero, suc, _+_, _≤_}
+use native.Mathlib.Nat.{add-assoc}
 use native.Mathlib.Omega.{arith}
 use lib.Dec.{ltb, eqb}
 use borrow.Author.Tests.{ltb-false, eqb-true, eqb-false, eq-eqb, ne-eqb}
@@ -14,7 +15,7 @@ use Rattle.machine.specs.View.{Setting, Turn}
 use Rattle.machine.specs.Inputs.{illFormed, pastEnd, argsOf, inputsOf}
 use Rattle.machine.specs.Plan.{cost, judgedInputs, judged}
 use Rattle.machine.specs.Run.{failedProgress, failing, ranProgress, succeeding, stepped, current, step, going, ready, runs, run}
-use Rattle.machine.specs.Demands.{Failed, Failures, Tallied}
+use Rattle.machine.specs.Demands.{Failed, Failures, charges, Tallied}
 use Rattle.machine.proofs.Laws.Steps.{runs-go, runs-stop}
 use Rattle.sia.specs.declared.Instruction.{Instruction}
 use Rattle.host.specs.declared.Progress.{Progress}
@@ -86,5 +87,37 @@ within : (z : ℕ) (s : Setting) (input : List ℕ) (k : ℕ) (t : Turn) → t .
 unfolding run
 within z s input k t h = runs-within z s input k (s .terms .head .count) t h
 
+-- ---- its sum
+
+own : (z : ℕ) (s : Setting) (i : Instruction) (l : List (List ℕ)) (t : Turn) → stepped z s i l t .progress .tally
+    ≡ t .progress .tally + pick (eqb (judged z s (t .progress) i l) 0) (cost (s .terms) (opOf (i .name)) (argsOf (opOf (i .name)) l .len)) 0
+own z s i l t =
+    by (eqb (judged z s (t .progress) i l) 0)
+    (λ e. let j : judged z s (t .progress) i l ≡ 0 = eqb-true _ _ e in
+    charged z s i l t j ∙ ap (λ (n : ℕ). t .progress .tally + n) (sym (picks _ _ 0 e)))
+    (λ e. let f = writes z s i l t (eqb-false _ _ e) in
+    ap (λ (p : Progress). p .tally) (f .progress) ∙ same-tally (t .progress)
+    ∙ (let q : t .progress .tally ≡ t .progress .tally + 0 = omega arith in q)
+    ∙ ap (λ (n : ℕ). t .progress .tally + n) (sym (skips _ _ 0 e)))
+
+runs-summed : (z : ℕ) (s : Setting) (a : List ℕ) (k n : ℕ) (t : Turn) → runs z s a k n t .progress .tally ≡ t .progress .tally + charges z s a k n t
+unfolding runs charges step
+runs-summed z s a k zero t = omega arith
+runs-summed z s a k (suc n) t =
+    by (ready s k t)
+    (λ r. ap (λ (x : Turn). x .progress .tally) (runs-go z s a k n t r)
+    ∙ runs-summed z s a k n (step z s a t)
+    ∙ ap (λ (m : ℕ). m + charges z s a k n (step z s a t)) (own z s (current s t) (inputsOf (current s t) a) t)
+    ∙ add-assoc _ _ _
+    ∙ ap (λ (m : ℕ). t .progress .tally + m) (sym (picks (ready s k t) _ 0 r)))
+    (λ r. ap (λ (x : Turn). x .progress .tally) (runs-stop z s a k (suc n) t r)
+    ∙ (let q : t .progress .tally ≡ t .progress .tally + 0 = omega arith in q)
+    ∙ ap (λ (m : ℕ). t .progress .tally + m) (sym (skips (ready s k t) _ 0 r)))
+
+summed : (z : ℕ) (s : Setting) (input : List ℕ) (k : ℕ) (t : Turn)
+    → run z s input k t .progress .tally ≡ t .progress .tally + charges z s input k (s .terms .head .count) t
+unfolding run
+summed z s input k t = runs-summed z s input k (s .terms .head .count) t
+
 pub tallied : Tallied
-tallied = record { charged = charged; within = within }
+tallied = record { charged = charged; summed = summed; within = within }

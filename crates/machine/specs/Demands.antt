@@ -57,10 +57,22 @@ pub record Failures : Type 0 where
 
 -- ---- cost
 
+-- what the instructions of a run are charged: each that succeeds its cost, one that fails nothing
+unfoldable pub charges : ℕ → Setting → List ℕ → ℕ → ℕ → Turn → ℕ
+charges z s input k zero t = 0
+charges z s input k (suc n) t =
+    let i = current s t in
+    let l = inputsOf i input in
+    let own = pick (eqb (judged z s (t .progress) i l) 0) (cost (s .terms) (opOf (i .name)) (argsOf (opOf (i .name)) l .len)) 0 in
+    let more = own + charges z s input k n (step z s input t) in
+    pick (ready s k t) more 0
+
 -- "The running tally is a number in the result, equal to the definition's summed instruction costs and never above the given budget."
 pub record Tallied : Type 0 where
   pub charged : (z : ℕ) (s : Setting) (i : Instruction) (l : List (List ℕ)) (t : Turn) → judged z s (t .progress) i l ≡ 0
       → stepped z s i l t .progress .tally ≡ t .progress .tally + cost (s .terms) (opOf (i .name)) (argsOf (opOf (i .name)) l .len)
+  pub summed : (z : ℕ) (s : Setting) (input : List ℕ) (k : ℕ) (t : Turn)
+      → run z s input k t .progress .tally ≡ t .progress .tally + charges z s input k (s .terms .head .count) t
   pub within : (z : ℕ) (s : Setting) (input : List ℕ) (k : ℕ) (t : Turn) → t .progress .tally ≤ s .terms .budget
       → run z s input k t .progress .tally ≤ s .terms .budget
 
