@@ -13,3 +13,4 @@ pub mod Pigeons
 pub mod Sizes
 pub mod Slots
 pub mod Split
+pub mod Ways

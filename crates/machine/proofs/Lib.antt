@@ -8,3 +8,4 @@ pub mod Records
 pub mod Ordering
 pub mod Opening
 pub mod Committing
+pub mod Nothing

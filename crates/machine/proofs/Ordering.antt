@@ -28,6 +28,7 @@ use Rattle.machine.specs.Run.{failing, going, run}
 use Rattle.machine.specs.Calls.{roomRight, begun, openedHead, opened, Pieced, accepted, piece, Interrupted, stopped, interrupt, reached}
 use Rattle.machine.specs.Commit.{Closed, givenUp, agreed, close}
 use Rattle.machine.specs.Demands.{Sound, Refused, Ordered}
+use Rattle.machine.proofs.Laws.Ways.{either-way}
 use Rattle.machine.proofs.Laws.Lists.{every-drop}
 use Rattle.machine.proofs.Laws.Pigeons.{pigeons}
 use Rattle.machine.proofs.Laws.Sizes.{sizes, whose-whole, read-only-size}
@@ -41,12 +42,6 @@ use Rattle.host.specs.declared.Program.{Program}
 use Rattle.host.specs.declared.Host.{Host}
 use Rattle.machine.specs.declared.Answer.{Answer}
 use Rattle.machine.specs.declared.Reached.{Reached}
-
--- down a case: what holds of both ways holds of the choice
-either-way : {R : Type 0} (K : R → Type 0) (b : Bool) (x y : R) → (b ≡ true → K x) → (b ≡ false → K y) → K (pick b x y)
-unfolding pick
-either-way K true x y f g = f refl
-either-way K false x y f g = g refl
 
 -- ---- opening
 

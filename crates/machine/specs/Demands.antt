@@ -21,7 +21,7 @@ use Rattle.machine.specs.Effect.{effect}
 use Rattle.machine.specs.Record.{failureBytes, successBytes}
 use Rattle.machine.specs.Run.{stepped, current, step, ready, run}
 use Rattle.machine.specs.Calls.{answered, opened, Pieced, pieced, piece, interrupted, interrupt, reachedAt, noPair, reached}
-use Rattle.machine.specs.Commit.{closed, close}
+use Rattle.machine.specs.Commit.{Closed, closed, close}
 use Rattle.sia.specs.declared.Instruction.{Instruction}
 use Rattle.host.specs.declared.Place.{Place}
 use Rattle.host.specs.declared.Prices.{Prices}
@@ -75,6 +75,22 @@ pub record Tallied : Type 0 where
       → run z s input k t .progress .tally ≡ t .progress .tally + charges z s input k (s .terms .head .count) t
   pub within : (z : ℕ) (s : Setting) (input : List ℕ) (k : ℕ) (t : Turn) → t .progress .tally ≤ s .terms .budget
       → run z s input k t .progress .tally ≤ s .terms .budget
+
+-- ---- all or nothing
+
+-- the disk's bytes and the contracts are as they were
+pub record Untouched (disk : List ℕ) (h : Host) (after : Closed) : Type 0 where
+  pub bytes : after .disk ≡ disk
+  pub places : after .host .places ≡ h .places
+
+-- "Giving up always closes and commits nothing."; 14: "changes dropped"; and before a close no call changes a contract.
+pub record Nothing : Type 0 where
+  pub givingUp : (z : ℕ) (disk : List ℕ) (h : Host) (stage : List ℕ) (agree : Bool) (size : ℕ) (root : List ℕ) → agree ≡ false
+      → Untouched disk h (close z disk h stage agree size root)
+  pub differing : (z : ℕ) (disk : List ℕ) (h : Host) (stage : List ℕ) (agree : Bool) (size : ℕ) (root : List ℕ) → (close z disk h stage agree size root .number ≡ 0 → ⊥)
+      → Untouched disk h (close z disk h stage agree size root)
+  pub pieces : (z : ℕ) (disk : List ℕ) (h : Host) (stage input output bytes : List ℕ) → piece z disk h stage input output bytes .host .places ≡ h .places
+  pub interrupts : (z : ℕ) (disk : List ℕ) (h : Host) (output : List ℕ) → interrupt z disk h output .host .places ≡ h .places
 
 -- ---- order
 
