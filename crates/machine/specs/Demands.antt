@@ -1,4 +1,5 @@
--- The demands as statements over the definitions; proofs/Demands.antt proves each. z is the sector size. Assumes nothing.
+-- The demands as statements over the definitions. z is the sector size. Proved in proofs/: Refusals in Refusing, Failures and Tallied in
+-- Failing, Nothing in Nothing, Ordered in Ordering, Cuttings in Cutting, Openings in Opening, Records in Records. Assumes nothing.
 use mathlib.Core.Path.{_≡_}
 use mathlib.Core.Bool.{Bool, true, false}
 use mathlib.Core.List.{List, [], _∷_, _++_}
