@@ -54,7 +54,7 @@ begun-opened : (z : ℕ) (h : Host) (hd : Head) (budget : ℕ) (p : Prices) (roo
     → Opened z disk (withProgram h (begun h hd budget p room)) stage input output
 unfolding withProgram begun started areasRight diskRight
 begun-opened z h hd budget p room disk stage input output sound o areas li lo =
-    record { takes = record { some = sound .some; order = o; areas = areas; live = refl; input = li; output = lo; entries = refl }; came = refl; written = refl }
+    record { takes = record { some = sound .some; order = o; areas = areas; live = refl; input = li; output = lo; entries = refl }; came = refl; written = refl; ran = refl }
 
 openings : (z : ℕ) (h : Host) (bytes : List ℕ) (budget : ℕ) (p : Prices) (room : ℕ) (disk stage input output : List ℕ) → Sound z h → Bytes bytes
     → opened z h bytes budget p room .number ≡ 0 → areasRight z h disk stage ≡ true → length input ≡ decode bytes .head .length → length output ≡ room

@@ -187,11 +187,12 @@ pub record Cuttings : Type 0 where
   pub cuttings : (z : ℕ) (disk : List ℕ) (h : Host) (stage input output all : List ℕ) → Taking z disk (lentTo h stage input output)
       → h .program .came ≡ 0 → length all ≡ h .program .terms .head .length → Cutting z disk h stage input output all
 
--- Every program that is opened is such a one: with areas as stated its host takes pieces, and nothing has come or was written.
+-- Every program that is opened is such a one: with areas as stated its host takes pieces, and nothing has come, was written or ran.
 pub record Opened (z : ℕ) (disk : List ℕ) (h : Host) (stage input output : List ℕ) : Type 0 where
   pub takes : Taking z disk (lentTo h stage input output)
   pub came : h .program .came ≡ 0
   pub written : h .program .progress .written ≡ 0
+  pub ran : h .program .progress .ran ≡ 0
 
 pub record Openings : Type 0 where
   pub openings : (z : ℕ) (h : Host) (bytes : List ℕ) (budget : ℕ) (p : Prices) (room : ℕ) (disk stage input output : List ℕ) → Sound z h → Bytes bytes
