@@ -1,15 +1,14 @@
 -- A commit leaves the places in order: kept slots stay, new ones are free ones, and as many are free as are wanted. Assumes nothing.
 use mathlib.Core.Path.{_≡_, refl, sym, ap, _∙_, subst}
-use mathlib.Core.Bool.{Bool, true, false, not}
+use mathlib.Core.Bool.{true, false, not}
 use mathlib.Core.List.{List, [], _∷_, _++_, append-assoc}
 use Prim.Native.Nat.{ℕ, _+_, _-_, _*_, _/_, _%_, _≤_, _<_}
 use native.Mathlib.Nat.{add-mul, le-of-mul-le-mul-right}
 use native.Mathlib.Omega.{arith}
 use lib.ListN.{length, take, length-append}
 use lib.Seq.{take-at}
-use lib.Dec.{leb, ltb, eqb}
+use lib.Dec.{ltb, eqb}
 use borrow.Author.Tests.{leb-true, le-leb, eq-eqb}
-use Rattle.area.specs.Pick.{pick, both}
 use Rattle.area.specs.Area.{same, zeros}
 use Rattle.area.proofs.Laws.Pick.{by, picks, skips, both-left, both-right, both-join}
 use Rattle.area.proofs.Laws.Same.{same-eq}

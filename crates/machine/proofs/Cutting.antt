@@ -1,11 +1,11 @@
 -- Pieces cut anywhere: the state after them is a function of the bytes come. By induction on the pieces, from the laws of runs. Assumes nothing.
 use mathlib.Core.Path.{_≡_, refl, sym, ap, _∙_, subst}
-use mathlib.Core.Bool.{Bool, true, false, not}
+use mathlib.Core.Bool.{Bool, true, false}
 use mathlib.Core.List.{List, [], _∷_, _++_, append-assoc, append-nil}
 use Prim.Native.Nat.{ℕ, suc, _+_, _≤_}
 use native.Mathlib.Omega.{arith}
 use lib.ListN.{length, take, length-append}
-use lib.Seq.{take-append-seam, take-at}
+use lib.Seq.{take-append-seam}
 use Rattle.area.specs.Pick.{pick}
 use Rattle.area.specs.Area.{part, put}
 use Rattle.area.proofs.Laws.Puts.{put-append, part-put}

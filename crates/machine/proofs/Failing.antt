@@ -5,14 +5,14 @@ use mathlib.Core.List.{List}
 use Prim.Native.Nat.{ℕ, zero, suc, _+_, _≤_}
 use native.Mathlib.Nat.{add-assoc}
 use native.Mathlib.Omega.{arith}
-use lib.Dec.{ltb, eqb}
+use lib.Dec.{eqb}
 use borrow.Author.Tests.{ltb-false, eqb-true, eqb-false, eq-eqb, ne-eqb}
-use Rattle.area.specs.Pick.{pick, both}
+use Rattle.area.specs.Pick.{pick}
 use Rattle.area.proofs.Laws.Pick.{by, picks, skips, both-not-left}
 use Rattle.sia.specs.Names.{opOf}
 use Rattle.host.specs.With.{withWritten, withFailed}
 use Rattle.machine.specs.View.{Setting, Turn}
-use Rattle.machine.specs.Inputs.{illFormed, pastEnd, argsOf, inputsOf}
+use Rattle.machine.specs.Inputs.{argsOf, inputsOf}
 use Rattle.machine.specs.Plan.{cost, judgedInputs, judged}
 use Rattle.machine.specs.Run.{failedProgress, failing, ranProgress, succeeding, stepped, current, step, going, ready, runs, run}
 use Rattle.machine.specs.Demands.{Failed, Failures, charges, Tallied}

@@ -1,10 +1,10 @@
 -- What is not committed changes no contract and no byte of the disk: down the chains of closing, pieces and interrupts. Assumes nothing.
 use mathlib.Core.Path.{_≡_, refl, sym, ap, _∙_}
-use mathlib.Core.Bool.{Bool, true, false, not}
+use mathlib.Core.Bool.{Bool, false, not}
 use mathlib.Core.List.{List}
 use Prim.Native.Nat.{ℕ}
 use Rattle.area.proofs.Laws.Pick.{never}
-use Rattle.host.specs.With.{withProgram, withCame, withProgress}
+use Rattle.host.specs.With.{withProgram}
 use Rattle.machine.specs.View.{withRun}
 use Rattle.machine.specs.Calls.{Pieced, accepted, piece, Interrupted, stopped, interrupt}
 use Rattle.machine.specs.Commit.{Closed, givenUp, commit, agreed, close}

@@ -2,12 +2,12 @@
 use mathlib.Core.Path.{_≡_, refl, sym, ap, _∙_, subst}
 use mathlib.Core.Bool.{Bool, true, false, not}
 use mathlib.Core.List.{List}
-use Prim.Native.Nat.{ℕ, zero, suc}
+use Prim.Native.Nat.{ℕ, suc}
 use native.Mathlib.Omega.{arith}
 use lib.ListN.{length}
 use lib.Dec.{eqb}
 use borrow.Author.Tests.{not-false, eqb-false}
-use Rattle.area.specs.Pick.{pick, both}
+use Rattle.area.specs.Pick.{pick}
 use Rattle.area.specs.Little.{Bytes}
 use Rattle.area.proofs.Laws.Pick.{by, picks, skips}
 use Rattle.sia.specs.Decode.{decode}
@@ -16,7 +16,7 @@ use Rattle.host.specs.With.{withProgram}
 use Rattle.host.specs.Order.{inOrder}
 use Rattle.machine.specs.View.{diskRight, areasRight}
 use Rattle.machine.specs.Calls.{answered, begun, openedHead, opened}
-use Rattle.machine.specs.Demands.{Sound, Taking, Opened, Openings}
+use Rattle.machine.specs.Demands.{Sound, Opened, Openings}
 use Rattle.machine.proofs.Ordering.{ordered}
 use Rattle.sia.specs.declared.Head.{Head}
 use Rattle.host.specs.declared.Prices.{Prices}

@@ -1,13 +1,13 @@
 -- Order is kept by every call: each goes down its chain of cases, where a refusal leaves the host as it was.
 -- An opening fits because slots are distinct and below the disk. Assumes nothing.
-use mathlib.Core.Path.{_≡_, refl, sym, ap, _∙_, subst}
+use mathlib.Core.Path.{_≡_, refl, sym, ap, _∙_}
 use mathlib.Core.Bool.{Bool, true, false, not}
-use mathlib.Core.List.{List, [], _∷_}
-use Prim.Native.Nat.{ℕ, _+_, _*_, _/_, _≤_, _<_}
+use mathlib.Core.List.{List, []}
+use Prim.Native.Nat.{ℕ, _+_, _/_, _≤_}
 use native.Mathlib.Nat.{le-trans, mul-le-mul-right}
 use native.Mathlib.Omega.{arith}
-use lib.ListN.{length, take, drop, replicate, length-take, drop-of-length-le}
-use lib.Dec.{leb, ltb, eqb}
+use lib.ListN.{length, take, replicate, length-take, drop-of-length-le}
+use lib.Dec.{eqb}
 use borrow.Author.Tests.{not-false, leb-true, le-leb, ltb-false, eqb-true, eq-eqb}
 use Rattle.area.specs.Pick.{pick, both, either}
 use Rattle.area.specs.Area.{same, put}
@@ -23,7 +23,7 @@ use Rattle.host.specs.With.{withProgram}
 use Rattle.host.specs.Places.{whose, taken}
 use Rattle.host.specs.Order.{slotInOrder, clash, parentInOrder, termsInOrder, progressInOrder, programInOrder, placesInOrder, inOrder}
 use Rattle.host.specs.Facts.{Staged}
-use Rattle.machine.specs.View.{settingOf, turnOf, withRun}
+use Rattle.machine.specs.View.{settingOf, turnOf}
 use Rattle.machine.specs.Run.{failing, going, run}
 use Rattle.machine.specs.Calls.{roomRight, begun, openedHead, opened, Pieced, accepted, piece, Interrupted, stopped, interrupt, reached}
 use Rattle.machine.specs.Commit.{Closed, givenUp, agreed, close}

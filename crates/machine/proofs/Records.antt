@@ -1,8 +1,8 @@
 -- After pieces the output area holds the first m records of the whole data's run: by induction on the run, each record stands behind the
 -- last. Assumes nothing.
-use mathlib.Core.Path.{_≡_, refl, sym, ap, ap₂, _∙_, subst}
-use mathlib.Core.Bool.{Bool, true, false, not}
-use mathlib.Core.List.{List, [], _∷_, _++_}
+use mathlib.Core.Path.{_≡_, refl, sym, ap, ap₂, _∙_}
+use mathlib.Core.Bool.{true}
+use mathlib.Core.List.{List, _∷_, _++_}
 use Prim.Native.Nat.{ℕ, zero, suc, _+_, _*_, _≤_}
 use native.Mathlib.Omega.{arith}
 use lib.ListN.{length, take, length-append}
@@ -15,7 +15,7 @@ use Rattle.machine.specs.View.{Setting, Turn, settingOf, turnOf, diskRig
 use Rattle.machine.specs.Inputs.{inputsOf}
 use Rattle.machine.specs.Run.{current, step, going, ready, runs, run}
 use Rattle.machine.specs.Calls.{Pieced}
-use Rattle.machine.specs.Demands.{together, lentTo, fed, made, after, Sectors, Taking, recorded, trail, ripe, wholeRun, met, Records}
+use Rattle.machine.specs.Demands.{together, lentTo, fed, made, after, Sectors, Taking, recorded, trail, wholeRun, met, Records}
 use Rattle.machine.proofs.Laws.Steps.{runs-zero, runs-go, runs-stop, ready-going}
 use Rattle.machine.proofs.Laws.Trails.{stepped-output, trail-zero, trail-go, trail-stop, firsts, counted}
 use Rattle.machine.proofs.Laws.Kept.{Good, Lent, stepped-good}

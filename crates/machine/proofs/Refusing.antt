@@ -1,7 +1,6 @@
 -- Refusals: each call is a chain of cases that ends in an answer of 0; every other case is a refusal as stated. Assumes nothing.
-use mathlib.Core.Path.{_≡_, refl, sym, ap, _∙_}
-use mathlib.Core.Bool.{Bool, true, false, not}
-use mathlib.Core.List.{List}
+use mathlib.Core.Path.{_≡_, refl, sym, ap}
+use mathlib.Core.Bool.{Bool, true, false}
 use Prim.Native.Nat.{ℕ}
 use lib.IntN.{pos}
 use Rattle.area.specs.Pick.{pick}

@@ -1,7 +1,7 @@
 -- "Figures from the bench", the lines marked (P): one table, what the definitions give beside what document 01 says. Assumes nothing.
 use mathlib.Core.Bool.{true, false}
 use mathlib.Core.List.{List, [], _∷_, _++_}
-use Prim.Native.Nat.{ℕ, _+_, _-_}
+use Prim.Native.Nat.{ℕ, _+_}
 use lib.ListN.{length, take, drop, replicate, set}
 use Rattle.area.specs.Pick.{pick}
 use Rattle.area.specs.Area.{zeros}
@@ -20,7 +20,6 @@ use Rattle.sia.specs.declared.Operand.{Operand}
 use Rattle.sia.specs.declared.Instruction.{Instruction}
 use Rattle.sia.specs.declared.Head.{Head}
 use Rattle.host.specs.declared.Prices.{Prices}
-use Rattle.host.specs.declared.Place.{Place}
 use Rattle.host.specs.declared.Host.{Host}
 
 -- what the definitions give is a function of a number that it does not look at, so that it is computed only where the theorem asks

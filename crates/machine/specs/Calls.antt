@@ -18,7 +18,6 @@ use Rattle.machine.specs.Record.{Pair, startingPair, runningPair}
 use Rattle.machine.specs.Run.{failing, going, run}
 use Rattle.sia.specs.declared.Head.{Head}
 use Rattle.host.specs.declared.Prices.{Prices}
-use Rattle.host.specs.declared.Terms.{Terms}
 use Rattle.host.specs.declared.Program.{Program}
 use Rattle.host.specs.declared.Host.{Host}
 use Rattle.machine.specs.declared.Answer.{Answer}

@@ -1,5 +1,5 @@
 -- Closing: what it answers and leaves, and the commit. z is the sector size. Assumes nothing.
-use mathlib.Core.Bool.{Bool, true, not}
+use mathlib.Core.Bool.{Bool, not}
 use mathlib.Core.List.{List, [], _∷_, _++_}
 use Prim.Native.Nat.{ℕ, zero, suc, _-_, _*_, _/_, min}
 use lib.ListN.{length, getD}
@@ -15,7 +15,7 @@ use Rattle.host.specs.Places.{committed, taken}
 use Rattle.host.specs.Order.{inOrder}
 use Rattle.host.specs.Calls.{replaced}
 use Rattle.machine.specs.View.{settingOf, parent, areasRight}
-use Rattle.machine.specs.Record.{Pair, runningPair}
+use Rattle.machine.specs.Record.{runningPair}
 use Rattle.machine.specs.Run.{going}
 use Rattle.host.specs.declared.Place.{Place}
 use Rattle.host.specs.declared.Host.{Host}

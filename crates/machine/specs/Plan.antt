@@ -17,7 +17,6 @@ use Rattle.machine.specs.Inputs.{illFormed, pastEnd, wellFormed, Args, a
 use Rattle.sia.specs.declared.Instruction.{Instruction}
 use Rattle.sia.specs.declared.Op.{Op}
 use Rattle.sia.specs.declared.Op.the-variants.{Read, ReadSector, Write, Copy, Swap, Truncate, Unknown}
-use Rattle.host.specs.declared.Place.{Place}
 use Rattle.host.specs.declared.Prices.{Prices}
 use Rattle.host.specs.declared.Terms.{Terms}
 use Rattle.host.specs.declared.Progress.{Progress}

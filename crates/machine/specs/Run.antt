@@ -11,7 +11,7 @@ use Rattle.sia.specs.Empty.{noInstruction}
 use Rattle.machine.specs.View.{Setting, Turn}
 use Rattle.machine.specs.Inputs.{need, inputsOf, Args, argsOf}
 use Rattle.machine.specs.Plan.{sourceOf, cost, newSize, recordCount, judged}
-use Rattle.machine.specs.Effect.{Staging, effect}
+use Rattle.machine.specs.Effect.{effect}
 use Rattle.machine.specs.Record.{failureBytes, successBytes}
 use Rattle.sia.specs.declared.Instruction.{Instruction}
 use Rattle.sia.specs.declared.Op.{Op}

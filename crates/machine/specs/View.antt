@@ -1,6 +1,6 @@
 -- What instructions run against, and where the bytes of sectors are. z is the sector size. Assumes nothing.
-use mathlib.Core.Bool.{Bool, not}
-use mathlib.Core.List.{List, []}
+use mathlib.Core.Bool.{Bool}
+use mathlib.Core.List.{List}
 use Prim.Native.Nat.{ℕ, _*_, _/_}
 use lib.ListN.{length, getD}
 use lib.Dec.{eqb}

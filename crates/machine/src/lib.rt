@@ -1,4 +1,4 @@
-// The machine: the calls that open a program, give it pieces, interrupt it, tell what it has reached, and close it.
+// The machine. What its calls mean stands in specs/; of the code there are the answers of the calls, and whether a program is going.
 ghost use mathlib.Core.Path.{_≡_};
 ghost use Rattle.machine.specs.Run as Says;
 use host::Host;

@@ -6,22 +6,22 @@ use Prim.Native.Nat.{ℕ, zero, suc, _+_, _*_, _/_, _%_, _≤_, _<_}
 use native.Mathlib.Nat.{div-add-mod', div-lt-iff-lt-mul, lt-of-mul-lt-mul-right, le-trans, suc-mul, mul-le-mul-right, le-of-mul-le-mul-right}
 use native.Mathlib.Omega.{arith}
 use lib.ListN.{length, drop, getD, set, length-set}
-use lib.Seq.{getD-set-same, getD-set-other, set-out}
+use lib.Seq.{getD-set-same, getD-set-other}
 use lib.Dec.{ltb, eqb}
 use borrow.Author.Tests.{not-true, not-false, ltb-true, ltb-false, eqb-true, eqb-false, ne-eqb}
 use Rattle.area.specs.Pick.{pick, both, either}
 use Rattle.area.specs.Area.{zeros}
 use Rattle.area.specs.Lowest.{lowest}
-use Rattle.area.proofs.Laws.Pick.{by, picks, skips, never, both-left, both-right, both-join, either-left, either-right}
+use Rattle.area.proofs.Laws.Pick.{by, picks, skips, never, both-left, either-left, either-right}
 use Rattle.sia.specs.Names.{opOf}
 use Rattle.sia.specs.Encode.{every}
-use Rattle.host.specs.Lists.{some, those, count, unused}
+use Rattle.host.specs.Lists.{those, count, unused}
 use Rattle.host.specs.Empty.{none}
 use Rattle.host.specs.Places.{others, freeCopy}
 use Rattle.host.specs.Facts.{Staged}
 use Rattle.machine.specs.View.{Setting, readOnlyMode, freeCopies}
 use Rattle.machine.specs.Inputs.{Args, argsOf}
-use Rattle.machine.specs.Plan.{Source, sourceOf, changes, badSpan, badSize, badSpans, cost, touched, wanted, newSize, recordCount, judgedInputs, judged}
+use Rattle.machine.specs.Plan.{sourceOf, changes, badSpan, badSize, badSpans, cost, touched, wanted, newSize, recordCount, judgedInputs, judged}
 use Rattle.machine.specs.Effect.{Staging, newCopy, copied, laid, spanWritten, resized, effect}
 use Rattle.machine.proofs.Laws.Lists.{some-set, lowest-is, count-but-one}
 use Rattle.machine.proofs.Laws.Staged.{Free, copy-kept, grow-kept, shrink-kept}

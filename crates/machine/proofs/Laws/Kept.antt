@@ -1,15 +1,14 @@
 -- An instruction and a run keep the progress of a program in order. Assumes nothing.
 use mathlib.Core.Path.{_≡_, refl, sym, ap, _∙_, subst}
-use mathlib.Core.Bool.{Bool, true, false, not}
+use mathlib.Core.Bool.{Bool, true, false}
 use mathlib.Core.List.{List}
-use Prim.Native.Nat.{ℕ, zero, suc, _+_, _*_, _/_, _%_, _≤_, _<_}
+use Prim.Native.Nat.{ℕ, zero, suc, _*_, _/_, _≤_, _<_}
 use native.Mathlib.Nat.{mul-le-mul-right, le-of-mul-le-mul-right}
 use native.Mathlib.Omega.{arith}
 use lib.ListN.{length}
 use lib.Dec.{eqb}
 use borrow.Author.Tests.{leb-true, eqb-true, le-leb, eq-eqb}
 use Rattle.area.specs.Pick.{pick, both}
-use Rattle.area.specs.Area.{same}
 use Rattle.area.proofs.Laws.Pick.{by, picks, skips, never, both-left, both-right, both-join}
 use Rattle.sia.specs.Names.{opOf}
 use Rattle.host.specs.Places.{whose}

@@ -1,16 +1,15 @@
 -- A record is as long as its numbers say, so written bytes grow by its length. Assumes nothing.
-use mathlib.Core.Path.{_≡_, refl, sym, ap, _∙_, subst}
-use mathlib.Core.Bool.{Bool, true, false, not}
-use mathlib.Core.List.{List, [], _∷_, _++_}
-use Prim.Native.Nat.{ℕ, zero, suc, _+_, _*_, _/_, _%_, _^_, _≤_, _<_}
+use mathlib.Core.Path.{_≡_, refl, sym, ap, _∙_}
+use mathlib.Core.Bool.{Bool, true, false}
+use mathlib.Core.List.{List, [], _∷_}
+use Prim.Native.Nat.{ℕ, zero, suc, _+_, _*_, _/_, _%_, _≤_, _<_}
 use native.Mathlib.Nat.{suc-mul, one-mul, zero-mul, mul-left-comm, mul-le-mul-right, le-of-mul-le-mul-right}
 use native.Mathlib.Omega.{arith}
 use lib.ListN.{length, getD, length-append, length-replicate}
 use lib.Dec.{ltb, eqb}
 use borrow.Author.Tests.{not-false, ltb-true, ltb-false, eqb-true, eq-eqb}
-use Rattle.area.specs.Pick.{pick, both, either}
+use Rattle.area.specs.Pick.{pick}
 use Rattle.area.specs.Area.{part}
-use Rattle.area.specs.Little.{le8}
 use Rattle.area.proofs.Laws.Pick.{by, picks, skips, never, both-left, both-right, either-left}
 use Rattle.area.proofs.Laws.Parts.{length-part}
 use Rattle.area.proofs.Laws.Little.{length-bytes}
@@ -22,7 +21,7 @@ use Rattle.machine.specs.View.{Setting, Turn, Spot, onDisk, inStage, sec
 use Rattle.machine.specs.Roots.{contractRoot, segments, rangeProof, rangeCount}
 use Rattle.machine.specs.Inputs.{Args, argsOf}
 use Rattle.machine.specs.Plan.{Source, spots, sourceOf, reads, badSpan, badSpans, badProof, newSize, proofCount, outputCount, recordCount, judgedInputs, judged}
-use Rattle.machine.specs.Effect.{Staging, effect}
+use Rattle.machine.specs.Effect.{effect}
 use Rattle.machine.specs.Record.{Pair, startingPair, runningPair, recordBytes, failureBytes, outputOf, successBytes}
 use Rattle.machine.specs.Run.{failedProgress, failing, ranProgress, succeeding, stepped}
 use Rattle.machine.specs.Demands.{recordOf, Sectors}

@@ -1,5 +1,5 @@
 -- Lists by tests after one entry is set, and the lowest of a kind where there is one. Assumes nothing.
-use mathlib.Core.Path.{_≡_, refl, sym, ap, _∙_}
+use mathlib.Core.Path.{_≡_, refl, sym, ap}
 use mathlib.Core.Bool.{Bool, true, false, not}
 use mathlib.Core.List.{List, [], _∷_, _++_}
 use Prim.Native.Nat.{ℕ, zero, suc, _+_, _≤_, _<_}
@@ -8,7 +8,7 @@ use lib.ListN.{take, drop, set}
 use lib.Seq.{drop-nil}
 use lib.Dec.{eqb}
 use borrow.Author.Tests.{not-true, eqb-true, eqb-false, ne-eqb}
-use Rattle.area.specs.Pick.{pick, both, either}
+use Rattle.area.specs.Pick.{pick}
 use Rattle.area.specs.Lowest.{lowest}
 use Rattle.area.proofs.Laws.Pick.{by, picks, skips, both-join, both-left, both-right, both-not-left, both-not-right, either-join, either-left, either-right}
 use Rattle.sia.specs.Encode.{every}

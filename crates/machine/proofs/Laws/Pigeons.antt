@@ -1,13 +1,12 @@
 -- Numbers below n, no two alike, are at most n. Assumes nothing.
-use mathlib.Core.Path.{_≡_, refl, sym, ap, _∙_, subst}
+use mathlib.Core.Path.{_≡_, refl, ap, _∙_, subst}
 use mathlib.Core.Bool.{Bool, true, false, not}
 use mathlib.Core.List.{List, [], _∷_}
-use Prim.Native.Nat.{ℕ, zero, suc, _+_, _≤_, _<_}
+use Prim.Native.Nat.{ℕ, zero, suc, _+_, _≤_}
 use native.Mathlib.Omega.{arith}
 use lib.ListN.{length}
 use lib.Dec.{ltb, eqb}
 use borrow.Author.Tests.{not-true, ltb-true, lt-ltb, eqb-true, eqb-false}
-use Rattle.area.specs.Pick.{pick, both, either}
 use Rattle.area.proofs.Laws.Pick.{by, picks, skips, both-left, both-right, both-join, either-left, either-right, either-join}
 use Rattle.sia.specs.Encode.{every}
 use Rattle.host.specs.Lists.{some, those, apart}

@@ -1,13 +1,13 @@
 -- New slots: each the lowest that is not used, so they are distinct, unused and below the disk where enough are free. Assumes nothing.
-use mathlib.Core.Path.{_≡_, refl, sym, ap, _∙_, subst}
+use mathlib.Core.Path.{_≡_, refl, ap}
 use mathlib.Core.Bool.{Bool, true, false, not}
 use mathlib.Core.List.{List, [], _∷_, _++_}
-use Prim.Native.Nat.{ℕ, zero, suc, _+_, _≤_, _<_}
+use Prim.Native.Nat.{ℕ, zero, suc, _+_, _≤_}
 use native.Mathlib.Omega.{arith}
 use lib.ListN.{length}
 use lib.Dec.{ltb, eqb}
 use borrow.Author.Tests.{not-true, lt-ltb, ne-eqb}
-use Rattle.area.specs.Pick.{pick, both, either}
+use Rattle.area.specs.Pick.{pick}
 use Rattle.area.specs.Lowest.{lowest}
 use Rattle.area.proofs.Laws.Pick.{both-left, both-right, both-join, either-join}
 use Rattle.sia.specs.Encode.{every}

@@ -9,7 +9,7 @@ use lib.ListN.{length, take, drop, getD, length-take, length-drop}
 use lib.Seq.{getD-take, getD-drop, length-take-le}
 use lib.Dec.{leb, ltb, eqb}
 use borrow.Author.Tests.{not-true, leb-true, ltb-true, ltb-false, lt-ltb}
-use Rattle.area.specs.Pick.{pick, both, either}
+use Rattle.area.specs.Pick.{pick, either}
 use Rattle.area.specs.Area.{same, tab}
 use Rattle.area.proofs.Laws.Pick.{by, picks, skips, never, both-left, both-right, both-join}
 use Rattle.area.proofs.Laws.Tab.{length-tab}

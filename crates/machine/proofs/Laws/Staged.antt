@@ -1,14 +1,13 @@
 -- The staged positions stay in order: a copy is made, a sector is added, a sector is dropped. Assumes nothing.
-use mathlib.Core.Path.{_≡_, refl, sym, ap, _∙_, subst}
+use mathlib.Core.Path.{_≡_, refl, ap, _∙_, subst}
 use mathlib.Core.Bool.{Bool, true, false, not}
 use mathlib.Core.List.{List, [], _∷_, _++_}
-use Prim.Native.Nat.{ℕ, zero, suc, _+_, _≤_, _<_}
+use Prim.Native.Nat.{ℕ, suc, _+_, _≤_, _<_}
 use native.Mathlib.Omega.{arith}
 use lib.ListN.{length, take, drop, set, length-append, drop-of-length-le}
 use lib.Seq.{drop-drop, take-suc-set, take-set-lt, take-set-le, drop-set-lt, drop-append-le, length-take-le}
-use lib.Dec.{leb, ltb, eqb}
+use lib.Dec.{leb, eqb}
 use borrow.Author.Tests.{leb-true, leb-false, lt-ltb, ne-eqb}
-use Rattle.area.specs.Pick.{pick, either}
 use Rattle.area.proofs.Laws.Pick.{by, picks, skips, never}
 use Rattle.sia.specs.Encode.{every}
 use Rattle.host.specs.Lists.{some}

@@ -13,7 +13,7 @@ use Rattle.area.proofs.Laws.Pick.{skips, both-left, both-right, both-join}
 use Rattle.area.proofs.Laws.Puts.{length-put}
 use Rattle.host.specs.With.{withProgram, withCame, withProgress}
 use Rattle.host.specs.Order.{lent, programInOrder, inOrder}
-use Rattle.machine.specs.View.{Setting, Turn, settingOf, turnOf, withRun, diskRight, areasRight}
+use Rattle.machine.specs.View.{settingOf, turnOf, withRun, diskRight, areasRight}
 use Rattle.machine.specs.Run.{run}
 use Rattle.machine.specs.Calls.{Pieced, accepted, inputRight, outputRight, piece}
 use Rattle.machine.specs.Demands.{together, AllAccepted, Taking}

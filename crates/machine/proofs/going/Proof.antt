@@ -1,7 +1,6 @@
 -- `machine::going` meets its contract: a failure first, then the count. Assumes nothing.
 use mathlib.Core.Path.{refl, ap}
 use mathlib.Core.Bool.{not}
-use Rattle.area.specs.Pick.{pick}
 use Rattle.area.proofs.Laws.Pick.{yes, no}
 use Rattle.machine.specs.Run.{going}
 use Rattle.machine.proofs.going.Statement.{statement}
