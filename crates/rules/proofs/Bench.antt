@@ -1,0 +1,61 @@
+-- The theorem of the bench: what the definitions give is what document 01 says, in every row, by computing. Roots and proofs are shut;
+-- records' lengths are numbers, so no row waits for one. A definition for each layer opens the names of that layer. Assumes nothing.
+use mathlib.Core.Path.{_≡_, refl}
+use Prim.Native.Nat.{ℕ}
+use Rattle.host.specs.Lists.{each}
+use Rattle.area.specs.Pick as AreaPick
+use Rattle.area.specs.Area as AreaArea
+use Rattle.area.specs.Lowest as AreaLowest
+use Rattle.area.specs.Little as AreaLittle
+use Rattle.tree.specs.Walk as TreeWalk
+use Rattle.sia.specs.Empty as SiaEmpty
+use Rattle.sia.specs.Names as SiaNames
+use Rattle.sia.specs.Number as SiaNumber
+use Rattle.sia.specs.Encode as SiaEncode
+use Rattle.sia.specs.Decode as SiaDecode
+use Rattle.host.specs.Lists as HostLists
+use Rattle.host.specs.Empty as HostEmpty
+use Rattle.host.specs.With as HostWith
+use Rattle.host.specs.Places as HostPlaces
+use Rattle.host.specs.Order as HostOrder
+use Rattle.host.specs.Calls as HostCalls
+use Rattle.rules.specs.View as RulesView
+use Rattle.rules.specs.Roots as RulesRoots
+use Rattle.rules.specs.Inputs as RulesInputs
+use Rattle.rules.specs.Plan as RulesPlan
+use Rattle.rules.specs.Effect as RulesEffect
+use Rattle.rules.specs.Record as RulesRecord
+use Rattle.rules.specs.Run as RulesRun
+use Rattle.rules.specs.Calls as RulesCalls
+use Rattle.rules.specs.Bench as RulesBench
+use Rattle.rules.specs.Bench.{table}
+
+-- opens the definitions of area
+unfoldable open-area : ℕ
+unfolding AreaPick.pick AreaArea.part AreaArea.put AreaArea.same AreaArea.tab AreaLowest.lowest AreaLittle.valueOf AreaLittle.bytesOf
+open-area = 0
+
+-- opens the definitions of tree
+unfoldable open-tree : ℕ
+unfolding TreeWalk.outside TreeWalk.inside TreeWalk.hashes TreeWalk.count
+open-tree = 0
+
+-- opens the definitions of sia
+unfoldable open-sia : ℕ
+unfolding SiaEmpty.filled SiaNames.opOf SiaNumber.number SiaEncode.joined SiaEncode.operandBytes SiaEncode.instructionBytes SiaEncode.encode SiaEncode.every SiaEncode.within SiaDecode.after SiaDecode.bytes SiaDecode.number SiaDecode.limited SiaDecode.flag SiaDecode.several SiaDecode.entries SiaDecode.operand SiaDecode.instruction SiaDecode.head SiaDecode.answer SiaDecode.decode
+open-sia = 0
+
+-- opens the definitions of host
+unfoldable open-host : ℕ
+unfolding HostLists.some HostLists.those HostLists.each HostLists.apart HostLists.sum HostLists.count HostEmpty.noPlace HostEmpty.noPrices HostEmpty.noTerms HostEmpty.noProgress HostEmpty.noProgram HostEmpty.bare HostEmpty.newPlace HostEmpty.started HostWith.withPlaces HostWith.withProgram HostWith.withCame HostWith.withProgress HostWith.withRunning HostWith.withStaged HostPlaces.hasId HostPlaces.whose HostPlaces.ownSize HostPlaces.others HostPlaces.committed HostPlaces.taken HostPlaces.freeCopy HostOrder.lent HostOrder.placeInOrder HostOrder.twins HostOrder.placesInOrder HostOrder.slotInOrder HostOrder.clash HostOrder.stagedInOrder HostOrder.parentInOrder HostOrder.termsInOrder HostOrder.progressInOrder HostOrder.programInOrder HostOrder.inOrder HostCalls.lengthRight HostCalls.freshed HostCalls.formedAt HostCalls.formed
+open-host = 0
+
+-- opens the definitions of rules
+unfoldable open-rules : ℕ
+unfolding RulesView.settingOf RulesView.turnOf RulesView.withRun RulesView.diskRight RulesView.areasRight RulesView.readOnlyMode RulesView.parent RulesView.freeCopies RulesView.sector RulesView.spotOf RulesView.parentSpots RulesView.committedSpots RulesView.allSpots RulesView.whole RulesRoots.contractRoot RulesRoots.rangeCount RulesInputs.known RulesInputs.operandsOf RulesInputs.illFormed RulesInputs.pastEnd RulesInputs.largest RulesInputs.need RulesInputs.inputsOf RulesInputs.isTold RulesInputs.told RulesInputs.isNumber RulesInputs.isKey RulesInputs.isData RulesInputs.wellFormed RulesInputs.readArgs RulesInputs.spanArgs RulesInputs.argsOf RulesPlan.changes RulesPlan.isThere RulesPlan.spots RulesPlan.contractSource RulesPlan.unlessNone RulesPlan.sectorSource RulesPlan.sourceOf RulesPlan.badSpan RulesPlan.badSize RulesPlan.badSpans RulesPlan.reads RulesPlan.badProof RulesPlan.time RulesPlan.own RulesPlan.cost RulesPlan.touched RulesPlan.wanted RulesPlan.newSize RulesPlan.proofCount RulesPlan.outputCount RulesPlan.recordCount RulesPlan.judgedInputs RulesPlan.judged RulesEffect.newCopy RulesEffect.sectorAt RulesEffect.copied RulesEffect.spanRead RulesEffect.laid RulesEffect.spanWritten RulesEffect.resized RulesEffect.effect RulesRecord.startingPair RulesRecord.runningPair RulesRecord.recordBytes RulesRecord.failureBytes RulesRecord.outputOf RulesRecord.successBytes RulesRun.failedProgress RulesRun.failing RulesRun.ranProgress RulesRun.succeeding RulesRun.stepped RulesRun.current RulesRun.step RulesRun.going RulesRun.ready RulesRun.runs RulesRun.run RulesCalls.roomRight RulesCalls.begun RulesCalls.openedHead RulesCalls.opened RulesCalls.accepted RulesCalls.inputRight RulesCalls.outputRight RulesCalls.piece RulesBench.prices RulesBench.id RulesBench.operand RulesBench.instruction RulesBench.program RulesBench.host RulesBench.sectorHost RulesBench.start RulesBench.given RulesBench.ran RulesBench.failed RulesBench.records RulesBench.counts RulesBench.number RulesBench.contracts RulesBench.grow RulesBench.alone RulesBench.growWrite RulesBench.growWriteData RulesBench.lateGrow RulesBench.lateGrowData RulesBench.onFour RulesBench.onFourData RulesBench.readSpan RulesBench.readSpanData RulesBench.aloneRow RulesBench.budgetRow RulesBench.needRow RulesBench.lateRow RulesBench.copyRow RulesBench.swapRow RulesBench.spanRow RulesBench.sizeRow RulesBench.proofRow RulesBench.idRow RulesBench.table
+open-rules = 0
+
+-- Every (P) line of document 01's figures, as one statement.
+pub bench : each (λ r. r .gives 0) table ≡ each (λ r. r .says) table
+unfolding open-area open-tree open-sia open-host open-rules
+bench = refl

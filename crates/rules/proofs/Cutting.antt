@@ -1,0 +1,143 @@
+-- Pieces cut anywhere: the state after them is a function of the bytes come. By induction on the pieces, from the laws of runs. Assumes nothing.
+use mathlib.Core.Path.{_≡_, refl, sym, ap, _∙_, subst}
+use mathlib.Core.Bool.{Bool, true, false}
+use mathlib.Core.List.{List, [], _∷_, _++_, append-assoc, append-nil}
+use Prim.Native.Nat.{ℕ, suc, _+_, _≤_}
+use native.Mathlib.Omega.{arith}
+use lib.ListN.{length, take, length-append}
+use lib.Seq.{take-append-seam}
+use Rattle.area.specs.Pick.{pick}
+use Rattle.area.specs.Area.{part, put}
+use Rattle.area.proofs.Laws.Puts.{put-append, part-put}
+use Rattle.host.specs.With.{withProgram, withCame, withProgress}
+use Rattle.rules.specs.View.{Setting, Turn, settingOf, turnOf, withRun}
+use Rattle.rules.specs.Run.{run}
+use Rattle.rules.specs.Calls.{Pieced, pieced, accepted, piece}
+use Rattle.rules.specs.Demands.{together, lentTo, fed, AllAccepted, made, after, Taking, Cutting, Cuttings}
+use Rattle.rules.proofs.Laws.Steps.{run-below, run-on}
+use Rattle.rules.proofs.Laws.Taking.{all-accepted}
+use Rattle.host.specs.declared.Host.{Host}
+
+take-put : (d x : List ℕ) (k : ℕ) → length x ≡ k → k ≤ length d → take k (put d 0 x) ≡ x
+unfolding part
+take-put d x k e h = part-put d 0 x k (sym e) (omega arith)
+
+-- a piece is accepted, or refused with a number and everything as it was
+pub data Answered (w a : Pieced) (r : Pieced) : Type 0 where
+  ok : r ≡ a → Answered w a r
+  refused : (n : ℕ) → r ≡ pieced (suc n) 0 (w .host) (w .stage) (w .input) (w .output) → Answered w a r
+
+refused-if : (w a : Pieced) (n : ℕ) (b : Bool) (r : Pieced) → Answered w a r → Answered w a (pick b (pieced (suc n) 0 (w .host) (w .stage) (w .input) (w .output)) r)
+unfolding pick
+refused-if w a n true r q = refused n refl
+refused-if w a n false r q = q
+
+pub piece-answers : (z : ℕ) (disk : List ℕ) (w : Pieced) (b : List ℕ)
+    → Answered w (accepted z disk (w .host) (w .stage) (w .input) (w .output) b) (piece z disk (w .host) (w .stage) (w .input) (w .output) b)
+unfolding piece
+piece-answers z disk w b = refused-if w _ 0 _ _ (refused-if w _ 1 _ _ (refused-if w _ 1 _ _ (refused-if w _ 3 _ _ (refused-if w _ 11 _ _ (ok refl)))))
+
+pub answered-zero : (w a r : Pieced) → Answered w a r → r .number ≡ 0 → r ≡ a
+answered-zero w a r (ok e) h = e
+answered-zero w a r (refused n e) h = absurd (let q : suc n ≡ 0 = sym (ap (λ (x : Pieced). x .number) e) ∙ h in omega arith)
+
+same-made : (h : Host) (k m : ℕ) (t u : Turn) (a b : List ℕ) → k ≡ m → t ≡ u → a ≡ b → made h k t a ≡ made h m u b
+same-made h k m t u a b p q r = rw (p, q, r)
+
+accepted-made : (z : ℕ) (disk : List ℕ) (h : Host) (stage input output b : List ℕ) (c : ℕ) → h .program .came ≡ c
+    → accepted z disk h stage input output b ≡ made h (c + length b) (run z (settingOf h disk) (put input c b) (c + length b) (turnOf h stage output)) (put input c b)
+unfolding accepted made
+accepted-made z disk h stage input output b c e =
+    ap (λ (n : ℕ). made h (n + length b) (run z (settingOf h disk) (put input n b) (n + length b) (turnOf h stage output)) (put input n b)) e
+
+-- a piece after others looks at the host only by what stays and by what they left
+accepted-again : (z : ℕ) (disk : List ℕ) (h : Host) (k : ℕ) (t : Turn) (area b : List ℕ)
+    → accepted z disk (withRun h k (t .progress)) (t .stage) area (t .output) b ≡ made h (k + length b) (run z (settingOf h disk) (put area k b) (k + length b) t) (put area k b)
+unfolding accepted made withRun withProgram withProgress withCame settingOf turnOf
+accepted-again z disk h k t area b = refl
+
+module _ (z : ℕ) (disk : List ℕ) (h : Host) (stage input output all : List ℕ) (roomy : length all ≤ length input) where
+  first : (b rest : List ℕ) → h .program .came ≡ 0 → b ++ rest ≡ all → accepted z disk h stage input output b ≡ after z disk h stage input output all (length b)
+  unfolding after
+  first b rest c e =
+      let g : take (length b) all ≡ b = ap (λ (x : List ℕ). take (length b) x) (sym e) ∙ take-append-seam b rest in
+      let a : put input 0 b ≡ put input 0 (take (length b) all) = ap (λ (x : List ℕ). put input 0 x) (sym g) in
+      let k : 0 + length b ≡ length b = omega arith in
+      let u : take (length b) (put input 0 b) ≡ take (length b) all = take-put input b (length b) refl (omega (arith, length-append b rest, ap length e)) ∙ sym g in
+      let r : run z (settingOf h disk) (put input 0 b) (0 + length b) (turnOf h stage output) ≡ run z (settingOf h disk) all (length b) (turnOf h stage output) =
+      ap (λ (n : ℕ). run z (settingOf h disk) (put input 0 b) n (turnOf h stage output)) k ∙ run-below z (settingOf h disk) (put input 0 b) all (length b) (turnOf h stage output) u in
+      accepted-made z disk h stage input output b 0 c ∙ same-made h (0 + length b) (length b) _ _ _ _ k r a
+
+  next : (x b rest : List ℕ) → x ++ (b ++ rest) ≡ all
+      → let w = after z disk h stage input output all (length x) in
+      accepted z disk (w .host) (w .stage) (w .input) (w .output) b ≡ after z disk h stage input output all (length (x ++ b))
+  unfolding after made
+  next x b rest e =
+      let s : Setting = settingOf h disk in
+      let t : Turn = turnOf h stage output in
+      let m : length (x ++ b) ≡ length x + length b = length-append x b in
+      let gx : take (length x) all ≡ x = ap (λ (y : List ℕ). take (length x) y) (sym e) ∙ take-append-seam x (b ++ rest) in
+      let gb : take (length (x ++ b)) all ≡ x ++ b = ap (λ (y : List ℕ). take (length (x ++ b)) y) (sym (append-assoc x b rest ∙ e)) ∙ take-append-seam (x ++ b) rest in
+      let a : put (put input 0 (take (length x) all)) (length x) b ≡ put input 0 (x ++ b) =
+      ap (λ (y : List ℕ). put (put input 0 y) (length x) b) gx ∙ ap (λ (n : ℕ). put (put input 0 x) n b) (omega arith) ∙ put-append input 0 x b (0 + length x) refl in
+      let u : take (length (x ++ b)) (put input 0 (x ++ b)) ≡ take (length (x ++ b)) all = take-put input (x ++ b) (length (x ++ b)) refl (omega (arith, length-append (x ++ b) rest, ap length (append-assoc x b rest ∙ e))) ∙ sym gb in
+      let r : run z s (put (put input 0 (take (length x) all)) (length x) b) (length x + length b) (run z s all (length x) t) ≡ run z s all (length (x ++ b)) t =
+      ap (λ (y : List ℕ). run z s y (length x + length b) (run z s all (length x) t)) a
+      ∙ ap (λ (n : ℕ). run z s (put input 0 (x ++ b)) n (run z s all (length x) t)) (sym m)
+      ∙ run-below z s (put input 0 (x ++ b)) all (length (x ++ b)) (run z s all (length x) t) u
+      ∙ run-on z s all (length x) (length (x ++ b)) t (omega arith) in
+      accepted-again z disk h (length x) (run z s all (length x) t) (put input 0 (take (length x) all)) b
+      ∙ same-made h _ _ _ _ _ _ (sym m) r (a ∙ ap (λ (y : List ℕ). put input 0 y) (sym gb))
+
+  -- after pieces that were accepted, x before them
+  on : (x : List ℕ) (bs : List (List ℕ)) (rest : List ℕ) → x ++ (together bs ++ rest) ≡ all
+      → AllAccepted z disk (after z disk h stage input output all (length x)) bs
+      → fed z disk (after z disk h stage input output all (length x)) bs ≡ after z disk h stage input output all (length (x ++ together bs))
+  unfolding fed together
+  on x [] rest e q = ap (λ (y : List ℕ). after z disk h stage input output all (length y)) (sym (append-nil x))
+  on x (b ∷ bs) rest e q =
+      let w = after z disk h stage input output all (length x) in
+      let p : piece z disk (w .host) (w .stage) (w .input) (w .output) b ≡ after z disk h stage input output all (length (x ++ b)) =
+      answered-zero w _ _ (piece-answers z disk w b) (q .0) ∙ next x b (together bs ++ rest) (ap (λ (y : List ℕ). x ++ y) (sym (append-assoc b (together bs) rest)) ∙ e) in
+      ap (λ (y : Pieced). fed z disk y bs) p
+      ∙ on (x ++ b) bs rest (append-assoc x b (together bs ++ rest) ∙ ap (λ (y : List ℕ). x ++ y) (sym (append-assoc b (together bs) rest)) ∙ e) (subst (λ (y : Pieced). AllAccepted z disk y bs) p (q .1))
+      ∙ ap (λ (y : List ℕ). after z disk h stage input output all (length y)) (append-assoc x b (together bs))
+
+  -- the state after one or more accepted pieces is that of the whole data at the number of bytes come
+  pub cutting : (b : List ℕ) (bs : List (List ℕ)) (rest : List ℕ) → h .program .came ≡ 0 → together (b ∷ bs) ++ rest ≡ all
+      → AllAccepted z disk (lentTo h stage input output) (b ∷ bs)
+      → fed z disk (lentTo h stage input output) (b ∷ bs) ≡ after z disk h stage input output all (length (together (b ∷ bs)))
+  unfolding fed together
+  cutting b bs rest c e q =
+      let w : Pieced = lentTo h stage input output in
+      let e₁ : b ++ (together bs ++ rest) ≡ all = sym (append-assoc b (together bs) rest) ∙ e in
+      let p : piece z disk h stage input output b ≡ after z disk h stage input output all (length b) =
+      answered-zero w _ _ (piece-answers z disk w b) (q .0) ∙ first b (together bs ++ rest) c e₁ in
+      ap (λ (y : Pieced). fed z disk y bs) p ∙ on b bs rest e₁ (subst (λ (y : Pieced). AllAccepted z disk y bs) p (q .1))
+
+  -- when all has come, host (and so the cost) and every area are the same for every cutting
+  pub alike : (b c : List ℕ) (bs cs : List (List ℕ)) → h .program .came ≡ 0 → together (b ∷ bs) ≡ all → together (c ∷ cs) ≡ all
+      → AllAccepted z disk (lentTo h stage input output) (b ∷ bs) → AllAccepted z disk (lentTo h stage input output) (c ∷ cs)
+      → fed z disk (lentTo h stage input output) (b ∷ bs) ≡ fed z disk (lentTo h stage input output) (c ∷ cs)
+  alike b c bs cs e p q u v =
+      cutting b bs [] e (append-nil _ ∙ p) u
+      ∙ ap (λ (y : List ℕ). after z disk h stage input output all (length y)) (p ∙ sym q)
+      ∙ sym (cutting c cs [] e (append-nil _ ∙ q) v)
+
+module _ (z : ℕ) (disk : List ℕ) (h : Host) (stage input output all : List ℕ) (t : Taking z disk (lentTo h stage input output))
+    (none-came : h .program .came ≡ 0) (declared : length all ≡ h .program .terms .head .length) where
+  all-taken : (bs : List (List ℕ)) (rest : List ℕ) → together bs ++ rest ≡ all → AllAccepted z disk (lentTo h stage input output) bs
+  all-taken bs rest e = all-accepted z disk (lentTo h stage input output) bs t (omega (arith, none-came, declared, length-append (together bs) rest, ap length e))
+
+  holds : length all ≤ length input
+  holds = let i = t .input in omega arith
+
+  pub cut : Cutting z disk h stage input output all
+  cut = record {
+    accepted = all-taken;
+    state = λ b bs rest e. cutting z disk h stage input output all holds b bs rest none-came e (all-taken (b ∷ bs) rest e);
+    alike = λ b c bs cs p q. alike z disk h stage input output all holds b c bs cs none-came p q (all-taken (b ∷ bs) [] (append-nil _ ∙ p)) (all-taken (c ∷ cs) [] (append-nil _ ∙ q));
+  }
+
+pub every-cutting : Cuttings
+every-cutting = record { cuttings = cut }

@@ -1,0 +1,123 @@
+-- Failures and the tally: what one instruction does by its number, and a run by induction on its turns. Assumes nothing.
+use mathlib.Core.Path.{_≡_, refl, sym, ap, _∙_, subst}
+use mathlib.Core.Bool.{Bool, true, false, not}
+use mathlib.Core.List.{List}
+use Prim.Native.Nat.{ℕ, zero, suc, _+_, _≤_}
+use native.Mathlib.Nat.{add-assoc}
+use native.Mathlib.Omega.{arith}
+use lib.Dec.{eqb}
+use borrow.Author.Tests.{ltb-false, eqb-true, eqb-false, eq-eqb, ne-eqb}
+use Rattle.area.specs.Pick.{pick}
+use Rattle.area.proofs.Laws.Pick.{by, picks, skips, both-not-left}
+use Rattle.sia.specs.Names.{opOf}
+use Rattle.host.specs.With.{withWritten, withFailed}
+use Rattle.rules.specs.View.{Setting, Turn}
+use Rattle.rules.specs.Inputs.{argsOf, inputsOf}
+use Rattle.rules.specs.Plan.{cost, judgedInputs, judged}
+use Rattle.rules.specs.Run.{failedProgress, failing, ranProgress, succeeding, stepped, current, step, going, ready, runs, run}
+use Rattle.rules.specs.Demands.{Failed, Failures, charges, Tallied}
+use Rattle.rules.proofs.Laws.Steps.{runs-go, runs-stop}
+use Rattle.sia.specs.declared.Instruction.{Instruction}
+use Rattle.host.specs.declared.Progress.{Progress}
+
+fails : (z : ℕ) (s : Setting) (n : ℕ) (t : Turn) → Failed z s n t (failing z s n t)
+unfolding failing failedProgress withWritten withFailed
+fails z s n t = record { progress = refl; stage = refl; output = refl }
+
+writes : (z : ℕ) (s : Setting) (i : Instruction) (l : List (List ℕ)) (t : Turn) → (judged z s (t .progress) i l ≡ 0 → ⊥)
+    → Failed z s (judged z s (t .progress) i l) t (stepped z s i l t)
+unfolding stepped
+writes z s i l t n =
+    subst (λ (x : Turn). Failed z s (judged z s (t .progress) i l) t x) (sym (skips (eqb (judged z s (t .progress) i l) 0) _ _ (ne-eqb _ _ n)))
+    (fails z s (judged z s (t .progress) i l) t)
+
+stopped : (s : Setting) (k : ℕ) (t : Turn) → t .progress .failed ≡ true → ready s k t ≡ false
+unfolding ready going
+stopped s k t f = both-not-left _ _ (both-not-left _ _ (ap not f))
+
+ends : (z : ℕ) (s : Setting) (input : List ℕ) (k : ℕ) (t : Turn) → t .progress .failed ≡ true → run z s input k t ≡ t
+unfolding run
+ends z s input k t f = runs-stop z s input k (s .terms .head .count) t (stopped s k t f)
+
+pub failures : Failures
+failures = record { writes = writes; ends = ends }
+
+-- ---- the tally
+
+charged : (z : ℕ) (s : Setting) (i : Instruction) (l : List (List ℕ)) (t : Turn) → judged z s (t .progress) i l ≡ 0
+    → stepped z s i l t .progress .tally ≡ t .progress .tally + cost (s .terms .head .length) (s .terms .prices) (opOf (i .name)) (argsOf (opOf (i .name)) l .len)
+unfolding stepped succeeding ranProgress
+charged z s i l t e = ap (λ (x : Turn). x .progress .tally) (picks (eqb (judged z s (t .progress) i l) 0) _ _ (eq-eqb _ _ e))
+
+-- a chain of checks that comes to 0 passed its first check
+passes : (b : Bool) (n x : ℕ) → pick b (suc n) x ≡ 0 → (b ≡ false) × (x ≡ 0)
+unfolding pick
+passes true n x e = absurd (omega arith)
+passes false n x e = (refl, e)
+
+paid : (z : ℕ) (s : Setting) (p : Progress) (i : Instruction) (l : List (List ℕ)) → judged z s p i l ≡ 0
+    → p .tally + cost (s .terms .head .length) (s .terms .prices) (opOf (i .name)) (argsOf (opOf (i .name)) l .len) ≤ s .terms .budget
+unfolding judged judgedInputs
+paid z s p i l e =
+    let inputs = passes _ 21 _ (passes _ 20 _ e .1) .1 in
+    let proof = passes _ 26 _ (passes _ 25 _ (passes _ 24 _ (passes _ 23 _ (passes _ 22 _ inputs .1) .1) .1) .1) .1 in
+    ltb-false _ _ (passes _ 27 _ proof .0)
+
+same-tally : (p : Progress) → withFailed (withWritten p (p .written + 72)) true .tally ≡ p .tally
+unfolding withFailed withWritten
+same-tally p = refl
+
+step-within : (z : ℕ) (s : Setting) (i : Instruction) (l : List (List ℕ)) (t : Turn) → t .progress .tally ≤ s .terms .budget
+    → stepped z s i l t .progress .tally ≤ s .terms .budget
+step-within z s i l t h =
+    by (eqb (judged z s (t .progress) i l) 0)
+    (λ e. let j : judged z s (t .progress) i l ≡ 0 = eqb-true _ _ e in omega (arith, charged z s i l t j, paid z s (t .progress) i l j))
+    (λ e. let f = writes z s i l t (eqb-false _ _ e) in omega (arith, h, ap (λ (p : Progress). p .tally) (f .progress), same-tally (t .progress)))
+
+runs-within : (z : ℕ) (s : Setting) (a : List ℕ) (k n : ℕ) (t : Turn) → t .progress .tally ≤ s .terms .budget → runs z s a k n t .progress .tally ≤ s .terms .budget
+unfolding runs step
+runs-within z s a k zero t h = h
+runs-within z s a k (suc n) t h =
+    by (ready s k t)
+    (λ r. subst (λ (x : Turn). x .progress .tally ≤ s .terms .budget) (sym (runs-go z s a k n t r))
+    (runs-within z s a k n (step z s a t) (step-within z s (current s t) (inputsOf (current s t) a) t h)))
+    (λ r. subst (λ (x : Turn). x .progress .tally ≤ s .terms .budget) (sym (runs-stop z s a k (suc n) t r)) h)
+
+within : (z : ℕ) (s : Setting) (input : List ℕ) (k : ℕ) (t : Turn) → t .progress .tally ≤ s .terms .budget → run z s input k t .progress .tally ≤ s .terms .budget
+unfolding run
+within z s input k t h = runs-within z s input k (s .terms .head .count) t h
+
+-- ---- its sum
+
+own : (z : ℕ) (s : Setting) (i : Instruction) (l : List (List ℕ)) (t : Turn) → stepped z s i l t .progress .tally
+    ≡ t .progress .tally + pick (eqb (judged z s (t .progress) i l) 0) (cost (s .terms .head .length) (s .terms .prices) (opOf (i .name)) (argsOf (opOf (i .name)) l .len)) 0
+own z s i l t =
+    by (eqb (judged z s (t .progress) i l) 0)
+    (λ e. let j : judged z s (t .progress) i l ≡ 0 = eqb-true _ _ e in
+    charged z s i l t j ∙ ap (λ (n : ℕ). t .progress .tally + n) (sym (picks _ _ 0 e)))
+    (λ e. let f = writes z s i l t (eqb-false _ _ e) in
+    ap (λ (p : Progress). p .tally) (f .progress) ∙ same-tally (t .progress)
+    ∙ (let q : t .progress .tally ≡ t .progress .tally + 0 = omega arith in q)
+    ∙ ap (λ (n : ℕ). t .progress .tally + n) (sym (skips _ _ 0 e)))
+
+runs-summed : (z : ℕ) (s : Setting) (a : List ℕ) (k n : ℕ) (t : Turn) → runs z s a k n t .progress .tally ≡ t .progress .tally + charges z s a k n t
+unfolding runs charges step
+runs-summed z s a k zero t = omega arith
+runs-summed z s a k (suc n) t =
+    by (ready s k t)
+    (λ r. ap (λ (x : Turn). x .progress .tally) (runs-go z s a k n t r)
+    ∙ runs-summed z s a k n (step z s a t)
+    ∙ ap (λ (m : ℕ). m + charges z s a k n (step z s a t)) (own z s (current s t) (inputsOf (current s t) a) t)
+    ∙ add-assoc _ _ _
+    ∙ ap (λ (m : ℕ). t .progress .tally + m) (sym (picks (ready s k t) _ 0 r)))
+    (λ r. ap (λ (x : Turn). x .progress .tally) (runs-stop z s a k (suc n) t r)
+    ∙ (let q : t .progress .tally ≡ t .progress .tally + 0 = omega arith in q)
+    ∙ ap (λ (m : ℕ). t .progress .tally + m) (sym (skips (ready s k t) _ 0 r)))
+
+summed : (z : ℕ) (s : Setting) (input : List ℕ) (k : ℕ) (t : Turn)
+    → run z s input k t .progress .tally ≡ t .progress .tally + charges z s input k (s .terms .head .count) t
+unfolding run
+summed z s input k t = runs-summed z s input k (s .terms .head .count) t
+
+pub tallied : Tallied
+tallied = record { charged = charged; summed = summed; within = within }

@@ -1,0 +1,245 @@
+-- What is seen lies in slots that there are, at most 64 sectors. Assumes nothing.
+use mathlib.Core.Path.{_≡_, refl, sym, ap, _∙_, subst}
+use mathlib.Core.Bool.{Bool, true, false, not}
+use mathlib.Core.List.{List, [], _∷_, _++_}
+use Prim.Native.Nat.{ℕ, zero, suc, _+_, _-_, _*_, _/_, _≤_, _<_}
+use native.Mathlib.Nat.{zero-div}
+use native.Mathlib.Omega.{arith}
+use lib.ListN.{length, take, drop, getD, length-take, length-drop}
+use lib.Seq.{getD-take, getD-drop, length-take-le}
+use lib.Dec.{leb, ltb, eqb}
+use borrow.Author.Tests.{not-true, leb-true, ltb-true, ltb-false, lt-ltb}
+use Rattle.area.specs.Pick.{pick, either}
+use Rattle.area.specs.Area.{same, tab}
+use Rattle.area.proofs.Laws.Pick.{by, picks, skips, never, both-left, both-right, both-join}
+use Rattle.area.proofs.Laws.Tab.{length-tab}
+use Rattle.sia.specs.Encode.{joined, every}
+use Rattle.host.specs.Lists.{each}
+use Rattle.host.specs.Empty.{none, noPlace}
+use Rattle.host.specs.Places.{hasId, whose, committed, taken}
+use Rattle.host.specs.Order.{placeInOrder, slotInOrder}
+use Rattle.host.specs.Facts.{Staged}
+use Rattle.rules.specs.View.{Setting, parent, spotOf, parentSpots, committedSpots, allSpots}
+use Rattle.rules.specs.Roots.{sectorRoot, firstRoot}
+use Rattle.rules.specs.Plan.{Source, missing, seen, spots, unlessNone, contractSource, sectorSource, sourceOf}
+use Rattle.rules.specs.Facts.{Solid, startOf, valid}
+use Rattle.rules.proofs.Laws.Staged.{slot-none}
+use Rattle.rules.proofs.Laws.Areas.{either-second as second-not}
+use Rattle.sia.specs.declared.Op.{Op}
+use Rattle.sia.specs.declared.Op.the-variants.{Read, ReadSector, Write, Copy, Swap, Truncate, Unknown}
+use Rattle.host.specs.declared.Place.{Place}
+use Rattle.host.specs.declared.Progress.{Progress}
+use Rattle.rules.specs.declared.Spot.{Spot}
+use Rattle.rules.specs.declared.Spot.the-variants.{OnDisk, InStage}
+
+-- ---- spots are slots that there are
+
+pub every-at : {A : Type 0} (p : A → Bool) (l : List A) (i : ℕ) (d : A) → every p l ≡ true → p d ≡ true → p (getD l i d) ≡ true
+unfolding every
+every-at p [] i d h e = e
+every-at p (x ∷ xs) zero d h e = both-left _ _ h
+every-at p (x ∷ xs) (suc i) d h e = every-at p xs i d (both-right _ _ h) e
+
+every-get : {A : Type 0} (p : A → Bool) (l : List A) (i : ℕ) (d : A) → i < length l → every p l ≡ true → p (getD l i d) ≡ true
+unfolding every
+every-get p [] i d h e = absurd (omega arith)
+every-get p (x ∷ xs) zero d h e = both-left _ _ e
+every-get p (x ∷ xs) (suc i) d h e = every-get p xs i d (omega arith) (both-right _ _ e)
+
+either-second : (a b : Bool) → either a b ≡ true → a ≡ false → b ≡ true
+unfolding pick
+either-second true b e f = never f
+either-second false b e f = e
+
+every-both : {A : Type 0} (p : A → Bool) (l m : List A) → every p l ≡ true → every p m ≡ true → every p (l ++ m) ≡ true
+unfolding every
+every-both p [] m h k = k
+every-both p (x ∷ xs) m h k = both-join _ _ (both-left _ _ h) (every-both p xs m (both-right _ _ h) k)
+
+every-fore : {A : Type 0} (p : A → Bool) (l m : List A) → every p (l ++ m) ≡ true → every p l ≡ true
+unfolding every
+every-fore p [] m h = refl
+every-fore p (x ∷ xs) m h = both-join _ _ (both-left _ _ h) (every-fore p xs m (both-right _ _ h))
+
+every-aft : {A : Type 0} (p : A → Bool) (l m : List A) → every p (l ++ m) ≡ true → every p m ≡ true
+unfolding every
+every-aft p [] m h = h
+every-aft p (x ∷ xs) m h = every-aft p xs m (both-right _ _ h)
+
+every-tab : {A : Type 0} (p : A → Bool) (f : ℕ → A) (i n : ℕ) → ((j : ℕ) → i ≤ j → j < i + n → p (f j) ≡ true) → every p (tab i n f) ≡ true
+unfolding every tab
+every-tab p f i zero g = refl
+every-tab p f i (suc n) g = both-join _ _ (g i (omega arith) (omega arith)) (every-tab p f (suc i) n (λ j lo hi. g j (omega arith) (omega arith)))
+
+every-pick : {A : Type 0} (p : A → Bool) (b : Bool) (l m : List A) → every p l ≡ true → every p m ≡ true → every p (pick b l m) ≡ true
+unfolding pick
+every-pick p true l m u v = u
+every-pick p false l m u v = v
+
+disk-valid : (s : Setting) (l : List ℕ) → every (λ n. ltb n (s .sectors)) l ≡ true → every (valid s) (each OnDisk l) ≡ true
+unfolding every each valid
+disk-valid s [] h = refl
+disk-valid s (x ∷ xs) h = both-join _ _ (both-left _ _ h) (disk-valid s xs (both-right _ _ h))
+
+no-place-valid : (z : ℕ) (s : Setting) → every (λ n. ltb n (s .sectors)) (committed z noPlace) ≡ true
+unfolding committed noPlace pick every
+no-place-valid z s = refl
+
+whose-valid : (z : ℕ) (s : Setting) (id : List ℕ) (ps : List Place) → every (λ n. ltb n (s .sectors)) (taken z ps) ≡ true → every (λ n. ltb n (s .sectors)) (committed z (whose id ps)) ≡ true
+unfolding taken joined whose
+whose-valid z s id [] h = no-place-valid z s
+whose-valid z s id (p ∷ ps) h =
+    by (hasId id p)
+    (λ e. ap (λ (x : Place). every (λ n. ltb n (s .sectors)) (committed z x)) (picks (hasId id p) p (whose id ps) e) ∙ every-fore _ (committed z p) _ h)
+    (λ e. ap (λ (x : Place). every (λ n. ltb n (s .sectors)) (committed z x)) (skips (hasId id p) p (whose id ps) e) ∙ whose-valid z s id ps (every-aft _ (committed z p) _ h))
+
+has-held : (id : List ℕ) (p : Place) → hasId id p ≡ true → p .held ≡ true
+unfolding hasId
+has-held id p e = both-left _ _ e
+
+whose-nobody : (id : List ℕ) (ps : List Place) → whose id ps .held ≡ false → whose id ps .size ≡ 0
+unfolding whose noPlace
+whose-nobody id [] h = refl
+whose-nobody id (p ∷ ps) h =
+    by (hasId id p)
+    (λ e. never (sym (has-held id p e) ∙ sym (ap (λ (x : Place). x .held) (picks (hasId id p) p (whose id ps) e)) ∙ h))
+    (λ e. ap (λ (x : Place). x .size) (skips (hasId id p) p (whose id ps) e) ∙ whose-nobody id ps (sym (ap (λ (x : Place). x .held) (skips (hasId id p) p (whose id ps) e)) ∙ h))
+
+committed-held : (z : ℕ) (p : Place) → p .held ≡ true → committed z p ≡ take (p .size / z) (p .slots)
+unfolding committed
+committed-held z p e = picks (p .held) _ [] e
+
+root-valid : (z : ℕ) (s : Setting) (key : List ℕ) (l : List Spot) → every (valid s) l ≡ true → every (valid s) (firstRoot z (s .disk) key l) ≡ true
+unfolding firstRoot every
+root-valid z s key [] h = refl
+root-valid z s key (x ∷ xs) h =
+    every-pick (valid s) _ (x ∷ []) (firstRoot z (s .disk) key xs) (both-join _ _ (both-left _ _ h) refl) (root-valid z s key xs (both-right _ _ h))
+
+empty-valid : (s : Setting) (l : List Spot) → every (valid s) l ≡ true → every (valid s) (spots (unlessNone l)) ≡ true
+unfolding unlessNone spots
+empty-valid s [] h = h
+empty-valid s (x ∷ xs) h = h
+
+none-valid : (s : Setting) → every (valid s) [] ≡ true
+unfolding every
+none-valid s = refl
+
+pick-spots : (b : Bool) (x y : Source) → spots (pick b x y) ≡ pick b (spots x) (spots y)
+unfolding pick
+pick-spots true x y = refl
+pick-spots false x y = refl
+
+module _ (z : ℕ) (s : Setting) (p : Progress) (solid : Solid z s) (f : Staged (s .copies) (startOf z s) (p .size / z) (p .staged)) (long : p .size / z ≤ length (p .staged)) where
+  -- a position with no copy is a committed one
+  unstaged : (j : ℕ) → j < p .size / z → eqb (getD (p .staged) j none) none ≡ true → j < startOf z s
+  unstaged j lt e =
+      by (ltb j (startOf z s))
+      (λ u. ltb-true j (startOf z s) u)
+      (λ u. let le = ltb-false j (startOf z s) u in
+      let i : ℕ = j - startOf z s in
+      let at : startOf z s + (j - startOf z s) ≡ j = omega arith in
+      let inside : j - startOf z s < length (drop (startOf z s) (take (p .size / z) (p .staged))) = omega (arith, length-drop (startOf z s) (take (p .size / z) (p .staged)), length-take-le (p .size / z) (p .staged) long) in
+      let g : getD (drop (startOf z s) (take (p .size / z) (p .staged))) (j - startOf z s) none ≡ getD (p .staged) j none =
+      getD-drop (startOf z s) (take (p .size / z) (p .staged)) (j - startOf z s) none ∙ ap (λ (x : ℕ). getD (take (p .size / z) (p .staged)) x none) at ∙ getD-take (p .size / z) (p .staged) j none lt in
+      let q : not (eqb (getD (p .staged) j none) none) ≡ true =
+      subst (λ (x : ℕ). not (eqb x none) ≡ true) g (every-get (λ n. not (eqb n none)) (drop (startOf z s) (take (p .size / z) (p .staged))) (j - startOf z s) none inside (f .past)) in
+      never (sym e ∙ not-true _ q))
+
+  committed-slot : (j : ℕ) → j < startOf z s → ltb (getD (whose (s .terms .head .contract) (s .places) .slots) j 0) (s .sectors) ≡ true
+  committed-slot j lt =
+      by (whose (s .terms .head .contract) (s .places) .held)
+      (λ u. subst (λ (x : ℕ). ltb x (s .sectors) ≡ true) (getD-take (startOf z s) (whose (s .terms .head .contract) (s .places) .slots) j 0 lt)
+      (every-at (λ n. ltb n (s .sectors)) (take (startOf z s) (whose (s .terms .head .contract) (s .places) .slots)) j 0
+      (subst (λ (l : List ℕ). every (λ n. ltb n (s .sectors)) l ≡ true) (committed-held z (whose (s .terms .head .contract) (s .places)) u) (whose-valid z s (s .terms .head .contract) (s .places) (solid .slots)))
+      (lt-ltb 0 (s .sectors) (solid .one))))
+      (λ u. let q : startOf z s ≡ 0 = ap (λ (n : ℕ). n / z) (whose-nobody (s .terms .head .contract) (s .places) u) ∙ zero-div z in absurd (omega arith))
+
+  spot-valid : (j : ℕ) → j < p .size / z → valid s (spotOf (parent s .slots) (p .staged) j) ≡ true
+  unfolding spotOf valid parent slotInOrder
+  spot-valid j lt =
+      by (eqb (getD (p .staged) j none) none)
+      (λ e. ap (valid s) (picks (eqb (getD (p .staged) j none) none) (OnDisk (getD (whose (s .terms .head .contract) (s .places) .slots) j 0)) (InStage (getD (p .staged) j none)) e) ∙ committed-slot j (unstaged j lt e))
+      (λ e. ap (valid s) (skips (eqb (getD (p .staged) j none) none) (OnDisk (getD (whose (s .terms .head .contract) (s .places) .slots) j 0)) (InStage (getD (p .staged) j none)) e) ∙ either-second (eqb (getD (p .staged) j none) none) _ (every-at (slotInOrder (s .copies)) (p .staged) j none (f .slots) (slot-none (s .copies))) e)
+
+  parent-valid : every (valid s) (parentSpots z s p) ≡ true
+  unfolding parentSpots
+  parent-valid = every-tab (valid s) (spotOf (parent s .slots) (p .staged)) 0 (p .size / z) (λ j lo hi. spot-valid j (omega arith))
+
+  contract-valid : (id : List ℕ) → every (valid s) (spots (contractSource z s p id)) ≡ true
+  unfolding contractSource committedSpots spots
+  contract-valid id =
+      ap (λ (l : List Spot). every (valid s) l) (pick-spots _ missing _)
+      ∙ every-pick (valid s) _ [] _ (none-valid s)
+      (ap (λ (l : List Spot). every (valid s) l) (pick-spots _ (seen (parentSpots z s p)) _)
+      ∙ every-pick (valid s) _ (parentSpots z s p) _ parent-valid (disk-valid s (committed z (whose id (s .places))) (whose-valid z s id (s .places) (solid .slots))))
+
+  pub source-valid : (op : Op) (key : List ℕ) → every (valid s) (spots (sourceOf z s p op key)) ≡ true
+  unfolding sourceOf sectorSource allSpots spots
+  source-valid Read key = contract-valid key
+  source-valid ReadSector key = empty-valid s _ (root-valid z s key _ (disk-valid s (taken z (s .places)) (solid .slots)))
+  source-valid Write key = none-valid s
+  source-valid Copy key = none-valid s
+  source-valid Swap key = none-valid s
+  source-valid Truncate key = none-valid s
+  source-valid Unknown key = none-valid s
+
+-- ---- and there are at most 64 of them
+
+no-place-in-order : (z : ℕ) → placeInOrder z noPlace ≡ true
+unfolding placeInOrder noPlace
+no-place-in-order z = picks true true _ refl
+
+few-committed : (z : ℕ) (p : Place) → placeInOrder z p ≡ true → length (committed z p) ≤ 64
+unfolding committed placeInOrder
+few-committed z p e =
+    by (p .held)
+    (λ h. let q : leb (p .size / z) 64 ≡ true = both-right _ _ (both-right _ _ (second-not (p .held) _ e h)) in
+    omega (arith, ap length (picks (p .held) (take (p .size / z) (p .slots)) [] h), length-take (p .size / z) (p .slots), leb-true (p .size / z) 64 q))
+    (λ h. omega (arith, ap length (skips (p .held) (take (p .size / z) (p .slots)) [] h)))
+
+few-whose : (z : ℕ) (id : List ℕ) (ps : List Place) → every (placeInOrder z) ps ≡ true → length (committed z (whose id ps)) ≤ 64
+unfolding whose every
+few-whose z id [] h = few-committed z noPlace (no-place-in-order z)
+few-whose z id (p ∷ ps) h =
+    by (hasId id p)
+    (λ e. rw (picks (hasId id p) p (whose id ps) e) (few-committed z p (both-left _ _ h)))
+    (λ e. rw (skips (hasId id p) p (whose id ps) e) (few-whose z id ps (both-right _ _ h)))
+
+length-each : (l : List ℕ) → length (each OnDisk l) ≡ length l
+unfolding each
+length-each [] = refl
+length-each (x ∷ xs) = ap suc (length-each xs)
+
+few-first : (z : ℕ) (disk key : List ℕ) (l : List Spot) → length (spots (unlessNone (firstRoot z disk key l))) ≤ 1
+unfolding firstRoot unlessNone spots
+few-first z disk key [] = omega arith
+few-first z disk key (x ∷ xs) =
+    by (same (sectorRoot z disk [] x) key)
+    (λ e. rw (picks (same (sectorRoot z disk [] x) key) (x ∷ []) (firstRoot z disk key xs) e) (omega arith))
+    (λ e. rw (skips (same (sectorRoot z disk [] x) key) (x ∷ []) (firstRoot z disk key xs) e) (few-first z disk key xs))
+
+few-pick : (b : Bool) (l m : List Spot) → length l ≤ 64 → length m ≤ 64 → length (pick b l m) ≤ 64
+unfolding pick
+few-pick true l m u v = u
+few-pick false l m u v = v
+
+few-contract : (z : ℕ) (s : Setting) (p : Progress) (id : List ℕ) → every (placeInOrder z) (s .places) ≡ true → p .size / z ≤ 64
+    → length (spots (contractSource z s p id)) ≤ 64
+unfolding contractSource committedSpots parentSpots spots
+few-contract z s p id h u =
+    rw (pick-spots (not (whose id (s .places) .held)) missing (pick (same id (s .terms .head .contract)) (seen (parentSpots z s p)) (seen (committedSpots z (whose id (s .places))))))
+    (few-pick _ [] _ (omega arith)
+    (rw (pick-spots (same id (s .terms .head .contract)) (seen (parentSpots z s p)) (seen (committedSpots z (whose id (s .places)))))
+    (few-pick _ _ _ (omega (arith, length-tab 0 (p .size / z) (spotOf (parent s .slots) (p .staged)), u))
+    (omega (arith, length-each (committed z (whose id (s .places))), few-whose z id (s .places) h)))))
+
+pub few-spots : (z : ℕ) (s : Setting) (p : Progress) (op : Op) (key : List ℕ) → every (placeInOrder z) (s .places) ≡ true → p .size / z ≤ 64
+    → length (spots (sourceOf z s p op key)) ≤ 64
+unfolding sourceOf sectorSource spots
+few-spots z s p Read key h u = few-contract z s p key h u
+few-spots z s p ReadSector key h u = omega (arith, few-first z (s .disk) key (allSpots z s))
+few-spots z s p Write key h u = omega arith
+few-spots z s p Copy key h u = omega arith
+few-spots z s p Swap key h u = omega arith
+few-spots z s p Truncate key h u = omega arith
+few-spots z s p Unknown key h u = omega arith

@@ -1,0 +1,175 @@
+-- Order is kept by every call: each goes down its chain of cases, where a refusal leaves the host as it was.
+-- An opening fits because slots are distinct and below the disk. Assumes nothing.
+use mathlib.Core.Path.{_≡_, refl, sym, ap, _∙_}
+use mathlib.Core.Bool.{Bool, true, false, not}
+use mathlib.Core.List.{List, []}
+use Prim.Native.Nat.{ℕ, _+_, _/_, _≤_}
+use native.Mathlib.Nat.{le-trans, mul-le-mul-right}
+use native.Mathlib.Omega.{arith}
+use lib.ListN.{length, take, replicate, length-take, drop-of-length-le}
+use lib.Dec.{eqb}
+use borrow.Author.Tests.{not-false, leb-true, le-leb, ltb-false, eqb-true, eq-eqb}
+use Rattle.area.specs.Pick.{pick, both, either}
+use Rattle.area.specs.Area.{same, put}
+use Rattle.area.specs.Little.{Bytes}
+use Rattle.area.proofs.Laws.Pick.{by, picks, skips, both-left, both-right, both-join}
+use Rattle.sia.specs.Names.{readOnly}
+use Rattle.sia.specs.Encode.{every, within}
+use Rattle.sia.specs.Decode.{told, decode}
+use Rattle.sia.proofs.Theorems.{read-within}
+use Rattle.host.specs.Lists.{some, apart}
+use Rattle.host.specs.Empty.{none, noProgram, started}
+use Rattle.host.specs.With.{withProgram}
+use Rattle.host.specs.Places.{whose, taken}
+use Rattle.host.specs.Order.{slotInOrder, clash, parentInOrder, termsInOrder, progressInOrder, programInOrder, placesInOrder, inOrder}
+use Rattle.host.specs.Facts.{Staged}
+use Rattle.rules.specs.View.{settingOf, turnOf}
+use Rattle.rules.specs.Run.{failing, going, run}
+use Rattle.rules.specs.Calls.{roomRight, begun, openedHead, opened, Pieced, accepted, piece, Interrupted, stopped, interrupt, reached}
+use Rattle.rules.specs.Commit.{Closed, givenUp, agreed, close}
+use Rattle.rules.specs.Demands.{Sound, Refused, Ordered}
+use Rattle.rules.proofs.Laws.Ways.{either-way}
+use Rattle.rules.proofs.Laws.Lists.{every-drop}
+use Rattle.rules.proofs.Laws.Pigeons.{pigeons}
+use Rattle.rules.proofs.Laws.Sizes.{sizes, whose-whole, read-only-size}
+use Rattle.rules.proofs.Laws.Steps.{not-failed}
+use Rattle.rules.proofs.Laws.Kept.{failed-good, runs-good, facts-staged}
+use Rattle.rules.proofs.Laws.Taking.{order-lent, order-program, order-good, good-order}
+use Rattle.rules.proofs.Committing.{commit-order}
+use Rattle.sia.specs.declared.Head.{Head}
+use Rattle.host.specs.declared.Prices.{Prices}
+use Rattle.host.specs.declared.Program.{Program}
+use Rattle.host.specs.declared.Host.{Host}
+use Rattle.rules.specs.declared.Answer.{Answer}
+use Rattle.rules.specs.declared.Reached.{Reached}
+
+-- ---- opening
+
+-- nothing staged is in order
+fresh-staged : (stage start : ℕ) → Staged stage start start (replicate 64 none)
+unfolding every apart some slotInOrder clash pick
+fresh-staged stage start =
+    record {
+      slots = refl;
+      own = refl;
+      below = every-drop (λ n. eqb n none) start (replicate 64 none) refl;
+      past = ap (λ (l : List ℕ). every (λ n. not (eqb n none)) l) (drop-of-length-le (take start (replicate 64 none)) {i = start} (omega (arith, length-take start (replicate 64 none))));
+    }
+
+parent-held : (b c : Bool) → b ≡ false → both (not b) (not c) ≡ false → c ≡ true
+parent-held b c e f = not-false c (sym (picks (not b) (not c) false (ap not e)) ∙ f)
+
+begun-good : (z : ℕ) (h : Host) (hd : Head) (budget : ℕ) (p : Prices) (room : ℕ) → Sound z h → inOrder z h ≡ true → within hd ≡ true → roomRight room ≡ true
+    → both (not (same (hd .contract) readOnly)) (not (whose (hd .contract) (h .places) .held)) ≡ false → p .init ≤ budget
+    → programInOrder z (h .disk) (h .stage) (h .places) (begun h hd budget p room) ≡ true
+unfolding programInOrder termsInOrder parentInOrder roomRight begun started inOrder placesInOrder progressInOrder
+begun-good z h hd budget p room sound o hh right held paid =
+    let id = hd .contract in
+    let b = both-right _ _ o in
+    let ps = both-left _ _ (both-right _ _ b) in
+    let each-place = both-left _ _ ps in
+    let slots = both-right _ _ (both-right _ _ ps) in
+    let few = pigeons (h .disk) (taken z (h .places)) (both-left _ _ slots) (both-right _ _ slots) in
+    let fits = sizes z id (h .places) each-place (sound .places) in
+    both-join _ _
+    (both-join _ _
+    (by (same id readOnly)
+    (λ e. picks (same id readOnly) _ _ e ∙ eq-eqb _ 0 (read-only-size z id (h .places) each-place e))
+    (λ e. skips (same id readOnly) _ _ e ∙ parent-held (same id readOnly) _ e held))
+    (both-join _ _ hh right))
+    (both-join _ _ (le-leb 0 (hd .length) (omega arith))
+    (both-join _ _ (le-leb 0 (hd .count) (omega arith)) (both-join _ _ (le-leb _ _ paid) (both-join _ _ (le-leb (0 + pick false 0 72) room (omega (arith, leb-true 72 room (both-left _ _ right), skips {A = ℕ} false 0 72 refl)))
+    (both-join _ _ (eq-eqb _ _ (whose-whole z id (h .places) each-place)) (both-join _ _ (le-leb _ _ (le-trans fits (mul-le-mul-right {m = length (taken z (h .places))} {n = h .disk} z few)))
+    (facts-staged _ _ _ _ (fresh-staged (h .stage) (whose id (h .places) .size / z)))))))))
+
+-- a host in order with another program that is in order, or none
+with-program : (z : ℕ) (h : Host) (g : Program) → inOrder z h ≡ true → either (not (g .active)) (programInOrder z (h .disk) (h .stage) (h .places) g) ≡ true
+    → inOrder z (withProgram h g) ≡ true
+unfolding inOrder withProgram
+with-program z h g o e =
+    let b = both-right _ _ o in
+    both-join _ _ (both-left _ _ o) (both-join _ _ (both-left _ _ b) (both-join _ _ (both-left _ _ (both-right _ _ b)) e))
+
+read-head : (bytes : List ℕ) → Bytes bytes → decode bytes .number ≡ 0 → within (decode bytes .head) ≡ true
+read-head bytes b e = read-within bytes b (decode bytes .head) (ap (λ (n : ℕ). told n (decode bytes .head)) e)
+
+begun-order : (z : ℕ) (h : Host) (hd : Head) (budget : ℕ) (p : Prices) (room : ℕ) → inOrder z h ≡ true
+    → programInOrder z (h .disk) (h .stage) (h .places) (begun h hd budget p room) ≡ true → inOrder z (withProgram h (begun h hd budget p room)) ≡ true
+unfolding begun
+begun-order z h hd budget p room o g = with-program z h (begun h hd budget p room) o (skips (not true) true _ refl ∙ g)
+
+opening : (z : ℕ) (h : Host) (bytes : List ℕ) (budget : ℕ) (p : Prices) (room : ℕ) → Sound z h → Bytes bytes → inOrder z h ≡ true
+    → inOrder z (opened z h bytes budget p room .host) ≡ true
+unfolding opened openedHead
+opening z h bytes budget p room sound bs o =
+    let way = either-way (λ (r : Answer). inOrder z (r .host) ≡ true) in
+    way _ _ _ (λ _. o) (λ _. way _ _ _ (λ _. o) (λ right. way _ _ _ (λ _. o) (λ _. way _ _ _ (λ _. o) (λ fault. way _ _ _ (λ _. o) (λ held. way _ _ _ (λ _. o) (λ paid.
+    begun-order z h (decode bytes .head) budget p room o
+    (begun-good z h (decode bytes .head) budget p room sound o (read-head bytes bs (eqb-true _ _ (not-false _ fault))) (not-false _ right) held (ltb-false _ _ paid))))))))
+
+-- ---- pieces
+
+accepted-order : (z : ℕ) (disk : List ℕ) (h : Host) (stage input output bytes : List ℕ) → Sound z h → inOrder z h ≡ true → h .program .active ≡ true
+    → h .program .came + length bytes ≤ h .program .terms .head .length → inOrder z (accepted z disk h stage input output bytes .host) ≡ true
+unfolding accepted run turnOf
+accepted-order z disk h stage input output bytes sound o live fit =
+    good-order z h disk (h .program .came + length bytes) _ o fit
+    (runs-good z (settingOf h disk) (put input (h .program .came) bytes) (h .program .came + length bytes) (settingOf h disk .terms .head .count) (turnOf h stage output)
+    (order-lent z h disk (sound .some) o) (order-good z h disk o live (sound .staged)))
+
+pieces : (z : ℕ) (disk : List ℕ) (h : Host) (stage input output bytes : List ℕ) → Sound z h → inOrder z h ≡ true
+    → inOrder z (piece z disk h stage input output bytes .host) ≡ true
+unfolding piece
+pieces z disk h stage input output bytes sound o =
+    let way = either-way (λ (r : Pieced). inOrder z (r .host) ≡ true) in
+    way _ _ _ (λ _. o) (λ _. way _ _ _ (λ _. o) (λ _. way _ _ _ (λ _. o) (λ _. way _ _ _ (λ _. o) (λ live. way _ _ _ (λ _. o) (λ fit.
+    accepted-order z disk h stage input output bytes sound o (not-false _ live) (ltb-false _ _ fit))))))
+
+-- ---- interrupts
+
+came-within : (z : ℕ) (h : Host) → inOrder z h ≡ true → h .program .active ≡ true → h .program .came ≤ h .program .terms .head .length
+unfolding programInOrder
+came-within z h o live = leb-true _ _ (both-left _ _ (both-right _ _ (order-program z h o live)))
+
+stopped-order : (z : ℕ) (disk : List ℕ) (h : Host) (output : List ℕ) → Sound z h → inOrder z h ≡ true → h .program .active ≡ true
+    → going (h .program .terms) (h .program .progress) ≡ true → inOrder z (stopped z disk h output .host) ≡ true
+unfolding stopped failing turnOf settingOf
+stopped-order z disk h output sound o live g =
+    good-order z h disk (h .program .came) _ o (came-within z h o live)
+    (failed-good z (settingOf h disk) (h .program .progress) (not-failed (settingOf h disk) (turnOf h [] output) g) (order-good z h disk o live (sound .staged)))
+
+interrupts : (z : ℕ) (disk : List ℕ) (h : Host) (output : List ℕ) → Sound z h → inOrder z h ≡ true → inOrder z (interrupt z disk h output .host) ≡ true
+unfolding interrupt
+interrupts z disk h output sound o =
+    let way = either-way (λ (r : Interrupted). inOrder z (r .host) ≡ true) in
+    way _ _ _ (λ _. o) (λ _. way _ _ _ (λ _. o) (λ _. way _ _ _ (λ _. o) (λ _. way _ _ _ (λ _. o) (λ live.
+    way _ _ _ (λ g. stopped-order z disk h output sound o (not-false _ live) g) (λ _. o)))))
+
+-- ---- closing
+
+given-up : (z n : ℕ) (disk : List ℕ) (h : Host) → inOrder z h ≡ true → inOrder z (givenUp n disk h .host) ≡ true
+unfolding givenUp noProgram
+given-up z n disk h o = with-program z h noProgram o (picks (not false) true _ refl)
+
+closing : (z : ℕ) (disk : List ℕ) (h : Host) (stage : List ℕ) (agree : Bool) (size : ℕ) (root : List ℕ) → Sound z h → inOrder z h ≡ true
+    → inOrder z (close z disk h stage agree size root .host) ≡ true
+unfolding close agreed
+closing z disk h stage agree size root sound o =
+    let way = either-way (λ (r : Closed). inOrder z (r .host) ≡ true) in
+    way _ _ _ (λ _. o) (λ _. way _ _ _ (λ _. o) (λ _. way _ _ _ (λ _. o) (λ live. way _ _ _ (λ _. given-up z 0 disk h o) (λ _. way _ _ _ (λ _. o) (λ _.
+    way _ _ _ (λ _. commit-order z disk h stage sound o (not-false _ live)) (λ _. given-up z 14 disk h o))))))
+
+-- ---- a host that is not in order
+
+refused : (z : ℕ) (h : Host) → inOrder z h ≡ false → Refused z h
+unfolding opened openedHead piece interrupt reached close
+refused z h e = record {
+  opening = λ bytes budget p room. ap (λ (r : Answer). r .number) (picks (not (inOrder z h)) _ _ (ap not e));
+  pieces = λ disk stage input output bytes. ap (λ (r : Pieced). r .number) (picks (not (inOrder z h)) _ _ (ap not e));
+  interrupts = λ disk output. ap (λ (r : Interrupted). r .number) (picks (not (inOrder z h)) _ _ (ap not e));
+  reached = λ disk stage. ap (λ (r : Reached). r .number) (picks (not (inOrder z h)) _ _ (ap not e));
+  closing = λ disk stage agree size root. ap (λ (r : Closed). r .number) (picks (not (inOrder z h)) _ _ (ap not e));
+}
+
+pub ordered : Ordered
+ordered = record { opening = opening; pieces = pieces; interrupts = interrupts; closing = closing; others = refused }

@@ -1,0 +1,126 @@
+-- Needs and inputs of an instruction. Assumes nothing.
+use mathlib.Core.Bool.{Bool, true, false, not}
+use mathlib.Core.List.{List, [], _∷_}
+use Prim.Native.Nat.{ℕ, _+_, _-_, max}
+use lib.ListN.{length, take, drop, getD}
+use lib.Dec.{leb, ltb, eqb}
+use Rattle.area.specs.Pick.{pick, both, either}
+use Rattle.area.specs.Area.{part, zeros}
+use Rattle.sia.specs.Names.{opOf}
+use Rattle.sia.specs.Number.{number}
+use Rattle.sia.specs.Encode.{operandsIn}
+use Rattle.host.specs.Lists.{some, each}
+use Rattle.sia.specs.declared.Number.{Number}
+use Rattle.sia.specs.declared.Number.the-variants.{Is, Refused}
+use Rattle.sia.specs.declared.Operand.{Operand}
+use Rattle.sia.specs.declared.Instruction.{Instruction}
+use Rattle.sia.specs.declared.Op.{Op}
+use Rattle.sia.specs.declared.Op.the-variants.{Read, ReadSector, Write, Copy, Swap, Truncate, Unknown}
+
+-- ---- 21, 22 and the need
+
+-- "Names are Read, ReadSector, Write, Copy, Swap, Truncate": every other name is unknown
+unfoldable pub known : Op → Bool
+known Read = true
+known ReadSector = true
+known Write = true
+known Copy = true
+known Swap = true
+known Truncate = true
+known Unknown = false
+
+-- "Read (contract, offset, length); ReadSector (root, offset, length); Write (offset, data); Copy (destination, source, size);
+-- Swap (offset 1, offset 2, size); Truncate (new size)."
+unfoldable pub operandsOf : Op → ℕ
+operandsOf Read = 3
+operandsOf ReadSector = 3
+operandsOf Write = 2
+operandsOf Copy = 3
+operandsOf Swap = 3
+operandsOf Truncate = 1
+operandsOf Unknown = 0
+
+-- 21: "unknown name, or operand count wrong"
+unfoldable pub illFormed : Instruction → Bool
+illFormed i = either (not (known (opOf (i .name)))) (not (eqb (i .count) (operandsOf (opOf (i .name)))))
+
+-- 22: "offset plus length of an operand above the declared length"
+unfoldable pub pastEnd : ℕ → Instruction → Bool
+pastEnd declared i = some (λ o. ltb declared (o .offset + o .len)) (operandsIn i)
+
+-- "the largest offset plus length among operands of nonzero length, 0 if none"
+unfoldable pub largest : List Operand → ℕ
+largest [] = 0
+largest (o ∷ os) = max (pick (eqb (o .len) 0) 0 (o .offset + o .len)) (largest os)
+
+-- "Need is 0 if 21 or 22 below applies; otherwise the largest .."
+unfoldable pub need : ℕ → Instruction → ℕ
+need declared i = pick (illFormed i) 0 (pick (pastEnd declared i) 0 (largest (operandsIn i)))
+
+-- ---- the inputs
+
+-- "Each input is the middle part of the input area that its operand names."
+unfoldable pub inputsOf : Instruction → List ℕ → List (List ℕ)
+inputsOf i area = each (λ o. part area (o .offset) (o .len)) (operandsIn i)
+
+abbrev pub nth : List (List ℕ) → ℕ → List ℕ
+nth l n = getD l n []
+
+-- the number, where the decoder tells one
+unfoldable pub isTold : Number → Bool
+isTold (Is n) = true
+isTold Refused = false
+
+unfoldable pub told : Number → ℕ
+told (Is n) = n
+told Refused = 0
+
+-- ---- 23
+
+unfoldable pub isNumber : List ℕ → Bool
+isNumber b = isTold (number b)
+
+-- an id or a root
+unfoldable pub isKey : List ℕ → Bool
+isKey b = eqb (length b) 32
+
+-- not "shorter than 8 or whose leading count is not the rest's length"
+unfoldable pub isData : List ℕ → Bool
+isData b = both (leb 8 (length b)) (eqb (told (number (take 8 b))) (length b - 8))
+
+-- not "a number not 8 bytes, an id or root not 32; Write data shorter than 8 or .."
+unfoldable pub wellFormed : Op → List (List ℕ) → Bool
+wellFormed Read l = both (isKey (nth l 0)) (both (isNumber (nth l 1)) (isNumber (nth l 2)))
+wellFormed ReadSector l = both (isKey (nth l 0)) (both (isNumber (nth l 1)) (isNumber (nth l 2)))
+wellFormed Write l = both (isNumber (nth l 0)) (isData (nth l 1))
+wellFormed Copy l = both (isNumber (nth l 0)) (both (isNumber (nth l 1)) (isNumber (nth l 2)))
+wellFormed Swap l = both (isNumber (nth l 0)) (both (isNumber (nth l 1)) (isNumber (nth l 2)))
+wellFormed Truncate l = isNumber (nth l 0)
+wellFormed Unknown l = true
+
+-- ---- what the inputs say
+
+-- an id or root, zeros where there is none; two offsets, the first also Truncate's new size; a length; Write's data without its count
+pub record Args : Type 0 where
+  pub key : List ℕ
+  pub first : ℕ
+  pub second : ℕ
+  pub len : ℕ
+  pub bytes : List ℕ
+
+-- (contract or root, offset, length)
+unfoldable pub readArgs : List (List ℕ) → Args
+readArgs l = record { key = nth l 0; first = told (number (nth l 1)); second = 0; len = told (number (nth l 2)); bytes = [] }
+
+-- (destination or offset 1, source or offset 2, size)
+unfoldable pub spanArgs : List (List ℕ) → Args
+spanArgs l = record { key = zeros 32; first = told (number (nth l 0)); second = told (number (nth l 1)); len = told (number (nth l 2)); bytes = [] }
+
+unfoldable pub argsOf : Op → List (List ℕ) → Args
+argsOf Read l = readArgs l
+argsOf ReadSector l = readArgs l
+argsOf Write l = record { key = zeros 32; first = told (number (nth l 0)); second = 0; len = length (nth l 1) - 8; bytes = drop 8 (nth l 1) }
+argsOf Copy l = spanArgs l
+argsOf Swap l = spanArgs l
+argsOf Truncate l = record { key = zeros 32; first = told (number (nth l 0)); second = 0; len = 0; bytes = [] }
+argsOf Unknown l = record { key = zeros 32; first = 0; second = 0; len = 0; bytes = [] }

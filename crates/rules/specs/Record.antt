@@ -1,0 +1,52 @@
+-- The bytes of a record. z is the sector size. Assumes nothing.
+use mathlib.Core.Bool.{Bool}
+use mathlib.Core.List.{List, [], _∷_, _++_}
+use Prim.Native.Nat.{ℕ, _/_, _%_}
+use lib.ListN.{getD}
+use lib.Dec.{eqb}
+use Rattle.area.specs.Pick.{pick}
+use Rattle.area.specs.Area.{part}
+use Rattle.area.specs.Little.{le8}
+use Rattle.host.specs.With.{withRunning, withStaged}
+use Rattle.rules.specs.View.{Setting, sector, parent, parentSpots, committedSpots}
+use Rattle.rules.specs.Roots.{contractRoot, rangeProof}
+use Rattle.rules.specs.Inputs.{Args}
+use Rattle.rules.specs.Plan.{Source, spots, proofCount, outputCount}
+use Rattle.rules.specs.Effect.{Staging}
+use Rattle.sia.specs.declared.Op.{Op}
+use Rattle.host.specs.declared.Progress.{Progress}
+use Rattle.rules.specs.declared.Spot.{Spot}
+
+-- a size and a root
+pub record Pair : Type 0 where
+  pub size : ℕ
+  pub root : List ℕ
+
+-- the parent as its committed sectors are; size 0 and root zeros in read-only mode
+unfoldable pub startingPair : ℕ → Setting → Pair
+startingPair z s = record { size = parent s .size; root = contractRoot z (s .disk) [] (committedSpots z (parent s)) }
+
+-- the parent as it is read now, with the stage's bytes
+unfoldable pub runningPair : ℕ → Setting → Progress → List ℕ → Pair
+runningPair z s p stage = record { size = p .size; root = contractRoot z (s .disk) stage (parentSpots z s p) }
+
+-- "Record: number (0 if it succeeded), cost, new size (8 each), new root (32), proof count and hashes, output count and bytes."
+unfoldable pub recordBytes : ℕ → ℕ → Pair → ℕ → List ℕ → ℕ → List ℕ → List ℕ
+recordBytes number cost pair hashes proof count output =
+    le8 number ++ (le8 cost ++ (le8 (pair .size) ++ (pair .root ++ (le8 hashes ++ (proof ++ (le8 count ++ output))))))
+
+-- "Failure: cost 0, starting size and root, both counts 0."
+unfoldable pub failureBytes : ℕ → Setting → ℕ → List ℕ
+failureBytes z s number = recordBytes number 0 (startingPair z s) 0 [] 0 []
+
+-- what a Read or ReadSector hands out: its span of the sectors that are read
+unfoldable pub outputOf : ℕ → List ℕ → List ℕ → List Spot → Args → List ℕ
+outputOf z disk stage [] a = []
+outputOf z disk stage (x ∷ xs) a = part (sector z disk stage (getD (x ∷ xs) (a .first / z) x)) (a .first % z) (a .len)
+
+-- of an instruction that ran: n is its cost, g the stage after it, size the new size, p the progress before it
+unfoldable pub successBytes : ℕ → Setting → Progress → Bool → Source → Op → Args → ℕ → ℕ → Staging → List ℕ
+successBytes z s p asked from op a n size g =
+    recordBytes 0 n (runningPair z s (withStaged (withRunning p size) (g .staged)) (g .bytes))
+    (proofCount z asked from a) (pick asked (rangeProof z (s .disk) (g .bytes) (spots from) (a .first) (a .len)) [])
+    (outputCount op a) (pick (eqb (outputCount op a) 0) [] (outputOf z (s .disk) (g .bytes) (spots from) a))

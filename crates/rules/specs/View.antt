@@ -1,0 +1,100 @@
+-- What instructions run against, and where the bytes of sectors are. z is the sector size. Assumes nothing.
+use mathlib.Core.Bool.{Bool}
+use mathlib.Core.List.{List}
+use Prim.Native.Nat.{ℕ, _*_, _/_}
+use lib.ListN.{length, getD}
+use lib.Dec.{eqb}
+use Rattle.area.specs.Pick.{pick, both}
+use Rattle.area.specs.Area.{same, part, tab}
+use Rattle.sia.specs.Names.{readOnly}
+use Rattle.sia.specs.Encode.{joined}
+use Rattle.host.specs.Lists.{each, count, unused}
+use Rattle.host.specs.Empty.{none}
+use Rattle.host.specs.With.{withProgram, withCame, withProgress}
+use Rattle.host.specs.Places.{whose, committed, taken}
+use Rattle.host.specs.declared.Place.{Place}
+use Rattle.host.specs.declared.Terms.{Terms}
+use Rattle.host.specs.declared.Progress.{Progress}
+use Rattle.host.specs.declared.Host.{Host}
+use Rattle.rules.specs.declared.Spot.{Spot}
+use Rattle.rules.specs.declared.Spot.the-variants.{OnDisk, InStage}
+
+-- ---- what stays and what changes while instructions run
+
+-- what stays: the sectors of disk and stage, the contracts, the terms of the program, the disk's bytes
+pub record Setting : Type 0 where
+  pub sectors : ℕ
+  pub copies : ℕ
+  pub places : List Place
+  pub terms : Terms
+  pub disk : List ℕ
+
+-- what changes: the progress of the program, the stage's bytes, the output's bytes
+pub record Turn : Type 0 where
+  pub progress : Progress
+  pub stage : List ℕ
+  pub output : List ℕ
+
+abbrev pub setting : ℕ → ℕ → List Place → Terms → List ℕ → Setting
+setting sectors copies places terms disk = record { sectors = sectors; copies = copies; places = places; terms = terms; disk = disk }
+
+abbrev pub turn : Progress → List ℕ → List ℕ → Turn
+turn progress stage output = record { progress = progress; stage = stage; output = output }
+
+unfoldable pub settingOf : Host → List ℕ → Setting
+settingOf h disk = setting (h .disk) (h .stage) (h .places) (h .program .terms) disk
+
+unfoldable pub turnOf : Host → List ℕ → List ℕ → Turn
+turnOf h stage output = turn (h .program .progress) stage output
+
+-- the host when k bytes have come and its program has made this progress
+unfoldable pub withRun : Host → ℕ → Progress → Host
+withRun h k p = withProgram h (withProgress (withCame (h .program) k) p)
+
+-- "a call that lends them must lend the same lengths"
+unfoldable pub diskRight : ℕ → Host → List ℕ → Bool
+diskRight z h disk = eqb (length disk) (h .disk * z)
+
+unfoldable pub areasRight : ℕ → Host → List ℕ → List ℕ → Bool
+areasRight z h disk stage = both (diskRight z h disk) (eqb (length stage) (h .stage * z))
+
+-- ---- the parent
+
+-- "The contract "ReadOnly", .. means read-only mode."
+unfoldable pub readOnlyMode : Terms → Bool
+readOnlyMode t = same (t .head .contract) readOnly
+
+-- the contract that the head names; no contract in read-only mode
+unfoldable pub parent : Setting → Place
+parent s = whose (s .terms .head .contract) (s .places)
+
+-- how many stage slots are free
+unfoldable pub freeCopies : Setting → Progress → ℕ
+freeCopies s p = count (unused (p .staged)) 0 (s .copies)
+
+-- ---- sectors
+
+-- "the part of whichever holds it is handed back"
+unfoldable pub sector : ℕ → List ℕ → List ℕ → Spot → List ℕ
+sector z disk stage (OnDisk n) = part disk (n * z) z
+sector z disk stage (InStage n) = part stage (n * z) z
+
+-- "The parent is read from the stage where it has a copy, else from the disk"
+unfoldable pub spotOf : List ℕ → List ℕ → ℕ → Spot
+spotOf slots staged at = pick (eqb (getD staged at none) none) (OnDisk (getD slots at 0)) (InStage (getD staged at none))
+
+-- the parent's sectors up to its running size
+unfoldable pub parentSpots : ℕ → Setting → Progress → List Spot
+parentSpots z s p = tab 0 (p .size / z) (spotOf (parent s .slots) (p .staged))
+
+-- "ReadSector, and Read of another contract, see committed sectors only": those of one contract
+unfoldable pub committedSpots : ℕ → Place → List Spot
+committedSpots z p = each OnDisk (committed z p)
+
+-- and those of all, "by contract place, then position"
+unfoldable pub allSpots : ℕ → Setting → List Spot
+allSpots z s = each OnDisk (taken z (s .places))
+
+-- the bytes of sectors, one after another
+unfoldable pub whole : ℕ → List ℕ → List ℕ → List Spot → List ℕ
+whole z disk stage l = joined (sector z disk stage) l
