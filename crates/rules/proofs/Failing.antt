@@ -13,7 +13,7 @@ use Rattle.sia.specs.Names.{opOf}
 use Rattle.host.specs.With.{withWritten, withFailed}
 use Rattle.rules.specs.View.{Setting, Turn}
 use Rattle.rules.specs.Inputs.{argsOf, inputsOf}
-use Rattle.rules.specs.Plan.{cost, judgedInputs, judged}
+use Rattle.rules.specs.Plan.{cost, judgedSource, judgedInputs, judged}
 use Rattle.rules.specs.Run.{failedProgress, failing, ranProgress, succeeding, stepped, current, step, going, ready, runs, run}
 use Rattle.rules.specs.Demands.{Failed, Failures, charges, Tallied}
 use Rattle.rules.proofs.Laws.Steps.{runs-go, runs-stop}
@@ -57,7 +57,7 @@ passes false n x e = (refl, e)
 
 paid : (z : ℕ) (s : Setting) (p : Progress) (i : Instruction) (l : List (List ℕ)) → judged z s p i l ≡ 0
     → p .tally + cost (s .terms .head .length) (s .terms .prices) (opOf (i .name)) (argsOf (opOf (i .name)) l .len) ≤ s .terms .budget
-unfolding judged judgedInputs
+unfolding judged judgedInputs judgedSource
 paid z s p i l e =
     let inputs = passes _ 21 _ (passes _ 20 _ e .1) .1 in
     let proof = passes _ 26 _ (passes _ 25 _ (passes _ 24 _ (passes _ 23 _ (passes _ 22 _ inputs .1) .1) .1) .1) .1 in

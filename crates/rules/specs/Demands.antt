@@ -18,7 +18,7 @@ use Rattle.host.specs.Order.{inOrder}
 use Rattle.rules.specs.View.{Setting, Turn, settingOf, turnOf, withRun, areasRight}
 use Rattle.rules.specs.Inputs.{need, inputsOf, argsOf}
 use Rattle.rules.specs.Plan.{sourceOf, cost, newSize, judged}
-use Rattle.rules.specs.Effect.{effect}
+use Rattle.rules.specs.Effect.{groundOf, effect}
 use Rattle.rules.specs.Record.{failureBytes, successBytes}
 use Rattle.rules.specs.Run.{stepped, current, step, ready, run}
 use Rattle.rules.specs.Calls.{answered, opened, Pieced, pieced, piece, interrupted, interrupt, reachedAt, noPair, reached}
@@ -209,7 +209,7 @@ recordOf z s i l t =
     let a = argsOf op l in
     let n = judged z s p i l in
     let good = successBytes z s p (i .proof) (sourceOf z s p op (a .key)) op a (cost (s .terms .head .length) (s .terms .prices) op (a .len)) (newSize (p .size) op a)
-    (effect z s (p .size) op a (record { staged = p .staged; bytes = t .stage })) in
+    (effect z (groundOf s) (p .size) op a (record { staged = p .staged; bytes = t .stage })) in
     pick (eqb n 0) good (failureBytes z s n)
 
 -- that of the instruction whose turn it is

@@ -183,6 +183,16 @@ recordCount z asked from op a = 72 + 32 * proofCount z asked from a + outputCoun
 
 -- ---- "Checks, first match wins": the failure's number, or 0 where it can run
 
+-- 26 to 42, where what is read was found
+unfoldable pub judgedSource : ℕ → Setting → Progress → Bool → Source → Op → Args → ℕ
+judgedSource z s p asked from op a =
+    pick (badSpans z (p .size) from op a) 26
+    (pick (both asked (badProof op a)) 27
+    (pick (ltb (s .terms .budget) (p .tally + cost (s .terms .head .length) (s .terms .prices) op (a .len))) 28
+    (pick (ltb (freeCopies s p) (wanted z p op a)) 40
+    (pick (ltb (s .sectors * z) (newSize (p .size) op a + others (s .terms .head .contract) (s .places))) 41
+    (pick (ltb (s .terms .room) (p .written + recordCount z asked from op a + 72)) 42 0)))))
+
 -- 23 to 42, where name and operands are right
 unfoldable pub judgedInputs : ℕ → Setting → Progress → Instruction → Op → List (List ℕ) → ℕ
 judgedInputs z s p i op l =
@@ -191,12 +201,7 @@ judgedInputs z s p i op l =
     pick (not (wellFormed op l)) 23
     (pick (both (changes op) (readOnlyMode (s .terms))) 24
     (pick (not (isThere from)) 25
-    (pick (badSpans z (p .size) from op a) 26
-    (pick (both (i .proof) (badProof op a)) 27
-    (pick (ltb (s .terms .budget) (p .tally + cost (s .terms .head .length) (s .terms .prices) op (a .len))) 28
-    (pick (ltb (freeCopies s p) (wanted z p op a)) 40
-    (pick (ltb (s .sectors * z) (newSize (p .size) op a + others (s .terms .head .contract) (s .places))) 41
-    (pick (ltb (s .terms .room) (p .written + recordCount z (i .proof) from op a + 72)) 42 0))))))))
+    (judgedSource z s p (i .proof) from op a)))
 
 unfoldable pub judged : ℕ → Setting → Progress → Instruction → List (List ℕ) → ℕ
 judged z s p i l =

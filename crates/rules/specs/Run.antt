@@ -11,7 +11,7 @@ use Rattle.sia.specs.Empty.{noInstruction}
 use Rattle.rules.specs.View.{Setting, Turn}
 use Rattle.rules.specs.Inputs.{need, inputsOf, Args, argsOf}
 use Rattle.rules.specs.Plan.{sourceOf, cost, newSize, recordCount, judged}
-use Rattle.rules.specs.Effect.{effect}
+use Rattle.rules.specs.Effect.{groundOf, effect}
 use Rattle.rules.specs.Record.{failureBytes, successBytes}
 use Rattle.sia.specs.declared.Instruction.{Instruction}
 use Rattle.sia.specs.declared.Op.{Op}
@@ -40,7 +40,7 @@ succeeding z s asked op a t =
     let from = sourceOf z s p op (a .key) in
     let n = cost (s .terms .head .length) (s .terms .prices) op (a .len) in
     let size = newSize (p .size) op a in
-    let g = effect z s (p .size) op a (record { staged = p .staged; bytes = t .stage }) in
+    let g = effect z (groundOf s) (p .size) op a (record { staged = p .staged; bytes = t .stage }) in
     record {
       progress = ranProgress p n (recordCount z asked from op a) size (g .staged);
       stage = g .bytes;

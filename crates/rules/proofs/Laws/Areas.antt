@@ -14,7 +14,7 @@ use Rattle.host.specs.Empty.{none}
 use Rattle.rules.specs.View.{Setting, Turn}
 use Rattle.rules.specs.Inputs.{Args, argsOf, inputsOf}
 use Rattle.rules.specs.Plan.{judged}
-use Rattle.rules.specs.Effect.{Staging, newCopy, copied, laid, spanWritten, resized, effect}
+use Rattle.rules.specs.Effect.{Ground, groundOf, Staging, newCopy, copied, laid, spanWritten, resized, effect}
 use Rattle.rules.specs.Run.{failing, succeeding, stepped, current, step, ready, runs}
 use Rattle.rules.proofs.Laws.Steps.{runs-go, runs-stop}
 use Rattle.sia.specs.declared.Op.{Op}
@@ -33,32 +33,32 @@ unfolding pick
 either-second true b e f = e
 either-second false b e f = never (sym f)
 
-written-length : (z : ℕ) (s : Setting) (at : ℕ) (bs : List ℕ) (g : Staging) → length (spanWritten z s at bs g .bytes) ≡ length (g .bytes)
+written-length : (z : ℕ) (n : Ground) (at : ℕ) (bs : List ℕ) (g : Staging) → length (spanWritten z n at bs g .bytes) ≡ length (g .bytes)
 unfolding spanWritten laid copied newCopy
-written-length z s at bs g =
+written-length z n at bs g =
     length-put _ _ bs
     ∙ by (eqb (getD (g .staged) (at / z) none) none)
     (λ e. ap (λ (x : Staging). length (x .bytes)) (picks (eqb (getD (g .staged) (at / z) none) none) _ g e) ∙ length-put (g .bytes) _ _)
     (λ e. ap (λ (x : Staging). length (x .bytes)) (skips (eqb (getD (g .staged) (at / z) none) none) _ g e))
 
-resized-length : (z : ℕ) (s : Setting) (now to : ℕ) (g : Staging) → length (resized z s now to g .bytes) ≡ length (g .bytes)
+resized-length : (z : ℕ) (n : Ground) (now to : ℕ) (g : Staging) → length (resized z n now to g .bytes) ≡ length (g .bytes)
 unfolding resized newCopy
-resized-length z s now to g =
+resized-length z n now to g =
     by (ltb now to)
     (λ e. ap (λ (x : Staging). length (x .bytes)) (picks (ltb now to) _ _ e) ∙ length-put (g .bytes) _ (zeros z))
     (λ e. by (ltb to now)
     (λ d. ap (λ (x : Staging). length (x .bytes)) (skips (ltb now to) _ _ e ∙ picks (ltb to now) _ _ d))
     (λ d. ap (λ (x : Staging). length (x .bytes)) (skips (ltb now to) _ _ e ∙ skips (ltb to now) _ _ d)))
 
-pub effect-bytes : (z : ℕ) (s : Setting) (size : ℕ) (op : Op) (a : Args) (g : Staging) → length (effect z s size op a g .bytes) ≡ length (g .bytes)
+pub effect-bytes : (z : ℕ) (n : Ground) (size : ℕ) (op : Op) (a : Args) (g : Staging) → length (effect z n size op a g .bytes) ≡ length (g .bytes)
 unfolding effect
-effect-bytes z s size Read a g = refl
-effect-bytes z s size ReadSector a g = refl
-effect-bytes z s size Write a g = written-length z s (a .first) _ g
-effect-bytes z s size Copy a g = written-length z s (a .first) _ g
-effect-bytes z s size Swap a g = written-length z s (a .first) _ _ ∙ written-length z s (a .second) _ g
-effect-bytes z s size Truncate a g = resized-length z s size (a .first) g
-effect-bytes z s size Unknown a g = refl
+effect-bytes z n size Read a g = refl
+effect-bytes z n size ReadSector a g = refl
+effect-bytes z n size Write a g = written-length z n (a .first) _ g
+effect-bytes z n size Copy a g = written-length z n (a .first) _ g
+effect-bytes z n size Swap a g = written-length z n (a .first) _ _ ∙ written-length z n (a .second) _ g
+effect-bytes z n size Truncate a g = resized-length z n size (a .first) g
+effect-bytes z n size Unknown a g = refl
 
 -- the areas of two turns are equally long
 pub record Alike (t u : Turn) : Type 0 where
@@ -70,7 +70,7 @@ unfolding stepped succeeding failing
 stepped-alike z s i l t =
     by (eqb (judged z s (t .progress) i l) 0)
     (λ e. subst (λ (x : Turn). Alike x t) (sym (picks (eqb (judged z s (t .progress) i l) 0) _ _ e))
-    (record { stage = effect-bytes z s (t .progress .size) (opOf (i .name)) (argsOf (opOf (i .name)) l) _; output = length-put (t .output) _ _ }))
+    (record { stage = effect-bytes z (groundOf s) (t .progress .size) (opOf (i .name)) (argsOf (opOf (i .name)) l) _; output = length-put (t .output) _ _ }))
     (λ e. subst (λ (x : Turn). Alike x t) (sym (skips (eqb (judged z s (t .progress) i l) 0) _ _ e)) (record { stage = refl; output = length-put (t .output) _ _ }))
 
 pub runs-alike : (z : ℕ) (s : Setting) (a : List ℕ) (k n : ℕ) (t : Turn) → Alike (runs z s a k n t) t

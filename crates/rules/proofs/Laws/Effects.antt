@@ -21,8 +21,8 @@ use Rattle.host.specs.Places.{others, freeCopy}
 use Rattle.host.specs.Facts.{Staged}
 use Rattle.rules.specs.View.{Setting, readOnlyMode, freeCopies}
 use Rattle.rules.specs.Inputs.{Args, argsOf}
-use Rattle.rules.specs.Plan.{sourceOf, changes, badSpan, badSize, badSpans, cost, touched, wanted, newSize, recordCount, judgedInputs, judged}
-use Rattle.rules.specs.Effect.{Staging, newCopy, copied, laid, spanWritten, resized, effect}
+use Rattle.rules.specs.Plan.{sourceOf, changes, badSpan, badSize, badSpans, cost, touched, wanted, newSize, recordCount, judgedSource, judgedInputs, judged}
+use Rattle.rules.specs.Effect.{Ground, groundOf, Staging, newCopy, copied, laid, spanWritten, resized, effect}
 use Rattle.rules.proofs.Laws.Lists.{some-set, lowest-is, count-but-one}
 use Rattle.rules.proofs.Laws.Staged.{Free, copy-kept, grow-kept, shrink-kept}
 use Rattle.sia.specs.declared.Op.{Op}
@@ -52,7 +52,7 @@ pub record Passed (z : ℕ) (s : Setting) (p : Progress) (op : Op) (a : Args) (c
 
 passed-inputs : (z : ℕ) (s : Setting) (p : Progress) (i : Instruction) (op : Op) (l : List (List ℕ)) → judgedInputs z s p i op l ≡ 0
     → Passed z s p op (argsOf op l) (recordCount z (i .proof) (sourceOf z s p op (argsOf op l .key)) op (argsOf op l))
-unfolding judgedInputs
+unfolding judgedInputs judgedSource
 passed-inputs z s p i op l e =
     let c23 = passes _ 22 _ e in
     let c24 = passes _ 23 _ (c23 .1) in
@@ -85,17 +85,17 @@ sector-below z at size pos e lt = div-lt-iff-lt-mul {k = z} {x = at} {y = size /
 unfoldable pub copiedMap : ℕ → ℕ → List ℕ → List ℕ
 copiedMap copies at staged = pick (eqb (getD staged at none) none) (set staged at (lowest (unused staged) 0 copies)) staged
 
-copied-map : (z : ℕ) (s : Setting) (at : ℕ) (g : Staging) → copied z s at g .staged ≡ copiedMap (s .copies) at (g .staged)
+copied-map : (z : ℕ) (n : Ground) (at : ℕ) (g : Staging) → copied z n at g .staged ≡ copiedMap (n .copies) at (g .staged)
 unfolding copied newCopy freeCopy copiedMap pick
-copied-map z s at g = under (eqb (getD (g .staged) at none) none) _ _
+copied-map z n at g = under (eqb (getD (g .staged) at none) none) _ _
   where
     under : (b : Bool) (x y : Staging) → pick b x y .staged ≡ pick b (x .staged) (y .staged)
     under true x y = refl
     under false x y = refl
 
-written-map : (z : ℕ) (s : Setting) (at : ℕ) (bs : List ℕ) (g : Staging) → spanWritten z s at bs g .staged ≡ copiedMap (s .copies) (at / z) (g .staged)
+written-map : (z : ℕ) (n : Ground) (at : ℕ) (bs : List ℕ) (g : Staging) → spanWritten z n at bs g .staged ≡ copiedMap (n .copies) (at / z) (g .staged)
 unfolding spanWritten laid
-written-map z s at bs g = copied-map z s (at / z) g
+written-map z n at bs g = copied-map z n (at / z) g
 
 free-slot : (copies : ℕ) (staged : List ℕ) → 0 < count (unused staged) 0 copies → Free copies (lowest (unused staged) 0 copies) staged
 free-slot copies staged h = let r = lowest-is (unused staged) 0 copies h in record { below = omega (arith, r .1); unused = not-true _ (r .0) }
@@ -236,21 +236,21 @@ past-first zero (x ∷ xs) h = both-left _ _ h
 past-first (suc n) [] h = refl
 past-first (suc n) (x ∷ xs) h = past-first n xs h
 
-new-copy-map : (z : ℕ) (s : Setting) (at : ℕ) (bs : List ℕ) (g : Staging) → newCopy z s at bs g .staged ≡ set (g .staged) at (lowest (unused (g .staged)) 0 (s .copies))
+new-copy-map : (z : ℕ) (n : Ground) (at : ℕ) (bs : List ℕ) (g : Staging) → newCopy z n at bs g .staged ≡ set (g .staged) at (lowest (unused (g .staged)) 0 (n .copies))
 unfolding newCopy freeCopy
-new-copy-map z s at bs g = refl
+new-copy-map z n at bs g = refl
 
-resized-more : (z : ℕ) (s : Setting) (now to : ℕ) (g : Staging) → ltb now to ≡ true → resized z s now to g .staged ≡ set (g .staged) (now / z) (lowest (unused (g .staged)) 0 (s .copies))
+resized-more : (z : ℕ) (n : Ground) (now to : ℕ) (g : Staging) → ltb now to ≡ true → resized z n now to g .staged ≡ set (g .staged) (now / z) (lowest (unused (g .staged)) 0 (n .copies))
 unfolding resized
-resized-more z s now to g e = ap (λ (x : Staging). x .staged) (picks (ltb now to) _ _ e) ∙ new-copy-map z s (now / z) (zeros z) g
+resized-more z n now to g e = ap (λ (x : Staging). x .staged) (picks (ltb now to) _ _ e) ∙ new-copy-map z n (now / z) (zeros z) g
 
-resized-less : (z : ℕ) (s : Setting) (now to : ℕ) (g : Staging) → ltb now to ≡ false → ltb to now ≡ true → resized z s now to g .staged ≡ set (g .staged) (to / z) none
+resized-less : (z : ℕ) (n : Ground) (now to : ℕ) (g : Staging) → ltb now to ≡ false → ltb to now ≡ true → resized z n now to g .staged ≡ set (g .staged) (to / z) none
 unfolding resized
-resized-less z s now to g e d = ap (λ (x : Staging). x .staged) (skips (ltb now to) _ _ e ∙ picks (ltb to now) _ _ d)
+resized-less z n now to g e d = ap (λ (x : Staging). x .staged) (skips (ltb now to) _ _ e ∙ picks (ltb to now) _ _ d)
 
-resized-same : (z : ℕ) (s : Setting) (now to : ℕ) (g : Staging) → ltb now to ≡ false → ltb to now ≡ false → resized z s now to g .staged ≡ g .staged
+resized-same : (z : ℕ) (n : Ground) (now to : ℕ) (g : Staging) → ltb now to ≡ false → ltb to now ≡ false → resized z n now to g .staged ≡ g .staged
 unfolding resized
-resized-same z s now to g e d = ap (λ (x : Staging). x .staged) (skips (ltb now to) _ _ e ∙ skips (ltb to now) _ _ d)
+resized-same z n now to g e d = ap (λ (x : Staging). x .staged) (skips (ltb now to) _ _ e ∙ skips (ltb to now) _ _ d)
 
 -- what `badSize` rules out
 pub record Sized (z now to : ℕ) : Type 0 where
@@ -267,7 +267,7 @@ sized z now to e =
 
 resized-kept : (z : ℕ) (s : Setting) (p : Progress) (start to : ℕ) (bytes : List ℕ) → 0 < z → s .copies ≤ 16 → p .size % z ≡ 0 → Staged (s .copies) start (p .size / z) (p .staged)
     → Sized z (p .size) to → to ≤ length (p .staged) * z → (ltb (p .size) to ≡ true → asks (p .staged) (p .size / z) ≤ freeCopies s p)
-    → Staged (s .copies) start (to / z) (resized z s (p .size) to (record { staged = p .staged; bytes = bytes }) .staged)
+    → Staged (s .copies) start (to / z) (resized z (groundOf s) (p .size) to (record { staged = p .staged; bytes = bytes }) .staged)
 unfolding freeCopies
 resized-kept z s p start to bytes pos few whole f sz len free =
     let g : Staging = record { staged = p .staged; bytes = bytes } in
@@ -276,16 +276,16 @@ resized-kept z s p start to bytes pos few whole f sz len free =
     let nx = next-sector z (p .size) to pos whole (sz .whole) lt (sz .up) in
     let at : p .size / z < length (p .staged) = div-lt-iff-lt-mul {k = z} {x = p .size} {y = length (p .staged)} pos .1 (omega arith) in
     let fr = free-slot (s .copies) (p .staged) (omega (arith, free e, asks-some (p .staged) (p .size / z) (past-first (p .size / z) (p .staged) (f .below)))) in
-    subst (λ (n : ℕ). Staged (s .copies) start n (resized z s (p .size) to g .staged)) (sym nx)
-    (subst (λ (m : List ℕ). Staged (s .copies) start (suc (p .size / z)) m) (sym (resized-more z s (p .size) to g e))
+    subst (λ (n : ℕ). Staged (s .copies) start n (resized z (groundOf s) (p .size) to g .staged)) (sym nx)
+    (subst (λ (m : List ℕ). Staged (s .copies) start (suc (p .size / z)) m) (sym (resized-more z (groundOf s) (p .size) to g e))
     (grow-kept (s .copies) start few (p .size / z) _ (p .staged) at fr f)))
     (λ e. by (ltb to (p .size))
     (λ d. let lt = ltb-true to (p .size) d in
     let nx = next-sector z to (p .size) pos (sz .whole) whole lt (sz .down) in
-    subst (λ (m : List ℕ). Staged (s .copies) start (to / z) m) (sym (resized-less z s (p .size) to g e d))
+    subst (λ (m : List ℕ). Staged (s .copies) start (to / z) m) (sym (resized-less z (groundOf s) (p .size) to g e d))
     (shrink-kept (s .copies) start few (to / z) (p .staged) (subst (λ (n : ℕ). Staged (s .copies) start n (p .staged)) nx f)))
     (λ d. let q : p .size ≡ to = omega (arith, ltb-false (p .size) to e, ltb-false to (p .size) d) in
-    subst (λ (m : List ℕ). Staged (s .copies) start (to / z) m) (sym (resized-same z s (p .size) to g e d))
+    subst (λ (m : List ℕ). Staged (s .copies) start (to / z) m) (sym (resized-same z (groundOf s) (p .size) to g e d))
     (subst (λ (n : ℕ). Staged (s .copies) start (n / z) (p .staged)) q f)))
 
 swap-asks : (b : Bool) (staged : List ℕ) (at to : ℕ) → length (those (λ n. eqb (getD staged n none) none) (pick b (at ∷ []) (at ∷ to ∷ []))) ≡ pick b (asks staged at) (asks staged at + asks staged to)
@@ -297,18 +297,18 @@ swap-asks false staged at to = wanted-two staged at to
 
 module _ (z : ℕ) (s : Setting) (p : Progress) (start : ℕ) (pos : 0 < z) (few : s .copies ≤ 16) (most : s .sectors ≤ length (p .staged)) (whole : p .size % z ≡ 0)
     (under : p .size / z ≤ length (p .staged)) (f : Staged (s .copies) start (p .size / z) (p .staged)) (bytes : List ℕ) where
-  pub effect-kept : (op : Op) (a : Args) (n : ℕ) → Passed z s p op a n → Staged (s .copies) start (newSize (p .size) op a / z) (effect z s (p .size) op a (record { staged = p .staged; bytes = bytes }) .staged)
+  pub effect-kept : (op : Op) (a : Args) (n : ℕ) → Passed z s p op a n → Staged (s .copies) start (newSize (p .size) op a / z) (effect z (groundOf s) (p .size) op a (record { staged = p .staged; bytes = bytes }) .staged)
   unfolding effect newSize badSpans wanted touched
   effect-kept Read a n q = f
   effect-kept ReadSector a n q = f
   effect-kept Write a n q =
-      subst (λ (m : List ℕ). Staged (s .copies) start (p .size / z) m) (sym (written-map z s (a .first) _ _))
+      subst (λ (m : List ℕ). Staged (s .copies) start (p .size / z) m) (sym (written-map z (groundOf s) (a .first) _ _))
       (one-kept z s p start pos few whole f (a .first) (span-in z (p .size) (a .first) (a .len) (q .spans)) (omega (arith, q .free, wanted-one (p .staged) (a .first / z))))
   effect-kept Copy a n q =
-      subst (λ (m : List ℕ). Staged (s .copies) start (p .size / z) m) (sym (written-map z s (a .first) _ _))
+      subst (λ (m : List ℕ). Staged (s .copies) start (p .size / z) m) (sym (written-map z (groundOf s) (a .first) _ _))
       (one-kept z s p start pos few whole f (a .first) (span-in z (p .size) (a .first) (a .len) (either-left _ _ (q .spans))) (omega (arith, q .free, wanted-one (p .staged) (a .first / z))))
   effect-kept Swap a n q =
-      subst (λ (m : List ℕ). Staged (s .copies) start (p .size / z) m) (sym (written-map z s (a .first) _ _ ∙ ap (λ (m : List ℕ). copiedMap (s .copies) (a .first / z) m) (written-map z s (a .second) _ _)))
+      subst (λ (m : List ℕ). Staged (s .copies) start (p .size / z) m) (sym (written-map z (groundOf s) (a .first) _ _ ∙ ap (λ (m : List ℕ). copiedMap (s .copies) (a .first / z) m) (written-map z (groundOf s) (a .second) _ _)))
       (two-kept z s p start pos few whole f (a .second) (a .first) (span-in z (p .size) (a .second) (a .len) (either-right _ _ (q .spans))) (span-in z (p .size) (a .first) (a .len) (either-left _ _ (q .spans))) under
       (subst (λ (x : ℕ). x ≤ freeCopies s p) (swap-asks (eqb (a .first / z) (a .second / z)) (p .staged) (a .second / z) (a .first / z)) (q .free)))
   effect-kept Truncate a n q =
@@ -316,20 +316,20 @@ module _ (z : ℕ) (s : Setting) (p : Progress) (start : ℕ) (pos : 0 < z) (few
       (λ e. omega (arith, q .free, wanted-one (p .staged) (p .size / z), ap (λ (l : List ℕ). length (those (λ n. eqb (getD (p .staged) n none) none) l)) (picks (ltb (p .size) (a .first)) (p .size / z ∷ []) [] e)))
   effect-kept Unknown a n q = f
 
-pub effect-length : (z : ℕ) (s : Setting) (size : ℕ) (op : Op) (a : Args) (g : Staging) → length (effect z s size op a g .staged) ≡ length (g .staged)
+pub effect-length : (z : ℕ) (n : Ground) (size : ℕ) (op : Op) (a : Args) (g : Staging) → length (effect z n size op a g .staged) ≡ length (g .staged)
 unfolding effect
-effect-length z s size Read a g = refl
-effect-length z s size ReadSector a g = refl
-effect-length z s size Write a g = ap length (written-map z s (a .first) _ g) ∙ length-copied _ _ _
-effect-length z s size Copy a g = ap length (written-map z s (a .first) _ g) ∙ length-copied _ _ _
-effect-length z s size Swap a g = ap length (written-map z s (a .first) _ _) ∙ length-copied _ _ _ ∙ ap length (written-map z s (a .second) _ g) ∙ length-copied _ _ _
-effect-length z s size Truncate a g =
+effect-length z n size Read a g = refl
+effect-length z n size ReadSector a g = refl
+effect-length z n size Write a g = ap length (written-map z n (a .first) _ g) ∙ length-copied _ _ _
+effect-length z n size Copy a g = ap length (written-map z n (a .first) _ g) ∙ length-copied _ _ _
+effect-length z n size Swap a g = ap length (written-map z n (a .first) _ _) ∙ length-copied _ _ _ ∙ ap length (written-map z n (a .second) _ g) ∙ length-copied _ _ _
+effect-length z n size Truncate a g =
     by (ltb size (a .first))
-    (λ e. ap length (resized-more z s size (a .first) g e) ∙ simp length-set)
+    (λ e. ap length (resized-more z n size (a .first) g e) ∙ simp length-set)
     (λ e. by (ltb (a .first) size)
-    (λ d. ap length (resized-less z s size (a .first) g e d) ∙ simp length-set)
-    (λ d. ap length (resized-same z s size (a .first) g e d)))
-effect-length z s size Unknown a g = refl
+    (λ d. ap length (resized-less z n size (a .first) g e d) ∙ simp length-set)
+    (λ d. ap length (resized-same z n size (a .first) g e d)))
+effect-length z n size Unknown a g = refl
 
 pub size-whole : (z : ℕ) (s : Setting) (p : Progress) (op : Op) (a : Args) (n : ℕ) → Passed z s p op a n → p .size % z ≡ 0 → newSize (p .size) op a % z ≡ 0
 unfolding newSize badSpans

@@ -17,7 +17,7 @@ use Rattle.host.specs.Facts.{Staged, Orderly}
 use Rattle.rules.specs.View.{Setting, Turn, readOnlyMode}
 use Rattle.rules.specs.Inputs.{Args, argsOf, inputsOf}
 use Rattle.rules.specs.Plan.{changes, cost, newSize, judged}
-use Rattle.rules.specs.Effect.{effect}
+use Rattle.rules.specs.Effect.{groundOf, effect}
 use Rattle.rules.specs.Run.{failedProgress, failing, ranProgress, succeeding, stepped, current, step, going, ready, runs}
 use Rattle.rules.specs.Facts.{Good, InOrder, Lent, startOf}
 use Rattle.rules.proofs.Laws.Steps.{not-failed, left-going, ready-going, runs-go, runs-stop}
@@ -86,7 +86,7 @@ failed-good z s p e g =
     }
 
 ran-good : (z : ℕ) (s : Setting) (p : Progress) (op : Op) (a : Args) (n : ℕ) (bytes : List ℕ) → Lent z s → p .failed ≡ false → p .ran < s .terms .head .count → Passed z s p op a n → Good z s p
-    → Good z s (ranProgress p (cost (s .terms .head .length) (s .terms .prices) op (a .len)) n (newSize (p .size) op a) (effect z s (p .size) op a (record { staged = p .staged; bytes = bytes }) .staged))
+    → Good z s (ranProgress p (cost (s .terms .head .length) (s .terms .prices) op (a .len)) n (newSize (p .size) op a) (effect z (groundOf s) (p .size) op a (record { staged = p .staged; bytes = bytes }) .staged))
 unfolding ranProgress
 ran-good z s p op a n bytes L e lt q g =
     let o = g .orderly in
@@ -103,7 +103,7 @@ ran-good z s p op a n bytes L e lt q g =
         staged = effect-kept z s p (startOf z s) (L .some) (L .few) (omega (arith, L .most, g .entries)) (o .whole) (omega (arith, u, g .entries)) (o .staged) bytes op a n q;
       };
       terms = terms-size (s .places) (s .terms) (p .size) _ (λ r. size-read op (p .size) a (not-both (changes op) (q .allowed) r)) (g .terms);
-      entries = effect-length z s (p .size) op a _ ∙ g .entries;
+      entries = effect-length z (groundOf s) (p .size) op a _ ∙ g .entries;
     }
   where
     not-both : (b : Bool) {c : Bool} → both b c ≡ false → c ≡ true → b ≡ false

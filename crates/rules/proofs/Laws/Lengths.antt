@@ -20,8 +20,8 @@ use Rattle.sia.specs.Encode.{joined, every}
 use Rattle.rules.specs.View.{Setting, Turn, sector, parent, committedSpots, whole}
 use Rattle.rules.specs.Roots.{contractRoot, segments, rangeProof, rangeCount}
 use Rattle.rules.specs.Inputs.{Args, argsOf}
-use Rattle.rules.specs.Plan.{Source, spots, sourceOf, reads, badSpan, badSpans, badProof, newSize, proofCount, outputCount, recordCount, judgedInputs, judged}
-use Rattle.rules.specs.Effect.{effect}
+use Rattle.rules.specs.Plan.{Source, spots, sourceOf, reads, badSpan, badSpans, badProof, newSize, proofCount, outputCount, recordCount, judgedSource, judgedInputs, judged}
+use Rattle.rules.specs.Effect.{groundOf, effect}
 use Rattle.rules.specs.Record.{Pair, startingPair, runningPair, recordBytes, failureBytes, outputOf, successBytes}
 use Rattle.rules.specs.Run.{failedProgress, failing, ranProgress, succeeding, stepped}
 use Rattle.rules.specs.Demands.{recordOf, Sectors}
@@ -157,7 +157,7 @@ failure-length z s n = length-record n 0 _ 0 [] 0 [] (length-root z (s .disk) []
 
 -- a proof is asked of a read
 asked-reads : (z : ℕ) (s : Setting) (p : Progress) (i : Instruction) (l : List (List ℕ)) → judged z s p i l ≡ 0 → i .proof ≡ true → reads (opOf (i .name)) ≡ true
-unfolding judged judgedInputs badProof
+unfolding judged judgedInputs judgedSource badProof
 asked-reads z s p i l e h =
     let inputs = passes _ 21 _ (passes _ 20 _ e .1) .1 in
     let c = passes _ 26 _ (passes _ 25 _ (passes _ 24 _ (passes _ 23 _ (passes _ 22 _ inputs .1) .1) .1) .1) in
@@ -167,7 +167,7 @@ asked-reads z s p i l e h =
 
 success-length : (z : ℕ) (s : Setting) (p : Progress) (asked : Bool) (op : Op) (a : Args) (n count : ℕ) (bytes : List ℕ) → Sectors z → Solid z s → Good z s p
     → length bytes ≡ s .copies * z → Passed z s p op a count → (asked ≡ true → reads op ≡ true)
-    → length (successBytes z s p asked (sourceOf z s p op (a .key)) op a n (newSize (p .size) op a) (effect z s (p .size) op a (record { staged = p .staged; bytes = bytes })))
+    → length (successBytes z s p asked (sourceOf z s p op (a .key)) op a n (newSize (p .size) op a) (effect z (groundOf s) (p .size) op a (record { staged = p .staged; bytes = bytes })))
     ≡ recordCount z asked (sourceOf z s p op (a .key)) op a
 unfolding successBytes recordCount runningPair
 success-length z s p asked op a n count bytes sectors solid g e q asks =
@@ -176,7 +176,7 @@ success-length z s p asked op a n count bytes sectors solid g e q asks =
     let c : s .sectors * z ≤ 64 * z = mul-le-mul-right {m = s .sectors} {n = 64} z (solid .lent .most) in
     let u : p .size / z ≤ 64 = le-of-mul-le-mul-right {m = p .size / z} {n = 64} {k = z} (omega (arith, w, g .orderly .within, c)) (solid .lent .some) in
     let valid = source-valid z s p solid (g .orderly .staged) (omega (arith, u, g .entries)) op (a .key) in
-    let stage = effect-bytes z s (p .size) op a (record { staged = p .staged; bytes = bytes }) ∙ e in
+    let stage = effect-bytes z (groundOf s) (p .size) op a (record { staged = p .staged; bytes = bytes }) ∙ e in
     length-record 0 n _ (proofCount z asked from a) _ (outputCount op a) _
     (length-root z (s .disk) _ _)
     (length-proof z s _ from a asked sectors solid stage valid (few-spots z s p op (a .key) (solid .small) u)
