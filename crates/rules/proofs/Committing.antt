@@ -65,7 +65,7 @@ module _ (z disk size : ℕ) (id : List ℕ) (ps : List Place) (s : Split id ps)
   unfolding used keep
   apart-used =
       subst (λ (l : List ℕ). apart eqb l ≡ true) (append-assoc (taken z (s .before)) keep (taken z (s .behind)))
-      (apart-out (taken z (s .before) ++ keep) (cut-rest z size old) (taken z (s .behind))
+      (apart-out eqb (taken z (s .before) ++ keep) (cut-rest z size old) (taken z (s .behind))
       (subst (λ (l : List ℕ). apart eqb l ≡ true)
       (ap (λ (l : List ℕ). taken z (s .before) ++ (l ++ taken z (s .behind))) (cut-prefix z size old pos held)
       ∙ ap (λ (l : List ℕ). taken z (s .before) ++ l) (append-assoc keep (cut-rest z size old) (taken z (s .behind)))

@@ -2,6 +2,7 @@
 pub mod Laws
 pub mod Bench
 pub mod Refusing
+pub mod Forming
 pub mod Failing
 pub mod Cutting
 pub mod Records

@@ -23,11 +23,13 @@ use Rattle.host.specs.With.{withProgram}
 use Rattle.host.specs.Places.{whose, taken}
 use Rattle.host.specs.Order.{slotInOrder, clash, parentInOrder, termsInOrder, progressInOrder, programInOrder, placesInOrder, inOrder}
 use Rattle.host.specs.Facts.{Staged}
+use Rattle.host.specs.Calls.{formed, dropped}
 use Rattle.rules.specs.View.{settingOf, turnOf}
 use Rattle.rules.specs.Run.{failing, going, run}
 use Rattle.rules.specs.Calls.{roomRight, begun, openedHead, opened, Pieced, accepted, piece, Interrupted, stopped, interrupt, reached}
 use Rattle.rules.specs.Commit.{Closed, givenUp, agreed, close}
 use Rattle.rules.specs.Demands.{Sound, Refused, Ordered}
+use Rattle.rules.proofs.Forming.{making, unmade, forming, dropping}
 use Rattle.rules.proofs.Laws.Ways.{either-way}
 use Rattle.rules.proofs.Laws.Lists.{every-drop}
 use Rattle.rules.proofs.Laws.Pigeons.{pigeons}
@@ -40,6 +42,7 @@ use Rattle.sia.specs.declared.Head.{Head}
 use Rattle.host.specs.declared.Prices.{Prices}
 use Rattle.host.specs.declared.Program.{Program}
 use Rattle.host.specs.declared.Host.{Host}
+use Rattle.host.specs.declared.Answer.{Answer as Contract}
 use Rattle.rules.specs.declared.Answer.{Answer}
 use Rattle.rules.specs.declared.Reached.{Reached}
 
@@ -162,8 +165,10 @@ closing z disk h stage agree size root sound o =
 -- ---- a host that is not in order
 
 refused : (z : ℕ) (h : Host) → inOrder z h ≡ false → Refused z h
-unfolding opened openedHead piece interrupt reached close
+unfolding formed dropped opened openedHead piece interrupt reached close
 refused z h e = record {
+  forming = λ id. ap (λ (r : Contract). r .number) (picks (not (inOrder z h)) _ _ (ap not e));
+  dropping = λ id. ap (λ (r : Contract). r .number) (picks (not (inOrder z h)) _ _ (ap not e));
   opening = λ bytes budget p room. ap (λ (r : Answer). r .number) (picks (not (inOrder z h)) _ _ (ap not e));
   pieces = λ disk stage input output bytes. ap (λ (r : Pieced). r .number) (picks (not (inOrder z h)) _ _ (ap not e));
   interrupts = λ disk output. ap (λ (r : Interrupted). r .number) (picks (not (inOrder z h)) _ _ (ap not e));
@@ -172,4 +177,14 @@ refused z h e = record {
 }
 
 pub ordered : Ordered
-ordered = record { opening = opening; pieces = pieces; interrupts = interrupts; closing = closing; others = refused }
+ordered = record {
+  making = making;
+  unmade = unmade;
+  forming = forming;
+  dropping = dropping;
+  opening = opening;
+  pieces = pieces;
+  interrupts = interrupts;
+  closing = closing;
+  others = refused;
+}

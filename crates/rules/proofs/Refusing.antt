@@ -4,6 +4,8 @@ use mathlib.Core.Bool.{Bool, true, false}
 use Prim.Native.Nat.{ℕ}
 use lib.IntN.{pos}
 use Rattle.area.specs.Pick.{pick}
+use Rattle.host.specs.Calls.{formed, dropped}
+use Rattle.host.specs.Calls as Contract
 use Rattle.rules.specs.Calls.{answered, openedHead, opened, pieced, accepted, piece, interrupted, stopped, interrupt, reachedAt, noPair, reached}
 use Rattle.rules.specs.Commit.{closed, givenUp, commit, agreed, close}
 use Rattle.rules.specs.Demands.{Refusals}
@@ -25,8 +27,14 @@ module _ {R : Type 0} (number : R → ℕ) (refusal : ℕ → R) (right : (n : �
   refused-or n b y q = either-way b (refusal n) y (refused n) q
 
 pub refusals : Refusals
-unfolding opened openedHead piece accepted interrupt stopped reached close agreed commit givenUp
+unfolding formed dropped opened openedHead piece accepted interrupt stopped reached close agreed commit givenUp
 refusals = record {
+  forming = λ z h id.
+      let or = refused-or (λ r. r .number) (λ n. Contract.answered n h) (λ n. refl) (λ r. r .number ≡ 0 → ⊥) in
+      or _ _ _ (or _ _ _ (or _ _ _ (or _ _ _ (or _ _ _ (λ n. absurd (n refl))))));
+  dropping = λ z h id.
+      let or = refused-or (λ r. r .number) (λ n. Contract.answered n h) (λ n. refl) (λ r. r .number ≡ 0 → ⊥) in
+      or _ _ _ (or _ _ _ (or _ _ _ (or _ _ _ (λ n. absurd (n refl)))));
   opening = λ z h bytes budget p room.
       let or = refused-or (λ r. r .number) (λ n. answered n 0 h) (λ n. refl) (λ r. r .number ≡ 0 → ⊥) in
       or _ _ _ (or _ _ _ (or _ _ _ (or _ _ _ (or _ _ _ (or _ _ _ (λ n. absurd (n refl)))))));

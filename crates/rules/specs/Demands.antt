@@ -15,6 +15,8 @@ use Rattle.sia.specs.Empty.{noInstruction}
 use Rattle.sia.specs.Decode.{decode}
 use Rattle.host.specs.With.{withWritten, withFailed}
 use Rattle.host.specs.Order.{inOrder}
+use Rattle.host.specs.Calls.{freshed, formed, dropped}
+use Rattle.host.specs.Calls as Contract
 use Rattle.rules.specs.View.{Setting, Turn, settingOf, turnOf, withRun, areasRight}
 use Rattle.rules.specs.Inputs.{need, inputsOf, argsOf}
 use Rattle.rules.specs.Plan.{sourceOf, cost, newSize, judged}
@@ -32,6 +34,8 @@ use Rattle.host.specs.declared.Host.{Host}
 
 -- "Every refusal but 14 leaves host, numbers and areas unchanged; any other number it answers is 0."
 pub record Refusals : Type 0 where
+  pub forming : (z : ℕ) (h : Host) (id : List ℕ) → let r = formed z h id in (r .number ≡ 0 → ⊥) → r ≡ Contract.answered (r .number) h
+  pub dropping : (z : ℕ) (h : Host) (id : List ℕ) → let r = dropped z h id in (r .number ≡ 0 → ⊥) → r ≡ Contract.answered (r .number) h
   pub opening : (z : ℕ) (h : Host) (bytes : List ℕ) (budget : ℕ) (p : Prices) (room : ℕ) → let r = opened z h bytes budget p room in
       (r .number ≡ 0 → ⊥) → r ≡ answered (r .number) 0 h
   pub piece : (z : ℕ) (disk : List ℕ) (h : Host) (stage input output bytes : List ℕ) → let r = piece z disk h stage input output bytes in
@@ -108,6 +112,8 @@ pub record Sound (z : ℕ) (h : Host) : Type 0 where
 
 -- every call answers 1
 pub record Refused (z : ℕ) (h : Host) : Type 0 where
+  pub forming : (id : List ℕ) → formed z h id .number ≡ 1
+  pub dropping : (id : List ℕ) → dropped z h id .number ≡ 1
   pub opening : (bytes : List ℕ) (budget : ℕ) (p : Prices) (room : ℕ) → opened z h bytes budget p room .number ≡ 1
   pub pieces : (disk stage input output bytes : List ℕ) → piece z disk h stage input output bytes .number ≡ 1
   pub interrupts : (disk output : List ℕ) → interrupt z disk h output .number ≡ 1
@@ -116,6 +122,11 @@ pub record Refused (z : ℕ) (h : Host) : Type 0 where
 
 -- Every call leaves a host in order that is in order, and answers 1 where it is not. The bytes of a head are bytes.
 pub record Ordered : Type 0 where
+  pub making : (z disk stage : ℕ) → freshed z disk stage .number ≡ 0 → inOrder z (freshed z disk stage .host) ≡ true
+  -- "Making a host with bad lengths answers 2 and a host with no slots, which every later call refuses with 1."
+  pub unmade : (z disk stage : ℕ) → (freshed z disk stage .number ≡ 0 → ⊥) → (freshed z disk stage .number ≡ 2) × (inOrder z (freshed z disk stage .host) ≡ false)
+  pub forming : (z : ℕ) (h : Host) (id : List ℕ) → inOrder z h ≡ true → inOrder z (formed z h id .host) ≡ true
+  pub dropping : (z : ℕ) (h : Host) (id : List ℕ) → inOrder z h ≡ true → inOrder z (dropped z h id .host) ≡ true
   pub opening : (z : ℕ) (h : Host) (bytes : List ℕ) (budget : ℕ) (p : Prices) (room : ℕ) → Sound z h → Bytes bytes → inOrder z h ≡ true
       → inOrder z (opened z h bytes budget p room .host) ≡ true
   pub pieces : (z : ℕ) (disk : List ℕ) (h : Host) (stage input output bytes : List ℕ) → Sound z h → inOrder z h ≡ true

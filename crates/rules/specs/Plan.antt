@@ -18,7 +18,6 @@ use Rattle.sia.specs.declared.Instruction.{Instruction}
 use Rattle.sia.specs.declared.Op.{Op}
 use Rattle.sia.specs.declared.Op.the-variants.{Read, ReadSector, Write, Copy, Swap, Truncate, Unknown}
 use Rattle.host.specs.declared.Prices.{Prices}
-use Rattle.host.specs.declared.Terms.{Terms}
 use Rattle.host.specs.declared.Progress.{Progress}
 use Rattle.rules.specs.declared.Spot.{Spot}
 

@@ -13,7 +13,7 @@ use Rattle.area.proofs.Laws.Pick.{by, picks, skips, never, both-left, both-righ
 use Rattle.sia.specs.Names.{opOf}
 use Rattle.host.specs.Places.{whose}
 use Rattle.host.specs.Order.{stagedInOrder, parentInOrder, termsInOrder, progressInOrder}
-use Rattle.host.specs.Facts.{Staged, Orderly}
+use Rattle.host.specs.Facts.{Staged}
 use Rattle.rules.specs.View.{Setting, Turn, readOnlyMode}
 use Rattle.rules.specs.Inputs.{Args, argsOf, inputsOf}
 use Rattle.rules.specs.Plan.{changes, cost, newSize, judged}

@@ -33,14 +33,14 @@ module _ (q : ℕ → Bool) where
       (λ e. ap (λ (l : List ℕ). apart eqb l) (picks (q x) (x ∷ those q xs) (those q xs) e) ∙ both-join _ _ (ap not (f e)) h)
       (λ e. ap (λ (l : List ℕ). apart eqb l) (skips (q x) (x ∷ those q xs) (those q xs) e) ∙ h)
 
-pub tail-apart : (x : ℕ) (xs : List ℕ) → apart eqb (x ∷ xs) ≡ true → (some (eqb x) xs ≡ false) × (apart eqb xs ≡ true)
+pub tail-apart : {A : Type 0} (e : A → A → Bool) (x : A) (xs : List A) → apart e (x ∷ xs) ≡ true → (some (e x) xs ≡ false) × (apart e xs ≡ true)
 unfolding apart
-tail-apart x xs h = (not-true _ (both-left _ _ h), both-right _ _ h)
+tail-apart e x xs h = (not-true _ (both-left _ _ h), both-right _ _ h)
 
 apart-those : (q : ℕ → Bool) (l : List ℕ) → apart eqb l ≡ true → apart eqb (those q l) ≡ true
 unfolding those
 apart-those q [] h = h
-apart-those q (x ∷ xs) h = let t = tail-apart x xs h in apart-join q x xs (λ e. some-those q x xs (t .0)) (apart-those q xs (t .1))
+apart-those q (x ∷ xs) h = let t = tail-apart eqb x xs h in apart-join q x xs (λ e. some-those q x xs (t .0)) (apart-those q xs (t .1))
 
 other : ℕ → ℕ → Bool
 other n x = not (eqb x n)
@@ -55,7 +55,7 @@ those-length : (n : ℕ) (l : List ℕ) → apart eqb l ≡ true → length l �
 unfolding those other
 those-length n [] h = omega arith
 those-length n (x ∷ xs) h =
-    let t = tail-apart x xs h in
+    let t = tail-apart eqb x xs h in
     by (eqb x n)
     (λ e. let q = eqb-true x n e in
     let k : those (other n) xs ≡ xs = those-all n xs (subst (λ (y : ℕ). some (eqb y) xs ≡ false) q (t .0)) in

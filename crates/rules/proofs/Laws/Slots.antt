@@ -47,32 +47,32 @@ unfolding every
 every-aft p [] m h = h
 every-aft p (x ∷ xs) m h = every-aft p xs m (both-right _ _ h)
 
-some-and : (x : ℕ) (l m : List ℕ) → some (eqb x) l ≡ false → some (eqb x) m ≡ false → some (eqb x) (l ++ m) ≡ false
+pub some-and : {A : Type 0} (p : A → Bool) (l m : List A) → some p l ≡ false → some p m ≡ false → some p (l ++ m) ≡ false
 unfolding some
-some-and x [] m h k = k
-some-and x (y ∷ ys) m h k = either-join _ _ (neither _ _ h .0) (some-and x ys m (neither _ _ h .1) k)
+some-and p [] m h k = k
+some-and p (y ∷ ys) m h k = either-join _ _ (neither _ _ h .0) (some-and p ys m (neither _ _ h .1) k)
 
-some-fore : (x : ℕ) (l m : List ℕ) → some (eqb x) (l ++ m) ≡ false → some (eqb x) l ≡ false
+pub some-fore : {A : Type 0} (p : A → Bool) (l m : List A) → some p (l ++ m) ≡ false → some p l ≡ false
 unfolding some
-some-fore x [] m h = refl
-some-fore x (y ∷ ys) m h = either-join _ _ (neither _ _ h .0) (some-fore x ys m (neither _ _ h .1))
+some-fore p [] m h = refl
+some-fore p (y ∷ ys) m h = either-join _ _ (neither _ _ h .0) (some-fore p ys m (neither _ _ h .1))
 
-some-aft : (x : ℕ) (l m : List ℕ) → some (eqb x) (l ++ m) ≡ false → some (eqb x) m ≡ false
+pub some-aft : {A : Type 0} (p : A → Bool) (l m : List A) → some p (l ++ m) ≡ false → some p m ≡ false
 unfolding some
-some-aft x [] m h = h
-some-aft x (y ∷ ys) m h = some-aft x ys m (neither _ _ h .1)
+some-aft p [] m h = h
+some-aft p (y ∷ ys) m h = some-aft p ys m (neither _ _ h .1)
 
-join-apart : (x : ℕ) (xs : List ℕ) → some (eqb x) xs ≡ false → apart eqb xs ≡ true → apart eqb (x ∷ xs) ≡ true
+pub join-apart : {A : Type 0} (e : A → A → Bool) (x : A) (xs : List A) → some (e x) xs ≡ false → apart e xs ≡ true → apart e (x ∷ xs) ≡ true
 unfolding apart
-join-apart x xs h k = both-join _ _ (ap not h) k
+join-apart e x xs h k = both-join _ _ (ap not h) k
 
 -- a part may be left out
-pub apart-out : (l r m : List ℕ) → apart eqb (l ++ (r ++ m)) ≡ true → apart eqb (l ++ m) ≡ true
-apart-out [] [] m h = h
-apart-out [] (y ∷ r) m h = apart-out [] r m (tail-apart y (r ++ m) h .1)
-apart-out (x ∷ l) r m h =
-    let t = tail-apart x (l ++ (r ++ m)) h in
-    join-apart x (l ++ m) (some-and x l m (some-fore x l (r ++ m) (t .0)) (some-aft x r m (some-aft x l (r ++ m) (t .0)))) (apart-out l r m (t .1))
+pub apart-out : {A : Type 0} (e : A → A → Bool) (l r m : List A) → apart e (l ++ (r ++ m)) ≡ true → apart e (l ++ m) ≡ true
+apart-out e [] [] m h = h
+apart-out e [] (y ∷ r) m h = apart-out e [] r m (tail-apart e y (r ++ m) h .1)
+apart-out e (x ∷ l) r m h =
+    let t = tail-apart e x (l ++ (r ++ m)) h in
+    join-apart e x (l ++ m) (some-and (e x) l m (some-fore (e x) l (r ++ m) (t .0)) (some-aft (e x) r m (some-aft (e x) l (r ++ m) (t .0)))) (apart-out e l r m (t .1))
 
 -- x is none of those that are not in a list which has it
 unused-head : (x : ℕ) (l n : List ℕ) → every (unused (x ∷ l)) n ≡ true → (some (eqb x) n ≡ false) × (every (unused l) n ≡ true)
@@ -87,12 +87,12 @@ unused-head x l (y ∷ ys) h =
 pub apart-in : (l n m : List ℕ) → apart eqb (l ++ m) ≡ true → apart eqb n ≡ true → every (unused (l ++ m)) n ≡ true → apart eqb (l ++ (n ++ m)) ≡ true
 apart-in [] [] m h a u = h
 apart-in [] (y ∷ n) m h a u =
-    let t = tail-apart y n a in
-    join-apart y (n ++ m) (some-and y n m (t .0) (unused-first y m n u)) (apart-in [] n m h (t .1) (unused-rest y m n u))
+    let t = tail-apart eqb y n a in
+    join-apart eqb y (n ++ m) (some-and (eqb y) n m (t .0) (unused-first y m n u)) (apart-in [] n m h (t .1) (unused-rest y m n u))
 apart-in (x ∷ l) n m h a u =
-    let t = tail-apart x (l ++ m) h in
+    let t = tail-apart eqb x (l ++ m) h in
     let r = unused-head x (l ++ m) n u in
-    join-apart x (l ++ (n ++ m)) (some-and x l (n ++ m) (some-fore x l m (t .0)) (some-and x n m (r .0) (some-aft x l m (t .0)))) (apart-in l n m (t .1) a (r .1))
+    join-apart eqb x (l ++ (n ++ m)) (some-and (eqb x) l (n ++ m) (some-fore (eqb x) l m (t .0)) (some-and (eqb x) n m (r .0) (some-aft (eqb x) l m (t .0)))) (apart-in l n m (t .1) a (r .1))
 
 -- ---- new slots
 

@@ -21,13 +21,9 @@ use Rattle.host.specs.Order.{placeInOrder, twins}
 use Rattle.host.specs.Calls.{replaced}
 use Rattle.rules.specs.Commit.{cut}
 use Rattle.rules.specs.Demands.{Shaped}
+use Rattle.rules.proofs.Laws.Pigeons.{tail-apart}
 use Rattle.rules.proofs.Laws.Sizes.{has-id, has-held, has-same, whose-here, whose-on, others-kept, others-left, taken-length, committed-bytes}
 use Rattle.host.specs.declared.Place.{Place}
-
--- the first of two twins
-tail-twins : (p : Place) (ps : List Place) → apart twins (p ∷ ps) ≡ true → (some (twins p) ps ≡ false) × (apart twins ps ≡ true)
-unfolding apart
-tail-twins p ps h = (not-true _ (both-left _ _ h), both-right _ _ h)
 
 are-twins : (id : List ℕ) (p q : Place) → hasId id p ≡ true → hasId id q ≡ true → twins p q ≡ true
 unfolding twins
@@ -91,7 +87,7 @@ every-cons p x xs h k = both-join _ _ h k
 pub split : (id : List ℕ) (ps : List Place) → apart twins ps ≡ true → whose id ps .held ≡ true → Split id ps
 split id [] a h = never (sym h ∙ no-held id)
 split id (p ∷ ps) a h =
-    let q = tail-twins p ps a in
+    let q = tail-apart twins p ps a in
     by (hasId id p)
     (λ e. record {
       before = [];

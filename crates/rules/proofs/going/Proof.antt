@@ -5,8 +5,6 @@ use Rattle.area.proofs.Laws.Pick.{yes, no}
 use Rattle.rules.specs.Run.{going}
 use Rattle.rules.proofs.going.Statement.{statement}
 use Rattle.rules.proofs.going.Tie as tie
-use Rattle.rules.proofs.going.Reads as reads
-use Rattle.rules.proofs.going.Lts as lts
 
 returns : tie.Need-returns
 unfolding going
