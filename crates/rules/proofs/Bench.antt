@@ -52,7 +52,7 @@ open-host = 0
 
 -- opens the definitions of rules
 unfoldable open-rules : ℕ
-unfolding RulesView.settingOf RulesView.turnOf RulesView.withRun RulesView.diskRight RulesView.areasRight RulesView.readOnlyMode RulesView.parent RulesView.freeCopies RulesView.sector RulesView.spotOf RulesView.parentSpots RulesView.committedSpots RulesView.allSpots RulesView.whole RulesRoots.contractRoot RulesRoots.rangeCount RulesInputs.known RulesInputs.operandsOf RulesInputs.illFormed RulesInputs.pastEnd RulesInputs.largest RulesInputs.need RulesInputs.inputsOf RulesInputs.isTold RulesInputs.told RulesInputs.isNumber RulesInputs.isKey RulesInputs.isData RulesInputs.wellFormed RulesInputs.readArgs RulesInputs.spanArgs RulesInputs.argsOf RulesPlan.changes RulesPlan.isThere RulesPlan.spots RulesPlan.contractSource RulesPlan.unlessNone RulesPlan.sectorSource RulesPlan.sourceOf RulesPlan.badSpan RulesPlan.badSize RulesPlan.badSpans RulesPlan.reads RulesPlan.badProof RulesPlan.time RulesPlan.own RulesPlan.cost RulesPlan.touched RulesPlan.wanted RulesPlan.newSize RulesPlan.proofCount RulesPlan.outputCount RulesPlan.recordCount RulesPlan.judgedSource RulesPlan.judgedInputs RulesPlan.judged RulesEffect.newCopy RulesEffect.sectorAt RulesEffect.copied RulesEffect.spanRead RulesEffect.laid RulesEffect.spanWritten RulesEffect.resized RulesEffect.effect RulesRecord.startingPair RulesRecord.runningPair RulesRecord.recordBytes RulesRecord.failureBytes RulesRecord.outputOf RulesRecord.successBytes RulesRun.failedProgress RulesRun.failing RulesRun.ranProgress RulesRun.succeeding RulesRun.stepped RulesRun.current RulesRun.step RulesRun.going RulesRun.ready RulesRun.runs RulesRun.run RulesCalls.roomRight RulesCalls.begun RulesCalls.openedHead RulesCalls.opened RulesCalls.accepted RulesCalls.inputRight RulesCalls.outputRight RulesCalls.piece RulesBench.prices RulesBench.id RulesBench.operand RulesBench.instruction RulesBench.program RulesBench.host RulesBench.sectorHost RulesBench.start RulesBench.given RulesBench.ran RulesBench.failed RulesBench.records RulesBench.counts RulesBench.number RulesBench.contracts RulesBench.grow RulesBench.alone RulesBench.growWrite RulesBench.growWriteData RulesBench.lateGrow RulesBench.lateGrowData RulesBench.onFour RulesBench.onFourData RulesBench.readSpan RulesBench.readSpanData RulesBench.aloneRow RulesBench.budgetRow RulesBench.needRow RulesBench.lateRow RulesBench.copyRow RulesBench.swapRow RulesBench.spanRow RulesBench.sizeRow RulesBench.proofRow RulesBench.idRow RulesBench.table
+unfolding RulesView.settingOf RulesView.turnOf RulesView.withRun RulesView.diskRight RulesView.areasRight RulesView.readOnlyMode RulesView.parent RulesView.freeCopies RulesView.sector RulesView.spotOf RulesView.parentSpots RulesView.committedSpots RulesView.allSpots RulesView.whole RulesRoots.contractRoot RulesRoots.rangeCount RulesInputs.known RulesInputs.operandsOf RulesInputs.illFormed RulesInputs.pastEnd RulesInputs.largest RulesInputs.need RulesInputs.inputsOf RulesInputs.isTold RulesInputs.told RulesInputs.isNumber RulesInputs.isKey RulesInputs.isData RulesInputs.wellFormed RulesInputs.readArgs RulesInputs.spanArgs RulesInputs.argsOf RulesPlan.changes RulesPlan.isThere RulesPlan.spots RulesPlan.contractSource RulesPlan.unlessNone RulesPlan.sectorSource RulesPlan.sourceOf RulesPlan.badSpan RulesPlan.badSize RulesPlan.badSpans RulesPlan.reads RulesPlan.badProof RulesPlan.time RulesPlan.own RulesPlan.cost RulesPlan.touched RulesPlan.wanted RulesPlan.newSize RulesPlan.proofCount RulesPlan.outputCount RulesPlan.recordCount RulesPlan.judgedSource RulesPlan.judgedInputs RulesPlan.judged RulesEffect.newCopy RulesEffect.sectorAt RulesEffect.copied RulesEffect.spanRead RulesEffect.laid RulesEffect.spanWritten RulesEffect.resized RulesEffect.effect RulesRecord.pairOf RulesRecord.startingPair RulesRecord.runningPair RulesRecord.recordBytes RulesRecord.failureBytes RulesRecord.outputOf RulesRecord.successBytes RulesRun.failedProgress RulesRun.failing RulesRun.ranProgress RulesRun.succeeding RulesRun.stepped RulesRun.current RulesRun.step RulesRun.going RulesRun.ready RulesRun.runs RulesRun.run RulesCalls.roomRight RulesCalls.begun RulesCalls.openedHead RulesCalls.opened RulesCalls.accepted RulesCalls.inputRight RulesCalls.outputRight RulesCalls.piece RulesBench.prices RulesBench.id RulesBench.operand RulesBench.instruction RulesBench.program RulesBench.host RulesBench.sectorHost RulesBench.start RulesBench.given RulesBench.ran RulesBench.failed RulesBench.records RulesBench.counts RulesBench.number RulesBench.contracts RulesBench.grow RulesBench.alone RulesBench.growWrite RulesBench.growWriteData RulesBench.lateGrow RulesBench.lateGrowData RulesBench.onFour RulesBench.onFourData RulesBench.readSpan RulesBench.readSpanData RulesBench.aloneRow RulesBench.budgetRow RulesBench.needRow RulesBench.lateRow RulesBench.copyRow RulesBench.swapRow RulesBench.spanRow RulesBench.sizeRow RulesBench.proofRow RulesBench.idRow RulesBench.table
 open-rules = 0
 
 -- Every (P) line of document 01's figures, as one statement.

@@ -2,11 +2,11 @@
 use mathlib.Core.Path.{_≡_, refl, sym, ap, _∙_, subst}
 use mathlib.Core.Bool.{true, false, not}
 use mathlib.Core.List.{List, [], _∷_, _++_, append-assoc}
-use Prim.Native.Nat.{ℕ, _+_, _-_, _*_, _/_, _%_, _≤_, _<_}
+use Prim.Native.Nat.{ℕ, _+_, _-_, _*_, _/_, _%_, _≤_, _<_, min}
 use native.Mathlib.Nat.{add-mul, le-of-mul-le-mul-right}
 use native.Mathlib.Omega.{arith}
-use lib.ListN.{length, take, length-append}
-use lib.Seq.{take-at}
+use lib.ListN.{length, take, getD, length-take, length-append, List·getD-append}
+use lib.Seq.{take-at, getD-take}
 use lib.Dec.{ltb, eqb}
 use borrow.Author.Tests.{leb-true, le-leb, eq-eqb}
 use Rattle.area.specs.Area.{same, zeros}
@@ -25,10 +25,20 @@ use Rattle.rules.specs.Demands.{Shaped, Sound}
 use Rattle.rules.proofs.Laws.Effects.{whole-sectors}
 use Rattle.rules.proofs.Laws.Sizes.{has-held, has-same, keeps-not, place-size, others-left}
 use Rattle.rules.proofs.Laws.Slots.{every-and, every-fore, every-aft, apart-out, apart-in, free-enough, Fresh, new-slots}
-use Rattle.rules.proofs.Laws.Split.{apart-alike, Split, split, every-first, every-rest, every-cons, replaced-none, replaced-split, taken-split, others-append, others-none, cut-rest, cut-prefix, cut-most, shaped-fore, shaped-aft, none-of}
+use Rattle.rules.proofs.Laws.Split.{apart-alike, Split, split, every-first, every-rest, every-cons, replaced-none, replaced-split, taken-split, others-append, others-none, cut-held, cut-within, cut-rest, cut-prefix, cut-most, shaped-fore, shaped-aft, none-of}
 use Rattle.rules.proofs.Laws.Taking.{order-good}
 use Rattle.host.specs.declared.Place.{Place}
 use Rattle.host.specs.declared.Host.{Host}
+
+-- the slots of the parent after a commit
+pub record Final (z disk size : ℕ) (id : List ℕ) (ps : List Place) (s : Split id ps) : Type 0 where
+  pub slots : List ℕ
+  pub is : finalSlots z disk ps (s .it) size ≡ slots
+  pub long : length slots ≡ size / z
+  pub own : apart eqb (taken z (s .before) ++ (slots ++ taken z (s .behind))) ≡ true
+  pub below : every (λ x. ltb x disk) (taken z (s .before) ++ (slots ++ taken z (s .behind))) ≡ true
+  pub kept : (j : ℕ) → j < size / z → j < s .it .size / z → getD slots j 0 ≡ getD (s .it .slots) j 0
+  pub place : committed z (finalPlace (s .it) size slots) ≡ slots
 
 module _ (z disk size : ℕ) (id : List ℕ) (ps : List Place) (s : Split id ps) (pos : 0 < z) (few : disk ≤ 64) (o : placesInOrder z disk ps ≡ true) (shape : Shaped ps)
     (whole : size % z ≡ 0) (fits : size + others id ps ≤ disk * z) where
@@ -170,6 +180,23 @@ module _ (z disk size : ℕ) (id : List ℕ) (ps : List Place) (s : Split id ps)
       ap (λ (l : List ℕ). committed z (cut size (s .it)) ++ newSlots disk l (size / z - length (committed z (cut size (s .it)))))
       (ap (λ (i : List ℕ). taken z (replaced i (cut size (s .it)) ps)) e ∙ ap (taken z) (replaced-split id (cut size (s .it)) ps s) ∙ taken-split z (s .before) (cut size (s .it)) (s .behind))
 
+  length-old : length (old .slots) ≡ 64
+  unfolding old
+  length-old = shaped-aft (s .before) _ shape-split .0
+
+  kept-slot : (j : ℕ) → j < size / z → j < old .size / z → getD (keep ++ new) j 0 ≡ getD (old .slots) j 0
+  unfolding keep
+  kept-slot j lo hi =
+      let e = cut-held z size old held in
+      let n = cut-within z size (old .size) j pos lo hi in
+      let small = place-size z old old-order held .1 in
+      let long : j < length (take (min (old .size) size / z) (old .slots)) = omega (arith, length-take (min (old .size) size / z) (old .slots), length-old, n, small) in
+      List·getD-append (committed z (cut size old)) new 0 j (omega (arith, ap length e)) ∙ ap (λ (l : List ℕ). getD l j 0) e ∙ getD-take (min (old .size) size / z) (old .slots) j 0 n
+
+  pub final : Final z disk size id ps s
+  unfolding old place n
+  final = record { slots = keep ++ new; is = final-is; long = length-final; own = apart-final; below = below-final; kept = kept-slot; place = committed-place }
+
 -- ---- committing
 
 commit-places : (z : ℕ) (disk : List ℕ) (h : Host) (stage : List ℕ) → let old = whose (h .program .terms .head .contract) (h .places) in
@@ -184,15 +211,15 @@ idle-order z h ps o q =
     let b = both-right _ _ o in
     both-join _ _ (both-left _ _ o) (both-join _ _ (both-left _ _ b) (both-join _ _ q (picks (not false) true _ refl)))
 
-order-places : (z : ℕ) (h : Host) → inOrder z h ≡ true → (placesInOrder z (h .disk) (h .places) ≡ true) × (h .disk ≤ 64)
+pub order-places : (z : ℕ) (h : Host) → inOrder z h ≡ true → (placesInOrder z (h .disk) (h .places) ≡ true) × (h .disk ≤ 64)
 unfolding inOrder lent
 order-places z h o = (both-left _ _ (both-right _ _ (both-right _ _ o)), leb-true _ _ (both-right _ _ (both-left _ _ o)))
 
-place-twins : (z disk : ℕ) (ps : List Place) → placesInOrder z disk ps ≡ true → apart twins ps ≡ true
+pub place-twins : (z disk : ℕ) (ps : List Place) → placesInOrder z disk ps ≡ true → apart twins ps ≡ true
 unfolding placesInOrder
 place-twins z disk ps o = both-left _ _ (both-right _ _ o)
 
-final-place : (z disk size : ℕ) (id : List ℕ) (ps : List Place) (it : Place) (l : List ℕ) → whose id ps ≡ it → finalSlots z disk ps it size ≡ l
+pub final-place : (z disk size : ℕ) (id : List ℕ) (ps : List Place) (it : Place) (l : List ℕ) → whose id ps ≡ it → finalSlots z disk ps it size ≡ l
     → finalPlace (whose id ps) size (finalSlots z disk ps (whose id ps) size) ≡ finalPlace it size l
 final-place z disk size id ps it l e f =
     ap (λ (x : Place). finalPlace x size (finalSlots z disk ps x size)) e ∙ ap (λ (m : List ℕ). finalPlace it size m) f

@@ -25,6 +25,7 @@ use Rattle.host.proofs.Laws.Order.{contracts-facts, facts-contracts}
 use Rattle.rules.proofs.Laws.Pigeons.{tail-apart}
 use Rattle.rules.proofs.Laws.Slots.{every-and, every-fore, every-aft, some-and, some-fore, some-aft, join-apart, apart-out}
 use Rattle.rules.proofs.Laws.Split.{split, every-rest, every-cons, replaced-split, taken-split, none-of}
+use Rattle.rules.proofs.Laws.Others.{none-bare}
 use Rattle.rules.proofs.Laws.Ways.{either-way}
 use Rattle.host.specs.declared.Place.{Place}
 use Rattle.host.specs.declared.Host.{Host}
@@ -71,10 +72,6 @@ stand z disk l y x m s h =
 none-order : (z : ℕ) → placeInOrder z noPlace ≡ true
 unfolding placeInOrder noPlace pick
 none-order z = refl
-
-none-bare : (z : ℕ) → committed z noPlace ≡ []
-unfolding committed noPlace pick
-none-bare z = refl
 
 none-behind : (m : List Place) → some (twins noPlace) m ≡ false
 unfolding some twins noPlace pick

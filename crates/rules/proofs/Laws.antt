@@ -14,3 +14,5 @@ pub mod Sizes
 pub mod Slots
 pub mod Split
 pub mod Ways
+pub mod Filling
+pub mod Others

@@ -9,4 +9,5 @@ pub mod Records
 pub mod Ordering
 pub mod Opening
 pub mod Committing
+pub mod Commits
 pub mod Nothing

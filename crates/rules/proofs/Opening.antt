@@ -1,8 +1,8 @@
 -- An opening that is answered with 0 leaves a host that takes pieces: down the chain of refusals, none of which applied. Assumes nothing.
 use mathlib.Core.Path.{_≡_, refl, sym, ap, _∙_, subst}
-use mathlib.Core.Bool.{Bool, true, false, not}
+use mathlib.Core.Bool.{true, not}
 use mathlib.Core.List.{List}
-use Prim.Native.Nat.{ℕ, suc}
+use Prim.Native.Nat.{ℕ}
 use native.Mathlib.Omega.{arith}
 use lib.ListN.{length}
 use lib.Dec.{eqb}
@@ -17,17 +17,12 @@ use Rattle.host.specs.Order.{inOrder}
 use Rattle.rules.specs.View.{diskRight, areasRight}
 use Rattle.rules.specs.Calls.{answered, begun, openedHead, opened}
 use Rattle.rules.specs.Demands.{Sound, Opened, Openings}
+use Rattle.rules.proofs.Laws.Ways.{passes}
 use Rattle.rules.proofs.Ordering.{ordered}
 use Rattle.sia.specs.declared.Head.{Head}
 use Rattle.host.specs.declared.Prices.{Prices}
 use Rattle.host.specs.declared.Host.{Host}
 use Rattle.rules.specs.declared.Answer.{Answer}
-
--- a refusal that did not apply
-passes : (b : Bool) (n : ℕ) (h : Host) (r : Answer) → pick b (answered (suc n) 0 h) r .number ≡ 0 → (b ≡ false) × (r .number ≡ 0) × (pick b (answered (suc n) 0 h) r ≡ r)
-unfolding pick
-passes true n h r e = absurd (omega arith)
-passes false n h r e = (refl, e, refl)
 
 fault-passes : (fault : ℕ) (h : Host) (r : Answer) → pick (not (eqb fault 0)) (answered fault 0 h) r .number ≡ 0
     → (r .number ≡ 0) × (pick (not (eqb fault 0)) (answered fault 0 h) r ≡ r)
@@ -41,12 +36,12 @@ opens : (z : ℕ) (h : Host) (fault : ℕ) (hd : Head) (budget : ℕ) (p : Price
     → (inOrder z h ≡ true) × (openedHead z h fault hd budget p room ≡ answered 0 (p .init) (withProgram h (begun h hd budget p room)))
 unfolding openedHead
 opens z h fault hd budget p room a =
-    let c1 = passes _ 0 h _ a in
-    let c2 = passes _ 1 h _ (c1 .1) in
-    let c3 = passes _ 2 h _ (c2 .1) in
+    let c1 = passes (λ r. r .number) _ (answered 1 0 h) _ (λ n. absurd (omega arith)) a in
+    let c2 = passes (λ r. r .number) _ (answered 2 0 h) _ (λ n. absurd (omega arith)) (c1 .1) in
+    let c3 = passes (λ r. r .number) _ (answered 3 0 h) _ (λ n. absurd (omega arith)) (c2 .1) in
     let c9 = fault-passes fault h _ (c3 .1) in
-    let c7 = passes _ 6 h _ (c9 .0) in
-    let c11 = passes _ 10 h _ (c7 .1) in
+    let c7 = passes (λ r. r .number) _ (answered 7 0 h) _ (λ n. absurd (omega arith)) (c9 .0) in
+    let c11 = passes (λ r. r .number) _ (answered 11 0 h) _ (λ n. absurd (omega arith)) (c7 .1) in
     (not-false _ (c1 .0), c1 .2 ∙ c2 .2 ∙ c3 .2 ∙ c9 .1 ∙ c7 .2 ∙ c11 .2)
 
 begun-opened : (z : ℕ) (h : Host) (hd : Head) (budget : ℕ) (p : Prices) (room : ℕ) (disk stage input output : List ℕ) → Sound z h

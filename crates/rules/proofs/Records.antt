@@ -6,12 +6,11 @@ use mathlib.Core.List.{List, _∷_, _++_}
 use Prim.Native.Nat.{ℕ, zero, suc, _+_, _*_, _≤_}
 use native.Mathlib.Omega.{arith}
 use lib.ListN.{length, take, length-append}
-use borrow.Author.Tests.{leb-true, eqb-true}
 use Rattle.area.specs.Area.{put}
-use Rattle.area.proofs.Laws.Pick.{by, both-left, both-right}
+use Rattle.area.proofs.Laws.Pick.{by}
 use Rattle.area.proofs.Laws.Puts.{put-nil, put-append}
-use Rattle.host.specs.Order.{lent, placesInOrder, inOrder}
-use Rattle.rules.specs.View.{Setting, Turn, settingOf, turnOf, diskRight, areasRight}
+use Rattle.host.specs.Order.{lent}
+use Rattle.rules.specs.View.{Setting, Turn, settingOf, turnOf}
 use Rattle.rules.specs.Inputs.{inputsOf}
 use Rattle.rules.specs.Run.{current, step, going, ready, runs, run}
 use Rattle.rules.specs.Calls.{Pieced}
@@ -21,7 +20,7 @@ use Rattle.rules.proofs.Laws.Steps.{runs-zero, runs-go, runs-stop, read
 use Rattle.rules.proofs.Laws.Trails.{stepped-output, trail-zero, trail-go, trail-stop, firsts, counted}
 use Rattle.rules.proofs.Laws.Kept.{stepped-good}
 use Rattle.rules.proofs.Laws.Areas.{stepped-alike}
-use Rattle.rules.proofs.Laws.Taking.{order-lent, order-good}
+use Rattle.rules.proofs.Laws.Taking.{order-good, order-solid, areas-stage}
 use Rattle.rules.proofs.Laws.Lengths.{stepped-written}
 use Rattle.rules.proofs.Cutting.{cut}
 use Rattle.host.specs.declared.Host.{Host}
@@ -62,26 +61,6 @@ runs-bytes z s a k (suc n) t sectors solid g e =
     ap (λ (x : Turn). x .output) (runs-stop z s a k (suc n) t r)
     ∙ sym (ap (λ (l : List (List ℕ)). put (t .output) (t .progress .written) (together l)) (trail-stop z s a k (suc n) t r) ∙ put-nil (t .output) (t .progress .written)))
 
--- ---- a host in order is such a setting
-
-order-solid : (z : ℕ) (disk : List ℕ) (w : Pieced) → Taking z disk w → Solid z (settingOf (w .host) disk)
-unfolding inOrder lent placesInOrder areasRight diskRight settingOf
-order-solid z disk w t =
-    let e = t .order in
-    let b = both-right _ _ e in
-    let ps = both-left _ _ (both-right _ _ b) in
-    record {
-      lent = order-lent z (w .host) disk (t .some) (t .order);
-      one = leb-true _ _ (both-left _ _ (both-left _ _ e));
-      small = both-left _ _ ps;
-      slots = both-right _ _ (both-right _ _ (both-right _ _ ps));
-      disk = eqb-true _ _ (both-left _ _ (t .areas));
-    }
-
-taking-stage : (z : ℕ) (disk : List ℕ) (w : Pieced) → Taking z disk w → length (w .stage) ≡ w .host .stage * z
-unfolding areasRight
-taking-stage z disk w t = eqb-true _ _ (both-right _ _ (t .areas))
-
 module _ (z : ℕ) (disk : List ℕ) (h : Host) (stage input output all : List ℕ) (sectors : Sectors z) (t : Taking z disk (lentTo h stage input output))
     (none-came : h .program .came ≡ 0) (none-written : h .program .progress .written ≡ 0) (declared : length all ≡ h .program .terms .head .length) where
   after-output : (k : ℕ) → k ≤ h .program .terms .head .length → after z disk h stage input output all k .output ≡ put output 0 (together (take (met z disk h stage output all k) (wholeRun z disk h stage output all)))
@@ -89,9 +68,8 @@ module _ (z : ℕ) (disk : List ℕ) (h : Host) (stage input output all : List �
   after-output k le =
       let s = settingOf h disk in
       let u = turnOf h stage output in
-      let w : Pieced = lentTo h stage input output in
       let n = h .program .terms .head .count in
-      let b = runs-bytes z s all k n u sectors (order-solid z disk w t) (order-good z h disk (t .order) (t .live) (t .entries)) (taking-stage z disk w t) in
+      let b = runs-bytes z s all k n u sectors (order-solid z h disk stage (t .some) (t .order) (t .areas)) (order-good z h disk (t .order) (t .live) (t .entries)) (areas-stage z h disk stage (t .areas)) in
       let c = counted z s all k n u in
       let f = firsts z s all k (h .program .terms .head .length) u le in
       b ∙ ap₂ (λ (m : ℕ) (l : List (List ℕ)). put output m (together l)) none-written (sym f ∙ ap (λ (m : ℕ). take m (trail z s all (h .program .terms .head .length) n u)) c)

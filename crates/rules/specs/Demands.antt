@@ -1,27 +1,30 @@
 -- The demands as statements over the definitions. z is the sector size. Proved in proofs/: Refusals in Refusing, Failures and Tallied in
--- Failing, Nothing in Nothing, Ordered in Ordering, Cuttings in Cutting, Openings in Opening, Records in Records. Assumes nothing.
+-- Failing, Nothing in Nothing, Commits in Commits, Ordered in Ordering and Forming, Cuttings in Cutting, Openings in Opening, Records in
+-- Records; the two round trips of heads and identity on all 32 bytes in crate sia, Theorems. Assumes nothing.
 use mathlib.Core.Path.{_≡_}
 use mathlib.Core.Bool.{Bool, true, false}
 use mathlib.Core.List.{List, [], _∷_, _++_}
-use Prim.Native.Nat.{ℕ, zero, suc, _+_, _%_, _≤_, _<_, min}
+use Prim.Native.Nat.{ℕ, zero, suc, _+_, _*_, _/_, _%_, _≤_, _<_, min}
 use lib.ListN.{length, take, getD}
 use lib.Dec.{leb, eqb}
 use lib.IntN.{pos}
 use Rattle.area.specs.Pick.{pick}
-use Rattle.area.specs.Area.{put}
+use Rattle.area.specs.Area.{same, part, put}
 use Rattle.area.specs.Little.{Bytes}
 use Rattle.sia.specs.Names.{opOf}
 use Rattle.sia.specs.Empty.{noInstruction}
 use Rattle.sia.specs.Decode.{decode}
 use Rattle.host.specs.With.{withWritten, withFailed}
+use Rattle.host.specs.Empty.{none}
+use Rattle.host.specs.Places.{whose}
 use Rattle.host.specs.Order.{inOrder}
 use Rattle.host.specs.Calls.{freshed, formed, dropped}
 use Rattle.host.specs.Calls as Contract
-use Rattle.rules.specs.View.{Setting, Turn, settingOf, turnOf, withRun, areasRight}
+use Rattle.rules.specs.View.{Setting, Turn, settingOf, turnOf, withRun, areasRight, parentSpots, committedSpots, whole}
 use Rattle.rules.specs.Inputs.{need, inputsOf, argsOf}
 use Rattle.rules.specs.Plan.{sourceOf, cost, newSize, judged}
 use Rattle.rules.specs.Effect.{groundOf, effect}
-use Rattle.rules.specs.Record.{failureBytes, successBytes}
+use Rattle.rules.specs.Record.{Pair, pairOf, runningPair, failureBytes, successBytes}
 use Rattle.rules.specs.Run.{stepped, current, step, ready, run}
 use Rattle.rules.specs.Calls.{answered, opened, Pieced, pieced, piece, interrupted, interrupt, reachedAt, noPair, reached}
 use Rattle.rules.specs.Commit.{Closed, closed, close}
@@ -81,6 +84,19 @@ pub record Tallied : Type 0 where
   pub within : (z : ℕ) (s : Setting) (input : List ℕ) (k : ℕ) (t : Turn) → t .progress .tally ≤ s .terms .budget
       → run z s input k t .progress .tally ≤ s .terms .budget
 
+-- ---- hosts that code can hold
+
+-- the slots of each place are an array of 64
+abbrev pub Shaped : List Place → Type 0
+Shaped [] = Unit {0}
+Shaped (p ∷ ps) = (length (p .slots) ≡ 64) × Shaped ps
+
+-- a host whose arrays are as declared
+pub record Sound (z : ℕ) (h : Host) : Type 0 where
+  pub some : 0 < z
+  pub places : Shaped (h .places)
+  pub staged : length (h .program .progress .staged) ≡ 64
+
 -- ---- all or nothing
 
 -- the disk's bytes and the contracts are as they were
@@ -97,18 +113,32 @@ pub record Nothing : Type 0 where
   pub pieces : (z : ℕ) (disk : List ℕ) (h : Host) (stage input output bytes : List ℕ) → piece z disk h stage input output bytes .host .places ≡ h .places
   pub interrupts : (z : ℕ) (disk : List ℕ) (h : Host) (output : List ℕ) → interrupt z disk h output .host .places ≡ h .places
 
+-- the bytes of a contract's committed sectors
+unfoldable pub sectorsOf : ℕ → List ℕ → Place → List ℕ
+sectorsOf z disk p = whole z disk [] (committedSpots z p)
+
+-- what a commit leaves: the parent with the size, root and bytes that it is read with now; every other contract as it was; and each slot
+-- into which no staged position goes. "No other byte changes."
+pub record Committed (z : ℕ) (disk : List ℕ) (h : Host) (stage : List ℕ) (after : Closed) : Type 0 where
+  pub parent : pairOf z (after .disk) (whose (h .program .terms .head .contract) (after .host .places)) ≡ runningPair z (settingOf h disk) (h .program .progress) stage
+  pub sectors : sectorsOf z (after .disk) (whose (h .program .terms .head .contract) (after .host .places)) ≡ whole z disk stage (parentSpots z (settingOf h disk) (h .program .progress))
+  pub others : (id : List ℕ) → same (h .program .terms .head .contract) id ≡ false
+      → (whose id (after .host .places) ≡ whose id (h .places)) × (sectorsOf z (after .disk) (whose id (h .places)) ≡ sectorsOf z disk (whose id (h .places)))
+  pub slots : (n : ℕ) → ((at : ℕ) → at < h .program .progress .size / z → eqb (getD (h .program .progress .staged) at none) none ≡ false
+      → getD (whose (h .program .terms .head .contract) (after .host .places) .slots) at 0 ≡ n → ⊥) → part (after .disk) (n * z) z ≡ part disk (n * z) z
+  pub long : length (after .disk) ≡ length disk
+
+abbrev pub pairing : ℕ → List ℕ → Pair
+pairing size root = record { size = size; root = root }
+
+-- An agreement that is answered with 0 names the pair that the last record shows, and commits it.
+pub record Commits : Type 0 where
+  pub pair : (z : ℕ) (disk : List ℕ) (h : Host) (stage : List ℕ) (size : ℕ) (root : List ℕ) → close z disk h stage true size root .number ≡ 0
+      → pairing size root ≡ runningPair z (settingOf h disk) (h .program .progress) stage
+  pub commits : (z : ℕ) (disk : List ℕ) (h : Host) (stage : List ℕ) (size : ℕ) (root : List ℕ) → Sound z h → close z disk h stage true size root .number ≡ 0
+      → Committed z disk h stage (close z disk h stage true size root)
+
 -- ---- order
-
--- the slots of each place are an array of 64
-abbrev pub Shaped : List Place → Type 0
-Shaped [] = Unit {0}
-Shaped (p ∷ ps) = (length (p .slots) ≡ 64) × Shaped ps
-
--- a host whose arrays are as declared
-pub record Sound (z : ℕ) (h : Host) : Type 0 where
-  pub some : 0 < z
-  pub places : Shaped (h .places)
-  pub staged : length (h .program .progress .staged) ≡ 64
 
 -- every call answers 1
 pub record Refused (z : ℕ) (h : Host) : Type 0 where

@@ -14,6 +14,7 @@ use Rattle.rules.specs.Inputs.{Args}
 use Rattle.rules.specs.Plan.{Source, spots, proofCount, outputCount}
 use Rattle.rules.specs.Effect.{Staging}
 use Rattle.sia.specs.declared.Op.{Op}
+use Rattle.host.specs.declared.Place.{Place}
 use Rattle.host.specs.declared.Progress.{Progress}
 use Rattle.rules.specs.declared.Spot.{Spot}
 
@@ -22,9 +23,13 @@ pub record Pair : Type 0 where
   pub size : ℕ
   pub root : List ℕ
 
--- the parent as its committed sectors are; size 0 and root zeros in read-only mode
+-- a contract as its committed sectors are
+unfoldable pub pairOf : ℕ → List ℕ → Place → Pair
+pairOf z disk p = record { size = p .size; root = contractRoot z disk [] (committedSpots z p) }
+
+-- the parent's; size 0 and root zeros in read-only mode
 unfoldable pub startingPair : ℕ → Setting → Pair
-startingPair z s = record { size = parent s .size; root = contractRoot z (s .disk) [] (committedSpots z (parent s)) }
+startingPair z s = pairOf z (s .disk) (parent s)
 
 -- the parent as it is read now, with the stage's bytes
 unfoldable pub runningPair : ℕ → Setting → Progress → List ℕ → Pair

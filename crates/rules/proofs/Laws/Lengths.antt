@@ -22,7 +22,7 @@ use Rattle.rules.specs.Roots.{contractRoot, segments, rangeProof, rangeC
 use Rattle.rules.specs.Inputs.{Args, argsOf}
 use Rattle.rules.specs.Plan.{Source, spots, sourceOf, reads, badSpan, badSpans, badProof, newSize, proofCount, outputCount, recordCount, judgedSource, judgedInputs, judged}
 use Rattle.rules.specs.Effect.{groundOf, effect}
-use Rattle.rules.specs.Record.{Pair, startingPair, runningPair, recordBytes, failureBytes, outputOf, successBytes}
+use Rattle.rules.specs.Record.{Pair, pairOf, startingPair, runningPair, recordBytes, failureBytes, outputOf, successBytes}
 use Rattle.rules.specs.Run.{failedProgress, failing, ranProgress, succeeding, stepped}
 use Rattle.rules.specs.Demands.{recordOf, Sectors}
 use Rattle.rules.specs.Facts.{Good, Solid, valid}
@@ -152,7 +152,7 @@ unfolding recordBytes
 length-record number cost pair hashes proof count output r p o = simp (length-append, length-bytes, r, p, o) (omega arith)
 
 failure-length : (z : ℕ) (s : Setting) (n : ℕ) → length (failureBytes z s n) ≡ 72
-unfolding failureBytes startingPair
+unfolding failureBytes startingPair pairOf
 failure-length z s n = length-record n 0 _ 0 [] 0 [] (length-root z (s .disk) [] (committedSpots z (parent s))) refl refl
 
 -- a proof is asked of a read

@@ -7,7 +7,8 @@ use native.Mathlib.Nat.{zero-mul, suc-mul, div-add-mod', mod-lt, div-lt-iff-lt-m
 use native.Mathlib.Omega.{arith}
 use lib.ListN.{length, take, drop, length-take, take-append-drop}
 use lib.Seq.{take-take}
-use borrow.Author.Tests.{not-true}
+use lib.Dec.{ltb}
+use borrow.Author.Tests.{not-true, ltb-true, ltb-false}
 use Rattle.area.specs.Pick.{pick, both, either}
 use Rattle.area.specs.Area.{same}
 use Rattle.area.proofs.Laws.Pick.{by, picks, skips, never, both-left, both-right, both-join, either-left, either-right}
@@ -172,7 +173,7 @@ others-none z id (p ∷ l) h k s =
 
 -- ---- kept slots
 
-cut-held : (z n : ℕ) (p : Place) → p .held ≡ true → committed z (cut n p) ≡ take (min (p .size) n / z) (p .slots)
+pub cut-held : (z n : ℕ) (p : Place) → p .held ≡ true → committed z (cut n p) ≡ take (min (p .size) n / z) (p .slots)
 unfolding cut committed withSize
 cut-held z n p e = picks (p .held) _ [] e
 
@@ -188,6 +189,16 @@ cut-fewer z n p pos = (
   div-less z (min (p .size) n) (p .size / z) pos (omega (arith, suc-mul (p .size / z) z, div-add-mod' (p .size) z, mod-lt (p .size) pos)),
   div-less z (min (p .size) n) (n / z) pos (omega (arith, suc-mul (n / z) z, div-add-mod' n z, mod-lt n pos)),
 )
+
+-- a position below both sizes is kept
+pub cut-within : (z n m j : ℕ) → 0 < z → j < n / z → j < m / z → j < min m n / z
+cut-within z n m j pos lo hi =
+    by (ltb j (min m n / z))
+    (λ e. ltb-true j (min m n / z) e)
+    (λ e. let q : min m n < suc j * z = div-lt-iff-lt-mul {k = z} {x = min m n} {y = suc j} pos .0 (omega (arith, ltb-false j (min m n / z) e)) in
+    by (ltb m (suc j * z))
+    (λ u. absurd (let v : m / z < suc j = div-lt-iff-lt-mul {k = z} {x = m} {y = suc j} pos .1 (ltb-true m (suc j * z) u) in omega arith))
+    (λ u. absurd (let v : n / z < suc j = div-lt-iff-lt-mul {k = z} {x = n} {y = suc j} pos .1 (omega (arith, ltb-false m (suc j * z) u)) in omega arith)))
 
 pub cut-rest : ℕ → ℕ → Place → List ℕ
 cut-rest z n p = drop (min (p .size) n / z) (take (p .size / z) (p .slots))

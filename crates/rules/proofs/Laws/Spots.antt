@@ -40,7 +40,7 @@ every-at p [] i d h e = e
 every-at p (x ∷ xs) zero d h e = both-left _ _ h
 every-at p (x ∷ xs) (suc i) d h e = every-at p xs i d (both-right _ _ h) e
 
-every-get : {A : Type 0} (p : A → Bool) (l : List A) (i : ℕ) (d : A) → i < length l → every p l ≡ true → p (getD l i d) ≡ true
+pub every-get : {A : Type 0} (p : A → Bool) (l : List A) (i : ℕ) (d : A) → i < length l → every p l ≡ true → p (getD l i d) ≡ true
 unfolding every
 every-get p [] i d h e = absurd (omega arith)
 every-get p (x ∷ xs) zero d h e = both-left _ _ e
@@ -81,23 +81,24 @@ unfolding every each valid
 disk-valid s [] h = refl
 disk-valid s (x ∷ xs) h = both-join _ _ (both-left _ _ h) (disk-valid s xs (both-right _ _ h))
 
-no-place-valid : (z : ℕ) (s : Setting) → every (λ n. ltb n (s .sectors)) (committed z noPlace) ≡ true
+no-place-every : (p : ℕ → Bool) (z : ℕ) → every p (committed z noPlace) ≡ true
 unfolding committed noPlace pick every
-no-place-valid z s = refl
+no-place-every p z = refl
 
-whose-valid : (z : ℕ) (s : Setting) (id : List ℕ) (ps : List Place) → every (λ n. ltb n (s .sectors)) (taken z ps) ≡ true → every (λ n. ltb n (s .sectors)) (committed z (whose id ps)) ≡ true
+-- what holds of all slots holds of a contract's
+pub whose-every : (p : ℕ → Bool) (z : ℕ) (id : List ℕ) (ps : List Place) → every p (taken z ps) ≡ true → every p (committed z (whose id ps)) ≡ true
 unfolding taken joined whose
-whose-valid z s id [] h = no-place-valid z s
-whose-valid z s id (p ∷ ps) h =
-    by (hasId id p)
-    (λ e. ap (λ (x : Place). every (λ n. ltb n (s .sectors)) (committed z x)) (picks (hasId id p) p (whose id ps) e) ∙ every-fore _ (committed z p) _ h)
-    (λ e. ap (λ (x : Place). every (λ n. ltb n (s .sectors)) (committed z x)) (skips (hasId id p) p (whose id ps) e) ∙ whose-valid z s id ps (every-aft _ (committed z p) _ h))
+whose-every p z id [] h = no-place-every p z
+whose-every p z id (q ∷ ps) h =
+    by (hasId id q)
+    (λ e. ap (λ (x : Place). every p (committed z x)) (picks (hasId id q) q (whose id ps) e) ∙ every-fore _ (committed z q) _ h)
+    (λ e. ap (λ (x : Place). every p (committed z x)) (skips (hasId id q) q (whose id ps) e) ∙ whose-every p z id ps (every-aft _ (committed z q) _ h))
 
 has-held : (id : List ℕ) (p : Place) → hasId id p ≡ true → p .held ≡ true
 unfolding hasId
 has-held id p e = both-left _ _ e
 
-whose-nobody : (id : List ℕ) (ps : List Place) → whose id ps .held ≡ false → whose id ps .size ≡ 0
+pub whose-nobody : (id : List ℕ) (ps : List Place) → whose id ps .held ≡ false → whose id ps .size ≡ 0
 unfolding whose noPlace
 whose-nobody id [] h = refl
 whose-nobody id (p ∷ ps) h =
@@ -131,7 +132,7 @@ pick-spots false x y = refl
 
 module _ (z : ℕ) (s : Setting) (p : Progress) (solid : Solid z s) (f : Staged (s .copies) (startOf z s) (p .size / z) (p .staged)) (long : p .size / z ≤ length (p .staged)) where
   -- a position with no copy is a committed one
-  unstaged : (j : ℕ) → j < p .size / z → eqb (getD (p .staged) j none) none ≡ true → j < startOf z s
+  pub unstaged : (j : ℕ) → j < p .size / z → eqb (getD (p .staged) j none) none ≡ true → j < startOf z s
   unstaged j lt e =
       by (ltb j (startOf z s))
       (λ u. ltb-true j (startOf z s) u)
@@ -150,7 +151,7 @@ module _ (z : ℕ) (s : Setting) (p : Progress) (solid : Solid z s) (f : Staged 
       by (whose (s .terms .head .contract) (s .places) .held)
       (λ u. subst (λ (x : ℕ). ltb x (s .sectors) ≡ true) (getD-take (startOf z s) (whose (s .terms .head .contract) (s .places) .slots) j 0 lt)
       (every-at (λ n. ltb n (s .sectors)) (take (startOf z s) (whose (s .terms .head .contract) (s .places) .slots)) j 0
-      (subst (λ (l : List ℕ). every (λ n. ltb n (s .sectors)) l ≡ true) (committed-held z (whose (s .terms .head .contract) (s .places)) u) (whose-valid z s (s .terms .head .contract) (s .places) (solid .slots)))
+      (subst (λ (l : List ℕ). every (λ n. ltb n (s .sectors)) l ≡ true) (committed-held z (whose (s .terms .head .contract) (s .places)) u) (whose-every _ z (s .terms .head .contract) (s .places) (solid .slots)))
       (lt-ltb 0 (s .sectors) (solid .one))))
       (λ u. let q : startOf z s ≡ 0 = ap (λ (n : ℕ). n / z) (whose-nobody (s .terms .head .contract) (s .places) u) ∙ zero-div z in absurd (omega arith))
 
@@ -171,7 +172,7 @@ module _ (z : ℕ) (s : Setting) (p : Progress) (solid : Solid z s) (f : Staged 
       ap (λ (l : List Spot). every (valid s) l) (pick-spots _ missing _)
       ∙ every-pick (valid s) _ [] _ (none-valid s)
       (ap (λ (l : List Spot). every (valid s) l) (pick-spots _ (seen (parentSpots z s p)) _)
-      ∙ every-pick (valid s) _ (parentSpots z s p) _ parent-valid (disk-valid s (committed z (whose id (s .places))) (whose-valid z s id (s .places) (solid .slots))))
+      ∙ every-pick (valid s) _ (parentSpots z s p) _ parent-valid (disk-valid s (committed z (whose id (s .places))) (whose-every _ z id (s .places) (solid .slots))))
 
   pub source-valid : (op : Op) (key : List ℕ) → every (valid s) (spots (sourceOf z s p op key)) ≡ true
   unfolding sourceOf sectorSource allSpots spots
@@ -205,7 +206,7 @@ few-whose z id (p ∷ ps) h =
     (λ e. rw (picks (hasId id p) p (whose id ps) e) (few-committed z p (both-left _ _ h)))
     (λ e. rw (skips (hasId id p) p (whose id ps) e) (few-whose z id ps (both-right _ _ h)))
 
-length-each : (l : List ℕ) → length (each OnDisk l) ≡ length l
+pub length-each : (l : List ℕ) → length (each OnDisk l) ≡ length l
 unfolding each
 length-each [] = refl
 length-each (x ∷ xs) = ap suc (length-each xs)

@@ -6,18 +6,18 @@ use Prim.Native.Nat.{ℕ, _+_, _*_, _≤_, _<_}
 use native.Mathlib.Omega.{arith}
 use lib.ListN.{length, length-append}
 use lib.Dec.{ltb, eqb}
-use borrow.Author.Tests.{leb-true, le-leb, le-ltb, eq-eqb}
+use borrow.Author.Tests.{leb-true, le-leb, le-ltb, eq-eqb, eqb-true}
 use Rattle.area.specs.Pick.{pick, both}
 use Rattle.area.specs.Area.{put}
 use Rattle.area.proofs.Laws.Pick.{skips, both-left, both-right, both-join}
 use Rattle.area.proofs.Laws.Puts.{length-put}
 use Rattle.host.specs.With.{withProgram, withCame, withProgress}
-use Rattle.host.specs.Order.{lent, programInOrder, inOrder}
+use Rattle.host.specs.Order.{lent, programInOrder, inOrder, placesInOrder}
 use Rattle.rules.specs.View.{settingOf, turnOf, withRun, diskRight, areasRight}
 use Rattle.rules.specs.Run.{run}
 use Rattle.rules.specs.Calls.{Pieced, accepted, inputRight, outputRight, piece}
 use Rattle.rules.specs.Demands.{together, AllAccepted, Taking}
-use Rattle.rules.specs.Facts.{Good, Lent}
+use Rattle.rules.specs.Facts.{Good, Lent, Solid}
 use Rattle.rules.proofs.Laws.Areas.{or-right, either-second, runs-alike}
 use Rattle.rules.proofs.Laws.Kept.{progress-facts, facts-progress, runs-good}
 use Rattle.host.specs.declared.Progress.{Progress}
@@ -31,6 +31,23 @@ unfolding inOrder lent settingOf
 order-lent z h disk pos e =
     let b = both-right _ _ e in
     record { some = pos; few = leb-true _ _ (both-right _ _ (both-left _ _ b)); most = leb-true _ _ (both-right _ _ (both-left _ _ e)) }
+
+-- a host in order whose areas are right
+pub order-solid : (z : ℕ) (h : Host) (disk stage : List ℕ) → 0 < z → inOrder z h ≡ true → areasRight z h disk stage ≡ true → Solid z (settingOf h disk)
+unfolding inOrder lent placesInOrder areasRight diskRight settingOf
+order-solid z h disk stage some e areas =
+    let ps = both-left _ _ (both-right _ _ (both-right _ _ e)) in
+    record {
+      lent = order-lent z h disk some e;
+      one = leb-true _ _ (both-left _ _ (both-left _ _ e));
+      small = both-left _ _ ps;
+      slots = both-right _ _ (both-right _ _ (both-right _ _ ps));
+      disk = eqb-true _ _ (both-left _ _ areas);
+    }
+
+pub areas-stage : (z : ℕ) (h : Host) (disk stage : List ℕ) → areasRight z h disk stage ≡ true → length stage ≡ h .stage * z
+unfolding areasRight
+areas-stage z h disk stage e = eqb-true _ _ (both-right _ _ e)
 
 pub order-program : (z : ℕ) (h : Host) → inOrder z h ≡ true → h .program .active ≡ true → programInOrder z (h .disk) (h .stage) (h .places) (h .program) ≡ true
 unfolding inOrder

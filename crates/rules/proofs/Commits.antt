@@ -1,0 +1,297 @@
+-- A commit gives the parent the size, root and bytes that it was read with, leaves every other contract, and changes no slot but those that
+-- staged positions go to. Assumes nothing.
+use mathlib.Core.Path.{_≡_, refl, sym, ap, ap₂, _∙_, subst}
+use mathlib.Core.Bool.{true, false, not}
+use mathlib.Core.List.{List, [], _++_, append-nil}
+use Prim.Native.Nat.{ℕ, suc, _+_, _*_, _/_, _≤_, _<_}
+use native.Mathlib.Nat.{zero-div, suc-mul, mul-le-mul-right, le-of-mul-le-mul-right}
+use native.Mathlib.Omega.{arith}
+use lib.ListN.{length, getD, List·getD-append}
+use lib.IntN.{pos, _-ℤ_}
+use lib.Dec.{ltb, eqb}
+use borrow.Author.Tests.{not-true, not-false, ltb-true, eqb-true}
+use Rattle.area.specs.Pick.{both, either}
+use Rattle.area.specs.Area.{same, part, tab}
+use Rattle.area.proofs.Laws.Pick.{by, picks, skips, never, both-left, both-right}
+use Rattle.area.proofs.Laws.Same.{same-eq}
+use Rattle.area.proofs.Laws.Parts.{length-part}
+use Rattle.area.proofs.Laws.Tab.{length-tab}
+use Rattle.sia.specs.Encode.{joined, every}
+use Rattle.host.specs.Lists.{some, each, apart, unused}
+use Rattle.host.specs.Empty.{none, noPlace, noProgram}
+use Rattle.host.specs.With.{withPlaces, withProgram, withSize, withSlots}
+use Rattle.host.specs.Places.{hasId, whose, committed, taken}
+use Rattle.sia.specs.Names.{readOnly}
+use Rattle.host.specs.Order.{inOrder, slotInOrder, parentInOrder, termsInOrder}
+use Rattle.host.specs.Calls.{replaced}
+use Rattle.rules.specs.View.{settingOf, parent, areasRight, sector, spotOf, parentSpots, committedSpots, whole}
+use Rattle.rules.specs.Roots.{contractRoot}
+use Rattle.rules.specs.Record.{pairOf, runningPair}
+use Rattle.rules.specs.Run.{going}
+use Rattle.rules.specs.Facts.{Good, Solid}
+use Rattle.rules.specs.Commit.{Closed, closed, finalSlots, finalPlace, copiedBack, givenUp, commit, agreed, close}
+use Rattle.rules.specs.Demands.{Sound, pairing, sectorsOf, Committed, Commits}
+use Rattle.rules.proofs.Laws.Effects.{whole-sectors}
+use Rattle.rules.proofs.Laws.Slots.{every-and, every-fore, every-aft, apart-out}
+use Rattle.rules.proofs.Laws.Spots.{every-at, every-get, whose-every, whose-nobody, length-each, unstaged}
+use Rattle.rules.proofs.Laws.Split.{Split, split, replaced-none, replaced-split, taken-split, none-of}
+use Rattle.rules.proofs.Laws.Taking.{order-good, order-solid, areas-stage}
+use Rattle.rules.proofs.Laws.Ways.{passes}
+use Rattle.rules.proofs.Laws.Filling.{held, filling-length, filling-outside, filling-inside, joined-each, joined-tab, roots-alike}
+use Rattle.rules.proofs.Laws.Others.{whose-new, not-other, whose-other, none-has, none-bare, some-at, distinct, fore-unused, aft-unused, joined-alike}
+use Rattle.rules.proofs.Committing.{Final, final, order-places, place-twins}
+use Rattle.host.specs.declared.Place.{Place}
+use Rattle.host.specs.declared.Host.{Host}
+use Rattle.rules.specs.declared.Spot.the-variants.{OnDisk, InStage}
+
+-- ---- an agreement that is answered with 0
+
+record Agreement (z : ℕ) (disk : List ℕ) (h : Host) (stage : List ℕ) (size : ℕ) (root : List ℕ) : Type 0 where
+  order : inOrder z h ≡ true
+  areas : areasRight z h disk stage ≡ true
+  live : h .program .active ≡ true
+  pair : pairing size root ≡ runningPair z (settingOf h disk) (h .program .progress) stage
+  done : close z disk h stage true size root ≡ commit z disk h stage
+
+agreement : (z : ℕ) (disk : List ℕ) (h : Host) (stage : List ℕ) (size : ℕ) (root : List ℕ) → close z disk h stage true size root .number ≡ 0 → Agreement z disk h stage size root
+unfolding close agreed givenUp
+agreement z disk h stage size root e =
+    let pair = runningPair z (settingOf h disk) (h .program .progress) stage in
+    let c1 = passes (λ r. r .number) (not (inOrder z h)) (closed 1 0 (pos 0) h disk) _ (λ n. absurd (omega arith)) e in
+    let c2 = passes (λ r. r .number) (not (areasRight z h disk stage)) (closed 2 0 (pos 0) h disk) _ (λ n. absurd (omega arith)) (c1 .1) in
+    let c4 = passes (λ r. r .number) (not (h .program .active)) (closed 4 0 (pos 0) h disk) _ (λ n. absurd (omega arith)) (c2 .1) in
+    let up = skips (not true) (givenUp 0 disk h) _ refl in
+    let c13 = passes (λ r. r .number) (either (h .program .progress .failed) (going (h .program .terms) (h .program .progress))) (closed 13 0 (pos 0) h disk) _ (λ n. absurd (omega arith))
+    (ap (λ (r : Closed). r .number) (sym up) ∙ c4 .1) in
+    by (both (eqb size (pair .size)) (same root (pair .root)))
+    (λ t. record {
+      order = not-false _ (c1 .0);
+      areas = not-false _ (c2 .0);
+      live = not-false _ (c4 .0);
+      pair = ap₂ pairing (eqb-true _ _ (both-left _ _ t)) (same-eq _ _ (both-right _ _ t));
+      done = c1 .2 ∙ c2 .2 ∙ c4 .2 ∙ up ∙ c13 .2 ∙ picks (both (eqb size (pair .size)) (same root (pair .root))) _ _ t;
+    })
+    (λ t. absurd (let q = ap (λ (r : Closed). r .number) (sym (skips (both (eqb size (pair .size)) (same root (pair .root))) (commit z disk h stage) _ t)) ∙ c13 .1 in omega arith))
+
+-- ---- a held parent
+
+module _ (z : ℕ) (disk : List ℕ) (h : Host) (stage : List ℕ) (sound : Sound z h) (o : inOrder z h ≡ true) (areas : areasRight z h disk stage ≡ true) (live : h .program .active ≡ true) where
+  unfoldable id : List ℕ
+  id = h .program .terms .head .contract
+
+  unfoldable size : ℕ
+  size = h .program .progress .size
+
+  unfoldable staged : List ℕ
+  staged = h .program .progress .staged
+
+  -- what a commit leaves, by the parent's place and its slots
+  unfoldable left : Place → List ℕ → Closed
+  left x l = closed 0 (h .program .progress .tally) (pos size -ℤ pos (x .size)) (withProgram (withPlaces h (replaced id (finalPlace x size l) (h .places))) noProgram) (copiedBack z stage staged l 0 (size / z) disk)
+
+  commit-left : commit z disk h stage ≡ left (whose id (h .places)) (finalSlots z (h .disk) (h .places) (whose id (h .places)) size)
+  unfolding left commit parent settingOf id size staged
+  commit-left = refl
+
+  good : Good z (settingOf h disk) (h .program .progress)
+  good = order-good z h disk o live (sound .staged)
+
+  solid : Solid z (settingOf h disk)
+  solid = order-solid z h disk stage (sound .some) o areas
+
+  few : h .program .progress .size / z ≤ length (h .program .progress .staged)
+  unfolding settingOf
+  few =
+      let q : h .program .progress .size / z ≤ h .disk =
+      le-of-mul-le-mul-right {m = h .program .progress .size / z} {n = h .disk} {k = z} (omega (arith, whole-sectors z (h .program .progress .size) (good .orderly .whole), good .orderly .within)) (sound .some) in
+      omega (arith, order-places z h o .1, sound .staged)
+
+  module _ (s : Split id (h .places)) (f : Final z (h .disk) size id (h .places) s) where
+    unfoldable x : Place
+    x = finalPlace (s .it) size (f .slots)
+
+    unfoldable after : List ℕ
+    after = copiedBack z stage staged (f .slots) 0 (size / z) disk
+
+    x-here : hasId id x ≡ true
+    unfolding x finalPlace withSlots withSize hasId
+    x-here = s .here
+
+    parent-is : whose id (replaced id x (h .places)) ≡ x
+    parent-is = ap (whose id) (replaced-split id x (h .places) s) ∙ whose-new id x (s .before) (s .behind) x-here (s .not-before)
+
+    own : apart eqb (f .slots) ≡ true
+    own = let a = apart-out eqb [] (taken z (s .before)) (f .slots ++ taken z (s .behind)) (f .own) in
+        subst (λ (l : List ℕ). apart eqb l ≡ true) (append-nil (f .slots)) (apart-out eqb (f .slots) (taken z (s .behind)) [] (subst (λ (l : List ℕ). apart eqb l ≡ true) (ap (λ (l : List ℕ). f .slots ++ l) (sym (append-nil (taken z (s .behind))))) a))
+
+    below : (j : ℕ) → j < size / z → getD (f .slots) j 0 < h .disk
+    below j lt = ltb-true _ _ (every-get (λ n. ltb n (h .disk)) (f .slots) j 0 (omega (arith, f .long)) (every-fore _ (f .slots) _ (every-aft _ (taken z (s .before)) _ (f .below))))
+
+    -- slot n of an area of m whole sectors lies in it
+    within : (n m : ℕ) (a : List ℕ) → n < m → length a ≡ m * z → n * z + z ≤ length a
+    within n m a lt e = let le = mul-le-mul-right {m = suc n} {n = m} z lt in omega (arith, suc-mul n z)
+
+    staged-below : (j : ℕ) → eqb (getD staged j none) none ≡ false → getD staged j none < h .stage
+    unfolding staged slotInOrder settingOf
+    staged-below j e =
+        ltb-true _ _ (sym (skips (eqb (getD (h .program .progress .staged) j none) none) true _ e)
+        ∙ every-at (slotInOrder (h .stage)) (h .program .progress .staged) j none (good .orderly .staged .slots) (picks (eqb none none) true _ refl))
+
+    disk-long : length disk ≡ h .disk * z
+    unfolding settingOf
+    disk-long = solid .disk
+
+    kept-below : (j : ℕ) → j < size / z → eqb (getD staged j none) none ≡ true → j < s .it .size / z
+    unfolding staged size id settingOf
+    kept-below j lt e =
+        let q = unstaged z (settingOf h disk) (h .program .progress) solid (good .orderly .staged) few j lt e in
+        subst (λ (p : Place). j < p .size / z) (s .whose-is) q
+
+    -- the sector of position j, as it is read before and after
+    position : (j : ℕ) → j < size / z → part after (getD (f .slots) j 0 * z) z ≡ sector z disk stage (spotOf (s .it .slots) staged j)
+    unfolding after held sector spotOf
+    position j lt =
+        filling-inside z stage staged (f .slots) 0 (size / z) disk (λ a b lo m hi. distinct (f .slots) own a b m (omega (arith, f .long))) j (omega arith) (omega arith)
+        (within (getD (f .slots) j 0) (h .disk) disk (below j lt) disk-long)
+        (λ e. length-part stage _ z (within (getD staged j none) (h .stage) stage (staged-below j e) (areas-stage z h disk stage areas)))
+        ∙ by (eqb (getD staged j none) none)
+        (λ e. picks (eqb (getD staged j none) none) _ _ e ∙ ap (λ (n : ℕ). part disk (n * z) z) (f .kept j lt (kept-below j lt e))
+        ∙ sym (ap (sector z disk stage) (picks (eqb (getD staged j none) none) (OnDisk (getD (s .it .slots) j 0)) (InStage (getD staged j none)) e)))
+        (λ e. skips (eqb (getD staged j none) none) _ _ e ∙ sym (ap (sector z disk stage) (skips (eqb (getD staged j none) none) (OnDisk (getD (s .it .slots) j 0)) (InStage (getD staged j none)) e)))
+
+    spots-are : parentSpots z (settingOf h disk) (h .program .progress) ≡ tab 0 (size / z) (spotOf (s .it .slots) staged)
+    unfolding parentSpots parent settingOf id size staged
+    spots-are = ap (λ (p : Place). tab 0 (h .program .progress .size / z) (spotOf (p .slots) (h .program .progress .staged))) (s .whose-is)
+
+    bytes-are : whole z after [] (each OnDisk (f .slots)) ≡ whole z disk stage (tab 0 (size / z) (spotOf (s .it .slots) staged))
+    unfolding whole sector
+    bytes-are =
+        joined-each (sector z after []) OnDisk (f .slots)
+        ∙ joined-tab (λ n. sector z after [] (OnDisk n)) (sector z disk stage) 0 (f .slots) 0 (size / z) (spotOf (s .it .slots) staged) (f .long)
+        (λ j m lt q. let e : j ≡ m = omega arith in position j lt ∙ ap (λ (n : ℕ). sector z disk stage (spotOf (s .it .slots) staged n)) e)
+
+    own-spots : committedSpots z x ≡ each OnDisk (f .slots)
+    unfolding committedSpots x
+    own-spots = ap (each OnDisk) (f .place)
+
+    own-sectors : sectorsOf z after x ≡ whole z disk stage (parentSpots z (settingOf h disk) (h .program .progress))
+    unfolding sectorsOf
+    own-sectors = ap (whole z after []) own-spots ∙ bytes-are ∙ ap (whole z disk stage) (sym spots-are)
+
+    own-root : contractRoot z after [] (committedSpots z x) ≡ contractRoot z disk stage (parentSpots z (settingOf h disk) (h .program .progress))
+    own-root =
+        ap (contractRoot z after []) own-spots
+        ∙ roots-alike z after [] disk stage (each OnDisk (f .slots)) (tab 0 (size / z) (spotOf (s .it .slots) staged))
+        (omega (arith, length-each (f .slots), f .long, length-tab 0 (size / z) (spotOf (s .it .slots) staged))) bytes-are
+        ∙ ap (contractRoot z disk stage) (sym spots-are)
+
+    own-pair : pairOf z after x ≡ runningPair z (settingOf h disk) (h .program .progress) stage
+    unfolding pairOf runningPair x finalPlace withSlots withSize size settingOf
+    own-pair = ap (λ (r : List ℕ). pairing (h .program .progress .size) r) own-root
+
+    -- ---- the others
+
+    slot-left : (n : ℕ) → unused (f .slots) n ≡ true → part after (n * z) z ≡ part disk (n * z) z
+    unfolding after
+    slot-left n u = filling-outside z stage staged (f .slots) n 0 (size / z) disk (λ j lo hi e. some-at n (f .slots) j (not-true _ u) (omega (arith, f .long)))
+
+    others-unused : every (unused (f .slots)) (taken z (replaced id noPlace (h .places))) ≡ true
+    others-unused =
+        ap (λ (l : List Place). every (unused (f .slots)) (taken z l)) (replaced-split id noPlace (h .places) s)
+        ∙ ap (every (unused (f .slots))) (taken-split z (s .before) noPlace (s .behind) ∙ ap (λ (l : List ℕ). taken z (s .before) ++ (l ++ taken z (s .behind))) (none-bare z))
+        ∙ every-and _ (taken z (s .before)) (taken z (s .behind)) (fore-unused (taken z (s .before)) (f .slots) (taken z (s .behind)) (f .own))
+        (aft-unused (f .slots) (taken z (s .behind)) (apart-out eqb [] (taken z (s .before)) (f .slots ++ taken z (s .behind)) (f .own)))
+
+    other-place : (other : List ℕ) → same id other ≡ false → whose other (replaced id x (h .places)) ≡ whose other (h .places)
+    other-place other ne = whose-other id other x (h .places) (not-other id other x ne x-here) ne
+
+    other-sectors : (other : List ℕ) → same id other ≡ false → sectorsOf z after (whose other (h .places)) ≡ sectorsOf z disk (whose other (h .places))
+    unfolding sectorsOf whole committedSpots sector
+    other-sectors other ne =
+        let p : Place = whose other (h .places) in
+        let u = subst (λ (q : Place). every (unused (f .slots)) (committed z q) ≡ true) (whose-other id other noPlace (h .places) (none-has other) ne)
+        (whose-every (unused (f .slots)) z other (replaced id noPlace (h .places)) others-unused) in
+        joined-each (sector z after []) OnDisk (committed z p)
+        ∙ joined-alike (unused (f .slots)) (λ n. sector z after [] (OnDisk n)) (λ n. sector z disk [] (OnDisk n)) (committed z p) u (λ n e. slot-left n e)
+        ∙ sym (joined-each (sector z disk []) OnDisk (committed z p))
+
+    -- ---- all of it
+
+    slot-is : (j : ℕ) → j < size / z → getD (whose id (replaced id x (h .places)) .slots) j 0 ≡ getD (f .slots) j 0
+    unfolding x finalPlace withSlots
+    slot-is j lt = ap (λ (p : Place). getD (p .slots) j 0) parent-is ∙ List·getD-append (f .slots) _ 0 j (omega (arith, f .long))
+
+    held-commits : Committed z disk h stage (left (s .it) (f .slots))
+    unfolding left withProgram withPlaces id x size staged after
+    held-commits = record {
+      parent = ap (pairOf z after) parent-is ∙ own-pair;
+      sectors = ap (sectorsOf z after) parent-is ∙ own-sectors;
+      others = λ other ne. (other-place other ne, other-sectors other ne);
+      slots = λ n out. filling-outside z stage staged (f .slots) n 0 (size / z) disk (λ j lo hi e q. out j (omega arith) e (slot-is j (omega arith) ∙ q));
+      long = filling-length z stage staged (f .slots) 0 (size / z) disk;
+    }
+
+  -- ---- no parent: read-only mode
+
+  nobody : whose id (h .places) .held ≡ false → h .program .progress .size ≡ 0
+  unfolding id parentInOrder termsInOrder settingOf
+  nobody e =
+      let t = both-left _ _ (good .terms) in
+      by (same (h .program .terms .head .contract) readOnly)
+      (λ u. eqb-true _ _ (sym (picks (same (h .program .terms .head .contract) readOnly) _ _ u) ∙ t))
+      (λ u. never (sym t ∙ skips (same (h .program .terms .head .contract) readOnly) _ _ u ∙ e))
+
+  none-committed : whose id (h .places) .held ≡ false → committedSpots z (whose id (h .places)) ≡ []
+  unfolding committedSpots committed each
+  none-committed e = ap (each OnDisk) (skips (whose id (h .places) .held) _ [] e)
+
+  none-read : whose id (h .places) .held ≡ false → parentSpots z (settingOf h disk) (h .program .progress) ≡ []
+  unfolding parentSpots tab settingOf
+  none-read e = ap (λ (n : ℕ). tab 0 n (spotOf (parent (settingOf h disk) .slots) (h .program .progress .staged))) (ap (λ (n : ℕ). n / z) (nobody e) ∙ zero-div z)
+
+  nothing-back : (l : List ℕ) → whose id (h .places) .held ≡ false → copiedBack z stage (h .program .progress .staged) l 0 (h .program .progress .size / z) disk ≡ disk
+  unfolding copiedBack
+  nothing-back l e = ap (λ (n : ℕ). copiedBack z stage (h .program .progress .staged) l 0 n disk) (ap (λ (n : ℕ). n / z) (nobody e) ∙ zero-div z)
+
+  nobody-sectors : whose id (h .places) .held ≡ false → sectorsOf z disk (whose id (h .places)) ≡ whole z disk stage (parentSpots z (settingOf h disk) (h .program .progress))
+  unfolding sectorsOf whole joined
+  nobody-sectors e = ap (whole z disk []) (none-committed e) ∙ sym (ap (whole z disk stage) (none-read e))
+
+  nobody-pair : whose id (h .places) .held ≡ false → pairOf z disk (whose id (h .places)) ≡ runningPair z (settingOf h disk) (h .program .progress) stage
+  unfolding pairOf runningPair contractRoot settingOf
+  nobody-pair e =
+      ap₂ pairing (whose-nobody id (h .places) e ∙ sym (nobody e)) (ap (contractRoot z disk []) (none-committed e) ∙ sym (ap (contractRoot z disk stage) (none-read e)))
+
+  nobody-commits : whose id (h .places) .held ≡ false → (x : Place) (l : List ℕ) → Committed z disk h stage (left x l)
+  unfolding left withProgram withPlaces id size staged
+  nobody-commits e x l =
+      let same-places = replaced-none (h .program .terms .head .contract) (finalPlace x (h .program .progress .size) l) (h .places) (none-of (h .program .terms .head .contract) (h .places) e) in
+      let same-disk : copiedBack z stage (h .program .progress .staged) l 0 (h .program .progress .size / z) disk ≡ disk = nothing-back l e in
+      record {
+        parent = ap₂ (λ (d : List ℕ) (ps : List Place). pairOf z d (whose (h .program .terms .head .contract) ps)) same-disk same-places ∙ nobody-pair e;
+        sectors = ap₂ (λ (d : List ℕ) (ps : List Place). sectorsOf z d (whose (h .program .terms .head .contract) ps)) same-disk same-places ∙ nobody-sectors e;
+        others = λ other ne. (ap (whose other) same-places, ap (λ (d : List ℕ). sectorsOf z d (whose other (h .places))) same-disk);
+        slots = λ n out. ap (λ (d : List ℕ). part d (n * z) z) same-disk;
+        long = ap length same-disk;
+      }
+
+  commits : Committed z disk h stage (commit z disk h stage)
+  unfolding id size settingOf
+  commits =
+      by (whose id (h .places) .held)
+      (λ e. let q = order-places z h o in
+      let s = split id (h .places) (place-twins z (h .disk) (h .places) (q .0)) e in
+      let f = final z (h .disk) size id (h .places) s (sound .some) (q .1) (q .0) (sound .places) (good .orderly .whole) (good .orderly .within) in
+      subst (Committed z disk h stage)
+      (sym (commit-left ∙ ap (λ (x : Place). left x (finalSlots z (h .disk) (h .places) x size)) (s .whose-is) ∙ ap (left (s .it)) (f .is)))
+      (held-commits s f))
+      (λ e. subst (Committed z disk h stage) (sym commit-left) (nobody-commits e _ _))
+
+-- An agreement that is answered with 0 commits the pair that it names.
+pub every-commit : Commits
+every-commit = record {
+  pair = λ z disk h stage size root e. agreement z disk h stage size root e .pair;
+  commits = λ z disk h stage size root sound e.
+      let a = agreement z disk h stage size root e in
+      subst (Committed z disk h stage) (sym (a .done)) (commits z disk h stage sound (a .order) (a .areas) (a .live));
+}
