@@ -1,0 +1,47 @@
+-- `span` meets its contract: a part of the sector that holds it. Assumes nothing.
+use mathlib.Core.Path.{ap, _∙_}
+use Prim.Native.Nat.{_%_}
+use native.Mathlib.Omega.{arith}
+use borrow.Author.Needs.{needs}
+use Rattle.rules.specs.View.{sector}
+use Rattle.view.proofs.Laws.Sectors.{seen-lies, sector-span}
+use Rattle.view.proofs.sectors.span.Statement.{statement}
+use Rattle.view.proofs.sectors.span.Tie as tie
+
+spot-of-requires : tie.Need-spot-of-requires
+spot-of-requires c κs = search needs
+
+sector-requires : tie.Need-sector-requires
+sector-requires c κs = seen-lies 4096 _ _ _ _ (c .before .before .before .before .before .pre .0) (c .before .before .before .before .before .pre .1 .below) (c .spot-of .ensures)
+
+add-result : tie.Need-add-result
+add-result c = search needs
+
+sub-result : tie.Need-sub-result
+sub-result c = search needs
+
+part-result-start : tie.Need-part-result-start
+part-result-start c = search needs
+
+part-result-end : tie.Need-part-result-end
+part-result-end c = search needs
+
+returns : tie.Need-returns
+returns c =
+    let at-sector = c .before in
+    let s = c .before .before .before .before .before .before .before in
+    sector-span _ (s .args .at % 4096) (s .args .n)
+    (at-sector .sector .ensures .0 ∙ ap (sector 4096 (s .args .disk .now) (s .args .stage .now)) (at-sector .before .spot-of .ensures))
+    (omega (arith, at-sector .sector .ensures .1, s .pre .1 .one))
+
+pub span-spec : {M : Type 1} → statement M
+span-spec =
+    tie.close
+    (tie.spec
+    spot-of-requires
+    sector-requires
+    add-result
+    sub-result
+    part-result-start
+    part-result-end
+    returns)

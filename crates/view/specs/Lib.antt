@@ -1,0 +1,2 @@
+-- What is seen of contracts and sectors, and what the code that reads it asks of its callers.
+pub mod Seen

@@ -1,0 +1,39 @@
+-- What is seen, as spots, and when it lies within the areas. z is the sector size. Assumes nothing.
+use mathlib.Core.Path.{_≡_}
+use mathlib.Core.Bool.{Bool, true}
+use mathlib.Core.List.{List}
+use Prim.Native.Nat.{ℕ, _+_, _*_, _/_, _%_, _≤_, _<_}
+use lib.ListN.{length}
+use lib.Dec.{leb}
+use Rattle.area.specs.Area.{tab}
+use Rattle.sia.specs.Encode.{every}
+use Rattle.rules.specs.View.{spotOf}
+use Rattle.rules.specs.declared.Spot.{Spot}
+use Rattle.rules.specs.declared.Spot.the-variants.{OnDisk, InStage}
+use Rattle.view.specs.declared.Seen.{Seen}
+
+-- the spots of the first `count` positions
+unfoldable pub spotsOf : Seen → List Spot
+spotsOf v = tab 0 (v .count) (spotOf (v .slots) (v .staged))
+
+-- the bytes of a slot are within their area
+unfoldable pub lies : ℕ → List ℕ → List ℕ → Spot → Bool
+lies z disk stage (OnDisk n) = leb (n * z + z) (length disk)
+lies z disk stage (InStage n) = leb (n * z + z) (length stage)
+
+-- at most 64 sectors are seen, and all lie within the areas
+pub record Lies (z : ℕ) (disk stage : List ℕ) (v : Seen) : Type 0 where
+  pub few : v .count ≤ 64
+  pub spots : every (lies z disk stage) (spotsOf v) ≡ true
+
+-- the n bytes from `at` on lie in one of so many sectors
+pub record Inside (z count at n : ℕ) : Type 0 where
+  pub below : at / z < count
+  pub one : at % z + n ≤ z
+
+-- they do, and are whole segments, one at least
+pub record Ranged (z count at n : ℕ) : Type 0 where
+  pub inside : Inside z count at n
+  pub some : 0 < n
+  pub first : at % 64 ≡ 0
+  pub whole : n % 64 ≡ 0

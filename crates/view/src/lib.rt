@@ -1,0 +1,14 @@
+// What the machine sees of contracts: the bytes of a sector, in whichever area holds it, and roots and proofs of what is seen.
+ghost use mathlib.Core.Path.{_≡_};
+
+mod sectors; // sectors.rt: where a sector is, and its bytes
+
+pub use sectors::sector;
+pub use sectors::span;
+
+// What is seen: the first `count` positions. `slots[p]` is the disk slot of position p, `staged[p]` its stage slot, or Progress::NONE.
+pub struct Seen {
+    pub count: usize,
+    pub slots: [u8; 64],
+    pub staged: [u8; 64],
+}

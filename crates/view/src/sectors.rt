@@ -1,0 +1,55 @@
+// Where a sector is, and its bytes: a part of the area that holds it, never a copy.
+ghost use mathlib.Core.Path.{_≡_};
+ghost use mathlib.Core.Bool.{true};
+ghost use Prim.Native.Nat.{_/_, _%_, _<_};
+ghost use lib.ListN.{length};
+ghost use Rattle.area.specs.Area.{part};
+ghost use Rattle.rules.specs.View as Says;
+ghost use Rattle.rules.specs.View.{spotOf};
+ghost use Rattle.view.specs.Seen.{lies, Lies, Inside};
+use crate::Seen;
+use host::Progress;
+use rules::Spot;
+
+// Where position `at` is: in the stage where it has a copy there, else on the disk.
+pub fn spot_of(slots: [u8; 64], staged: [u8; 64], at: usize) -> Spot
+    requires { ⌜ at < 64 ⌝ }
+    ensures { λ r. ⌜ r ≡ spotOf slots staged at ⌝ }
+{
+    let copy = staged[at];
+    if copy == Progress::NONE {
+        return Spot::OnDisk(slots[at] as usize);
+    }
+    Spot::InStage(copy as usize)
+}
+
+// The bytes of a sector.
+pub fn sector<'a>(disk: &'a [u8], stage: &'a [u8], spot: Spot) -> &'a [u8]
+    requires { ⌜ lies 4096 (now disk) (now stage) spot ≡ true ⌝ }
+    ensures { λ r. ⌜ (now r ≡ Says.sector 4096 (now (disk .entry)) (now (stage .entry)) spot) × (length (now r) ≡ 4096) ⌝ }
+{
+    match spot {
+        Spot::OnDisk(n) => {
+            let from = n * 4096;
+            &disk[from..from + 4096]
+        }
+        Spot::InStage(n) => {
+            let from = n * 4096;
+            &stage[from..from + 4096]
+        }
+    }
+}
+
+// The n bytes of what is seen from `at` on, which lie in one sector.
+pub fn span<'a>(disk: &'a [u8], stage: &'a [u8], seen: Seen, at: usize, n: usize) -> &'a [u8]
+    requires { ⌜ Lies 4096 (now disk) (now stage) seen ⌝ }
+    requires { ⌜ Inside 4096 (seen .count) at n ⌝ }
+    ensures { λ r. ⌜ (now r ≡ part (Says.sector 4096 (now (disk .entry)) (now (stage .entry)) (spotOf (seen .slots) (seen .staged) (at / 4096))) (at % 4096) n) × (length (now r) ≡ n) ⌝ }
+{
+    let slots = seen.slots;
+    let staged = seen.staged;
+    let spot = spot_of(slots, staged, at / 4096);
+    let bytes = sector(disk, stage, spot);
+    let from = at % 4096;
+    &bytes[from..from + n]
+}
