@@ -1,2 +1,4 @@
 -- The laws, a file for each subject.
 pub mod Sectors
+pub mod Pieces
+pub mod Roots

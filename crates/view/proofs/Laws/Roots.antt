@@ -1,0 +1,165 @@
+-- Roots of sectors, and the root and proofs of all that is seen, by what the tree promises. Assumes nothing.
+use mathlib.Core.Path.{_≡_, refl, sym, ap, _∙_}
+use mathlib.Core.Bool.{Bool, true}
+use mathlib.Core.List.{List, [], _∷_}
+use Prim.Native.Nat.{ℕ, _+_, _*_, _/_, _%_, _≤_, _<_}
+use native.Mathlib.Nat.{mul-comm}
+use native.Mathlib.Omega.{arith}
+use lib.ListN.{length, getD}
+use lib.Dec.{leb}
+use borrow.Author.Tests.{eq-eqb, lt-ltb, le-leb}
+use Rattle.area.specs.Pick.{pick, both}
+use Rattle.area.specs.Area.{part, put}
+use Rattle.area.proofs.Laws.Pick.{picks, both-join}
+use Rattle.area.proofs.Laws.Tab.{length-tab, getD-tab}
+use Rattle.area.proofs.Laws.Parts.{part-whole}
+use Rattle.sia.specs.Encode.{joined, every}
+use Rattle.tree.specs.Tree.{root, join}
+use Rattle.tree.specs.Walk.{count, proof, proofIn}
+use Rattle.tree.specs.Checker.{ranged}
+use Rattle.tree.specs.Answers as answers
+use Rattle.tree.specs.Answers.{Root, rootGiven, rootIf, rooted, wholes, Count, countGiven, counted, Left, left, hashesLaid, provable, provableIn, provedIn, isPower}
+use Rattle.tree.specs.Promise.{Parted}
+use Rattle.tree.specs.declared.Rooted.{Rooted}
+use Rattle.tree.specs.declared.Counted.{Counted}
+use Rattle.tree.proofs.Promise.{roots, proofs}
+use Rattle.rules.specs.View.{sector, spotOf, whole}
+use Rattle.rules.specs.Roots.{sectorRoot, contractRoot, rangeProof}
+use Rattle.rules.specs.declared.Spot.{Spot}
+use Rattle.rules.specs.declared.Spot.the-variants.{OnDisk}
+use Rattle.view.specs.Seen.{spotsOf, lies, Lies, Ranged}
+use Rattle.view.specs.declared.Seen.{Seen}
+use Rattle.view.proofs.Laws.Sectors.{sector-long}
+use Rattle.view.proofs.Laws.Pieces.{length-pieces, part-pieces}
+
+-- ---- what the tree answers
+
+given : (r : Rooted) (asked : Bool) (x : List ℕ) → rootGiven r ≡ rootIf asked x → asked ≡ true → r .root ≡ x
+unfolding rootIf
+given r asked x e h = ap (λ (r : Root). r .root) (e ∙ picks asked _ _ h)
+
+pub root-given : (r : Rooted) (b : List ℕ) → rootGiven r ≡ rooted b → length b % 64 ≡ 0 → r .root ≡ root b
+unfolding rooted wholes
+root-given r b e h = given r (wholes 64 b) (root b) e (eq-eqb _ _ h)
+
+pub join-given : (r : Rooted) (b : List ℕ) → rootGiven r ≡ answers.joined b → length b % 32 ≡ 0 → r .root ≡ join b
+unfolding answers.joined wholes
+join-given r b e h = given r (wholes 32 b) (join b) e (eq-eqb _ _ h)
+
+pub count-given : (r : Counted) (n s e : ℕ) → countGiven r ≡ counted n s e → s < e → e ≤ n → r .count ≡ count n s e
+unfolding counted ranged
+count-given r n s e q lt le = ap (λ (x : Count). x .count) (q ∙ picks (ranged n s e) _ _ (both-join _ _ (lt-ltb s e lt) (le-leb e n le)))
+
+pub proof-given : (r : Counted) (rs : List ℕ) (at : ℕ) (b : List ℕ) (s e : ℕ) (out next : List ℕ) → left r next ≡ provedIn rs at b s e out
+    → provableIn rs at b s e ≡ true → length (proofIn rs at b s e) ≤ length out → next ≡ put out 0 (proofIn rs at b s e)
+unfolding provedIn hashesLaid
+proof-given r rs at b s e out next q asked room =
+    ap (λ (x : Left). x .out) (q ∙ picks (both (provableIn rs at b s e) (leb (length (proofIn rs at b s e)) (length out))) _ _ (both-join _ _ asked (le-leb _ _ room)))
+
+sixty-four : isPower 64 64 ≡ true
+unfolding isPower pick
+sixty-four = refl
+
+-- a range of one of m sectors can be proved
+pub sector-provable : (rs : List ℕ) (m at : ℕ) (b : List ℕ) (s e : ℕ) → length rs ≡ 32 * m → at < m → length b ≡ 4096 → s < e → e ≤ 64
+    → provableIn rs at b s e ≡ true
+unfolding provableIn provable wholes ranged
+sector-provable rs m at b s e long here size lt le =
+    let n : length b / 64 ≡ 64 = omega arith in
+    let whole-roots : length rs % 32 ≡ 0 = omega arith in
+    let one-of : at < length rs / 32 = omega arith in
+    let whole-segments : length b % 64 ≡ 0 = omega arith in
+    let within : e ≤ length b / 64 = omega arith in
+    both-join _ _ (eq-eqb _ _ whole-roots)
+    (both-join _ _ (lt-ltb _ _ one-of)
+    (both-join _ _ (ap (isPower 64) n ∙ sixty-four) (both-join _ _ (eq-eqb _ _ whole-segments) (both-join _ _ (lt-ltb _ _ lt) (le-leb _ _ within)))))
+
+-- ---- sectors
+
+pub root-long : (z : ℕ) (disk stage : List ℕ) (x : Spot) → length (sectorRoot z disk stage x) ≡ 32
+unfolding sectorRoot
+root-long z disk stage x = roots .root-long (sector z disk stage x)
+
+pub root-is : (z : ℕ) (disk stage : List ℕ) (x : Spot) {b r : List ℕ} → b ≡ sector z disk stage x → r ≡ root b → r ≡ sectorRoot z disk stage x
+unfolding sectorRoot
+root-is z disk stage x e q = q ∙ ap root e
+
+-- a root of 32 bytes, copied whole
+pub root-copied : (z : ℕ) (disk stage : List ℕ) (x y : Spot) {r : List ℕ} → r ≡ sectorRoot z disk stage x → x ≡ y → part r 0 32 ≡ sectorRoot z disk stage y
+root-copied z disk stage x y {r} e q = part-whole r 32 (sym (ap length e ∙ root-long z disk stage x)) ∙ e ∙ ap (sectorRoot z disk stage) q
+
+-- ---- all that is seen
+
+-- the root of no bytes is zeros, so no case is apart
+contract-root : (disk stage : List ℕ) (l : List Spot) → contractRoot 4096 disk stage l ≡ root (whole 4096 disk stage l)
+unfolding contractRoot whole joined
+contract-root disk stage [] = sym (roots .nothing)
+contract-root disk stage (x ∷ xs) = refl
+
+-- sectors of 4,096 bytes are parts of 2 ^ 6 segments
+module _ (disk stage : List ℕ) (l : List Spot) (h : every (lies 4096 disk stage) l ≡ true) (few : length l ≤ 64) where
+  rooted-sector : (i : ℕ) → i < length l → part (joined (sectorRoot 4096 disk stage) l) (32 * i) 32 ≡ root (part (whole 4096 disk stage l) (i * 4096) 4096)
+  unfolding whole sectorRoot
+  rooted-sector i lt =
+      ap (λ (n : ℕ). part (joined (sectorRoot 4096 disk stage) l) n 32) (mul-comm 32 i)
+      ∙ part-pieces (lies 4096 disk stage) (sectorRoot 4096 disk stage) 32 (λ x e. root-long 4096 disk stage x) l i (OnDisk 0) h lt
+      ∙ ap root (sym (part-pieces (lies 4096 disk stage) (sector 4096 disk stage) 4096 (sector-long 4096 disk stage) l i (OnDisk 0) h lt))
+
+  pub roots-long : length (joined (sectorRoot 4096 disk stage) l) ≡ 32 * length l
+  roots-long =
+      length-pieces (lies 4096 disk stage) (sectorRoot 4096 disk stage) 32 (λ x e. root-long 4096 disk stage x) l h ∙ mul-comm (length l) 32
+
+  pub parted : Parted root 6 (length l) (whole 4096 disk stage l) (joined (sectorRoot 4096 disk stage) l)
+  unfolding whole
+  parted = record {
+    whole = length-pieces (lies 4096 disk stage) (sector 4096 disk stage) 4096 (sector-long 4096 disk stage) l h;
+    given = roots-long;
+    few = omega arith;
+    each = rooted-sector;
+  }
+
+  pub contract-join : contractRoot 4096 disk stage l ≡ join (joined (sectorRoot 4096 disk stage) l)
+  contract-join = contract-root disk stage l ∙ roots .joins 6 (length l) (whole 4096 disk stage l) (joined (sectorRoot 4096 disk stage) l) parted
+
+  -- the proof of a range within one sector is that of the range of all
+  pub proof-within : (at : ℕ) (d : Spot) (s e : ℕ) → at < length l → s < e → e ≤ 64
+      → proofIn (joined (sectorRoot 4096 disk stage) l) at (sector 4096 disk stage (getD l at d)) s e ≡ proof (whole 4096 disk stage l) (s + at * 64) (e + at * 64)
+  unfolding whole
+  proof-within at d s e here lt le =
+      ap (λ (b : List ℕ). proofIn (joined (sectorRoot 4096 disk stage) l) at b s e)
+      (sym (part-pieces (lies 4096 disk stage) (sector 4096 disk stage) 4096 (sector-long 4096 disk stage) l at d h here))
+      ∙ proofs .within 6 (length l) (whole 4096 disk stage l) (joined (sectorRoot 4096 disk stage) l) parted at s e here lt le
+
+-- ---- of a Seen
+
+pub seen-count : (v : Seen) → length (spotsOf v) ≡ v .count
+unfolding spotsOf
+seen-count v = length-tab 0 (v .count) (spotOf (v .slots) (v .staged))
+
+pub seen-at : (v : Seen) (i : ℕ) (d : Spot) → i < v .count → getD (spotsOf v) i d ≡ spotOf (v .slots) (v .staged) i
+unfolding spotsOf
+seen-at v i d h =
+    getD-tab 0 (v .count) (spotOf (v .slots) (v .staged)) i d h ∙ ap (spotOf (v .slots) (v .staged)) (let q : 0 + i ≡ i = omega arith in q)
+
+module _ (disk stage : List ℕ) (v : Seen) (l : Lies 4096 disk stage v) {rs : List ℕ} (e : rs ≡ joined (sectorRoot 4096 disk stage) (spotsOf v)) where
+  few : length (spotsOf v) ≤ 64
+  few = omega (arith, seen-count v, l .few)
+
+  pub seen-roots : length rs ≡ 32 * v .count
+  seen-roots = ap length e ∙ roots-long disk stage (spotsOf v) (l .spots) few ∙ ap (λ (n : ℕ). 32 * n) (seen-count v)
+
+  pub seen-join : join rs ≡ contractRoot 4096 disk stage (spotsOf v)
+  seen-join = ap join e ∙ sym (contract-join disk stage (spotsOf v) (l .spots) few)
+
+  pub seen-proof : (at n : ℕ) {b : List ℕ} → Ranged 4096 (v .count) at n → b ≡ sector 4096 disk stage (spotOf (v .slots) (v .staged) (at / 4096))
+      → proofIn rs (at / 4096) b (at % 4096 / 64) (at % 4096 / 64 + n / 64) ≡ rangeProof 4096 disk stage (spotsOf v) at n
+  unfolding rangeProof
+  seen-proof at n {b} g q =
+      let first : at % 4096 / 64 + at / 4096 * 64 ≡ at / 64 = omega arith in
+      let end : at % 4096 / 64 + n / 64 + at / 4096 * 64 ≡ (at + n) / 64 = omega (arith, g .first, g .whole) in
+      let here : at / 4096 < length (spotsOf v) = omega (arith, seen-count v, g .inside .below) in
+      let inside : at % 4096 / 64 + n / 64 ≤ 64 = omega (arith, g .inside .one) in
+      let some : at % 4096 / 64 < at % 4096 / 64 + n / 64 = omega (arith, g .some, g .whole) in
+      (λ i. proofIn (e i) (at / 4096) ((q ∙ ap (sector 4096 disk stage) (sym (seen-at v (at / 4096) (OnDisk 0) (g .inside .below)))) i) (at % 4096 / 64) (at % 4096 / 64 + n / 64))
+      ∙ proof-within disk stage (spotsOf v) (l .spots) few (at / 4096) (OnDisk 0) (at % 4096 / 64) (at % 4096 / 64 + n / 64) here some inside
+      ∙ (λ i. proof (whole 4096 disk stage (spotsOf v)) (first i) (end i))
