@@ -1,11 +1,16 @@
 // Records: the bytes that an instruction leaves in the output area. Each writer lays its bytes over the front of the part that it is lent.
 ghost use mathlib.Core.Path.{_≡_};
+ghost use mathlib.Core.Bool.{true};
 ghost use mathlib.Core.List.{[]};
 ghost use Prim.Native.Nat.{_≤_};
 ghost use lib.ListN.{length};
+ghost use Rattle.area.specs.Pick.{pick};
 ghost use Rattle.area.specs.Area.{put};
 ghost use Rattle.rules.specs.Record.{recordBytes};
+ghost use Rattle.view.specs.Seen.{Lies, Inside, Ranged};
 ghost use Rattle.records.specs.Front.{pair, front};
+ghost use Rattle.records.specs.Shown.{shownProof, shownBytes, Shows};
+use view::Seen;
 
 // The first 64 bytes: number, cost, size, root and the count of hashes.
 fn put_front(number: u64, cost: u64, size: u64, root: [u8; 32], hashes: u64, out: &mut [u8])
@@ -26,4 +31,81 @@ pub fn put_failure(number: u64, size: u64, root: [u8; 32], out: &mut [u8])
 {
     put_front(number, 0, size, root, 0, out);
     area::store(out, 64, 8, 0);
+}
+
+// The proof of what is read, where one is asked.
+fn put_proof<'a>(
+    asked: bool,
+    disk: &'a [u8],
+    stage: &'a [u8],
+    seen: Seen,
+    at: usize,
+    n: usize,
+    out: &mut [u8],
+)
+    requires { ⌜ Lies 4096 (now disk) (now stage) seen ⌝ }
+    requires { ⌜ (asked ≡ true → Ranged 4096 (seen .count) at n) ⌝ }
+    requires { ⌜ length (shownProof asked (now disk) (now stage) seen at n) ≤ length (now out) ⌝ }
+    ensures { λ _. ⌜ now (out .exit) ≡ put (now (out .entry)) 0 (shownProof asked (now (disk .entry)) (now (stage .entry)) seen at n) ⌝ }
+{
+    if asked {
+        view::range_proof(disk, stage, seen, at, n, out);
+    }
+}
+
+// The bytes of what is read.
+fn put_bytes<'a>(
+    reads: bool,
+    disk: &'a [u8],
+    stage: &'a [u8],
+    seen: Seen,
+    at: usize,
+    n: usize,
+    out: &mut [u8],
+)
+    requires { ⌜ Lies 4096 (now disk) (now stage) seen ⌝ }
+    requires { ⌜ (reads ≡ true → Inside 4096 (seen .count) at n) ⌝ }
+    requires { ⌜ pick reads n 0 ≤ length (now out) ⌝ }
+    ensures { λ _. ⌜ now (out .exit) ≡ put (now (out .entry)) 0 (shownBytes reads (now (disk .entry)) (now (stage .entry)) seen at n) ⌝ }
+{
+    if reads {
+        let bytes = view::span(disk, stage, seen, at, n);
+        area::copy_between(bytes, 0, out, 0, n);
+    }
+}
+
+// How many bytes are handed out.
+fn count_of(reads: bool, n: usize) -> u64
+    ensures { λ r. ⌜ r ≡ pick reads n 0 ⌝ }
+{
+    if reads {
+        return n as u64;
+    }
+    0
+}
+
+// The record of an instruction that ran: the remainder behind its front is lent on to the writer of hashes, and behind them that of bytes.
+pub fn put_success<'a>(
+    cost: u64,
+    size: u64,
+    root: [u8; 32],
+    hashes: u64,
+    asked: bool,
+    reads: bool,
+    disk: &'a [u8],
+    stage: &'a [u8],
+    seen: Seen,
+    at: usize,
+    n: usize,
+    out: &mut [u8],
+)
+    requires { ⌜ Shows (now disk) (now stage) seen asked reads at n hashes (now out) ⌝ }
+    ensures { λ _. ⌜ now (out .exit) ≡ put (now (out .entry)) 0 (recordBytes 0 cost (pair size root) hashes (shownProof asked (now (disk .entry)) (now (stage .entry)) seen at n) (pick reads n 0) (shownBytes reads (now (disk .entry)) (now (stage .entry)) seen at n)) ⌝ }
+{
+    put_front(0, cost, size, root, hashes, out);
+    put_proof(asked, disk, stage, seen, at, n, &mut out[64..]);
+    let behind = 64 + 32 * (hashes as usize);
+    let count = count_of(reads, n);
+    area::store(out, behind, 8, count);
+    put_bytes(reads, disk, stage, seen, at, n, &mut out[behind + 8..]);
 }

@@ -32,7 +32,7 @@ same-length c = search needs
 
 returns : tie.Need-returns
 unfolding front
-returns c = 
+returns c =
     let number = c .before .before .before .before .before .before .before .before .before .before .before .before .before .before .before .before .before .before .before in
     let cost = c .before .before .before .before .before .before .before .before .before .before .before .before .before .before .before in
     let size = c .before .before .before .before .before .before .before .before .before .before .before in

@@ -1,0 +1,33 @@
+-- `records::put_proof` meets its contract: nothing is laid where no proof is asked. Assumes nothing.
+use mathlib.Core.Path.{sym, ap, subst, _∙_}
+use mathlib.Core.List.{List, []}
+use Prim.Native.Nat.{ℕ, _≤_}
+use lib.ListN.{length}
+use Rattle.area.specs.Area.{put}
+use Rattle.area.proofs.Laws.Pick.{picks, skips}
+use Rattle.area.proofs.Laws.Puts.{put-nil}
+use Rattle.sia.proofs.Laws.Joined.{lay-same}
+use Rattle.records.specs.Shown.{shownProof}
+use borrow.Author.Needs.{needs}
+use Rattle.records.proofs.put_proof.Statement.{statement}
+use Rattle.records.proofs.put_proof.Tie as tie
+
+range-proof-requires : tie.Need-range-proof-requires
+unfolding shownProof
+range-proof-requires c κs = 
+    let start = c .before .before .before .before .before in
+    (start .pre .0, (start .pre .1 .0 (c .before .if1 .taken), subst (λ (l : List ℕ). length l ≤ length (start .args .out .now)) (picks (start .args .asked) _ [] (c .before .if1 .taken)) (start .pre .1 .1)))
+
+same-length : tie.Need-same-length
+same-length c = search needs
+
+returns : tie.Need-returns
+unfolding shownProof
+returns c = lay-same _ 0 _ (c .before .before .range-proof .ensures) (sym (picks _ _ [] (c .before .before .before .before .if1 .taken)))
+
+returns-2 : tie.Need-returns-2
+unfolding shownProof
+returns-2 c = sym (ap (put _ 0) (skips _ _ [] (c .if1 .left)) ∙ put-nil _ 0)
+
+pub put-proof-spec : {M : Type 1} → statement M
+put-proof-spec = tie.close (tie.spec range-proof-requires same-length returns returns-2)

@@ -1,0 +1,99 @@
+-- `records::put_success` meets its contract: the front, the proof, the count and the bytes, one behind the other. Assumes nothing.
+use mathlib.Core.Path.{_≡_}
+use Prim.Native.Nat.{_+_, _*_, _-_}
+use native.Mathlib.Omega.{arith}
+use lib.ListN.{length}
+use Rattle.sia.proofs.Laws.Joined.{lay-same}
+use Rattle.records.specs.Front.{pair}
+use Rattle.records.proofs.Laws.Parts.{length-front, rest-long, record-parts, length-two, length-three, behind, lay-behind}
+use borrow.Author.Needs.{needs}
+use Rattle.records.proofs.put_success.Statement.{statement}
+use Rattle.records.proofs.put_success.Tie as tie
+
+put-front-requires : tie.Need-put-front-requires
+put-front-requires c κs = search needs
+
+sub-put-proof : tie.Need-sub-put-proof
+sub-put-proof c = search needs
+
+part-put-proof-start : tie.Need-part-put-proof-start
+part-put-proof-start c = search needs
+
+part-put-proof-end : tie.Need-part-put-proof-end
+part-put-proof-end c = search needs
+
+put-proof-requires : tie.Need-put-proof-requires
+put-proof-requires c κs = 
+    let start = c .before .before .before .before .before .before .before .before in
+    let shows = start .pre in
+    let out = c .before .before .before .put-front .last .1 .1 .1 .1 .1 .0 in
+    (shows .lies, (shows .ranged, omega (arith, shows .count, shows .room, rest-long out 64)))
+
+mul-behind : tie.Need-mul-behind
+mul-behind c = search needs
+
+add-behind : tie.Need-add-behind
+add-behind c = search needs
+
+count-of-requires : tie.Need-count-of-requires
+count-of-requires c κs = search needs
+
+store-requires : tie.Need-store-requires
+store-requires c κs = search needs
+
+add-put-bytes : tie.Need-add-put-bytes
+add-put-bytes c = search needs
+
+sub-put-bytes : tie.Need-sub-put-bytes
+sub-put-bytes c = search needs
+
+part-put-bytes-start : tie.Need-part-put-bytes-start
+part-put-bytes-start c = search needs
+
+part-put-bytes-end : tie.Need-part-put-bytes-end
+part-put-bytes-end c = search needs
+
+put-bytes-requires : tie.Need-put-bytes-requires
+put-bytes-requires c κs = 
+    let start = c .before .before .before .before .before .before .before .before .before .before .before .before .before .before .before .before .before in
+    let shows = start .pre in
+    let out = c .before .before .before .store .last .0 in
+    (shows .lies, (shows .inside, omega (arith, shows .room, rest-long out (64 + 32 * start .args .hashes + 8))))
+
+same-length : tie.Need-same-length
+same-length c = search needs
+
+returns : tie.Need-returns
+returns c =
+    let start = c .before .before .before .before .before .before .before .before .before .before .before .before .before .before .before .before .before .before .before .before in
+    let shows = start .pre in
+    let p = pair (start .args .size) (start .args .root) in
+    let long : length (p .root) ≡ 32 = start .good .1 .1 .0 .1 .0 .1 in
+    lay-same _ 0 _
+    (behind _ _ _ (64 + 32 * start .args .hashes + 8)
+    (lay-behind _ _ _ (64 + 32 * start .args .hashes)
+    (behind _ _ _ 64 (c .before .before .before .before .before .before .before .before .before .before .before .before .before .before .before .put-front .ensures) (length-front 0 (start .args .cost) p (start .args .hashes) long) (c .before .before .before .before .before .before .before .before .before .before .before .put-proof .ensures))
+    (c .before .before .before .before .before .before .store .ensures) (length-two 0 (start .args .cost) p (start .args .hashes) _ long (shows .count)))
+    (length-three 0 (start .args .cost) p (start .args .hashes) _ _ long (shows .count)) (c .before .before .put-bytes .ensures))
+    (record-parts 0 (start .args .cost) p (start .args .hashes) _ _ _ (c .before .before .before .before .before .before .before .before .count-of .ensures))
+
+pub put-success-spec : {M : Type 1} → statement M
+put-success-spec =
+    tie.close
+    (tie.spec
+    put-front-requires
+    sub-put-proof
+    part-put-proof-start
+    part-put-proof-end
+    put-proof-requires
+    mul-behind
+    add-behind
+    count-of-requires
+    store-requires
+    add-put-bytes
+    sub-put-bytes
+    part-put-bytes-start
+    part-put-bytes-end
+    put-bytes-requires
+    same-length
+    returns)

@@ -1,0 +1,28 @@
+-- What a record shows of what was read: its proof and its bytes. Assumes nothing.
+use mathlib.Core.Path.{_≡_}
+use mathlib.Core.Bool.{Bool, true}
+use mathlib.Core.List.{List, []}
+use Prim.Native.Nat.{ℕ, _+_, _*_, _/_, _%_, _≤_}
+use lib.ListN.{length}
+use Rattle.area.specs.Pick.{pick}
+use Rattle.area.specs.Area.{part}
+use Rattle.rules.specs.View.{sector, spotOf}
+use Rattle.rules.specs.Roots.{rangeProof}
+use Rattle.view.specs.Seen.{spotsOf, Lies, Inside, Ranged}
+use Rattle.view.specs.declared.Seen.{Seen}
+
+-- the proof of the n bytes from `at` on, where one is asked
+unfoldable pub shownProof : Bool → List ℕ → List ℕ → Seen → ℕ → ℕ → List ℕ
+shownProof asked disk stage v at n = pick asked (rangeProof 4096 disk stage (spotsOf v) at n) []
+
+-- the n bytes themselves, where they are read
+unfoldable pub shownBytes : Bool → List ℕ → List ℕ → Seen → ℕ → ℕ → List ℕ
+shownBytes reads disk stage v at n = pick reads (part (sector 4096 disk stage (spotOf (v .slots) (v .staged) (at / 4096))) (at % 4096) n) []
+
+-- what is seen lies in the areas, what is shown lies in it, and there is room for the record
+pub record Shows (disk stage : List ℕ) (v : Seen) (asked reads : Bool) (at n hashes : ℕ) (out : List ℕ) : Type 0 where
+  pub lies : Lies 4096 disk stage v
+  pub inside : reads ≡ true → Inside 4096 (v .count) at n
+  pub ranged : asked ≡ true → Ranged 4096 (v .count) at n
+  pub count : length (shownProof asked disk stage v at n) ≡ 32 * hashes
+  pub room : 72 + 32 * hashes + pick reads n 0 ≤ length out
