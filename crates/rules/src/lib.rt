@@ -1,8 +1,5 @@
-// The machine. What its calls mean stands in specs/; of the code there are the answers of the calls, and whether a program is going.
-ghost use mathlib.Core.Path.{_≡_};
-ghost use Rattle.rules.specs.Run as Says;
+// What the machine means stands in specs/: document 01 as definitions, and the demands. Here are the structs and the enum that they use.
 use host::Host;
-use host::Program;
 
 // Where the bytes of a sector are: in a slot of the disk, or of the stage.
 pub enum Spot {
@@ -22,17 +19,4 @@ pub struct Reached {
     pub number: u64,
     pub size: u64,
     pub root: [u8; 32],
-}
-
-// Whether a program has neither ended nor failed.
-pub fn going(program: Program) -> bool
-    ensures { λ r. ⌜ r ≡ Says.going (program .terms) (program .progress) ⌝ }
-{
-    let progress = program.progress;
-    if progress.failed {
-        return false;
-    }
-    let terms = program.terms;
-    let head = terms.head;
-    progress.ran < head.count
 }

@@ -18,7 +18,7 @@ span-requires : tie.Need-span-requires
 span-requires c κs = let start = c .before .before .before .before in (start .pre .0, start .pre .1 .0 (c .if1 .taken))
 
 copy-between-requires : tie.Need-copy-between-requires
-copy-between-requires c κs = 
+copy-between-requires c κs =
     let start = c .before .before .before .before .before .before in
     let read = c .before .span .ensures .1 in
     let room = subst (λ (k : ℕ). k ≤ length (start .args .out .now)) (picks (start .args .reads) (start .args .n) 0 (c .before .before .if1 .taken)) (start .pre .1 .1) in

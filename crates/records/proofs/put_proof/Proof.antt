@@ -14,7 +14,7 @@ use Rattle.records.proofs.put_proof.Tie as tie
 
 range-proof-requires : tie.Need-range-proof-requires
 unfolding shownProof
-range-proof-requires c κs = 
+range-proof-requires c κs =
     let start = c .before .before .before .before .before in
     (start .pre .0, (start .pre .1 .0 (c .before .if1 .taken), subst (λ (l : List ℕ). length l ≤ length (start .args .out .now)) (picks (start .args .asked) _ [] (c .before .if1 .taken)) (start .pre .1 .1)))
 

@@ -23,7 +23,7 @@ part-put-proof-end : tie.Need-part-put-proof-end
 part-put-proof-end c = search needs
 
 put-proof-requires : tie.Need-put-proof-requires
-put-proof-requires c κs = 
+put-proof-requires c κs =
     let start = c .before .before .before .before .before .before .before .before in
     let shows = start .pre in
     let out = c .before .before .before .put-front .last .1 .1 .1 .1 .1 .0 in
@@ -54,7 +54,7 @@ part-put-bytes-end : tie.Need-part-put-bytes-end
 part-put-bytes-end c = search needs
 
 put-bytes-requires : tie.Need-put-bytes-requires
-put-bytes-requires c κs = 
+put-bytes-requires c κs =
     let start = c .before .before .before .before .before .before .before .before .before .before .before .before .before .before .before .before .before in
     let shows = start .pre in
     let out = c .before .before .before .store .last .0 in

@@ -2,9 +2,9 @@
 use mathlib.Core.Path.{refl, ap}
 use mathlib.Core.Bool.{not}
 use Rattle.area.proofs.Laws.Pick.{yes, no}
 use Rattle.rules.specs.Run.{going}
-use Rattle.rules.proofs.going.Statement.{statement}
-use Rattle.rules.proofs.going.Tie as tie
+use Rattle.machine.proofs.going.Statement.{statement}
+use Rattle.machine.proofs.going.Tie as tie
 
 returns : tie.Need-returns
 unfolding going
