@@ -19,8 +19,10 @@ pub use places::find;
 pub use places::place_of;
 pub use places::sizes_fit;
 use sia::Head;
+pub use slots::Slots;
 pub use slots::free_copy;
 pub use slots::free_slot;
+pub use slots::slots_taken;
 
 // A place for a contract. Of the slots, those below its size in sectors: `slots[p]` is the disk slot of position p.
 pub struct Place {

@@ -2,3 +2,4 @@
 pub mod Sectors
 pub mod Pieces
 pub mod Roots
+pub mod Sights

@@ -1,2 +1,3 @@
--- The laws that the proofs cite, and what callers may use of what is seen.
+-- The laws that the proofs cite, and what callers use.
 pub mod Laws
+pub mod Callers

@@ -16,10 +16,14 @@ use Rattle.view.specs.declared.Seen.{Seen}
 unfoldable pub spotsOf : Seen → List Spot
 spotsOf v = tab 0 (v .count) (spotOf (v .slots) (v .staged))
 
--- the bytes of a slot are within their area
+-- the bytes of slot n are within the area
+unfoldable pub holds : ℕ → List ℕ → ℕ → Bool
+holds z area n = leb (n * z + z) (length area)
+
+-- those of a spot are within its area
 unfoldable pub lies : ℕ → List ℕ → List ℕ → Spot → Bool
-lies z disk stage (OnDisk n) = leb (n * z + z) (length disk)
-lies z disk stage (InStage n) = leb (n * z + z) (length stage)
+lies z disk stage (OnDisk n) = holds z disk n
+lies z disk stage (InStage n) = holds z stage n
 
 -- at most 64 sectors are seen, and all lie within the areas
 pub record Lies (z : ℕ) (disk stage : List ℕ) (v : Seen) : Type 0 where

@@ -3,12 +3,16 @@ ghost use mathlib.Core.Path.{_≡_};
 
 mod roots; // roots.rt: roots and proofs of what is seen
 mod sectors; // sectors.rt: where a sector is, and its bytes
+mod sights; // sights.rt: what is seen of the parent, of a committed contract, and of the sector with a root
 
 pub use roots::contract_root;
 pub use roots::range_count;
 pub use roots::range_proof;
 pub use sectors::sector;
 pub use sectors::span;
+pub use sights::committed_seen;
+pub use sights::find_root;
+pub use sights::parent_seen;
 
 // What is seen: the first `count` positions. `slots[p]` is the disk slot of position p, `staged[p]` its stage slot, or Progress::NONE.
 pub struct Seen {

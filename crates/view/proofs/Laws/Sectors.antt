@@ -15,7 +15,7 @@ use Rattle.host.specs.Empty.{none}
 use Rattle.rules.specs.View.{sector, spotOf}
 use Rattle.rules.specs.declared.Spot.{Spot}
 use Rattle.rules.specs.declared.Spot.the-variants.{OnDisk, InStage}
-use Rattle.view.specs.Seen.{spotsOf, lies, Lies}
+use Rattle.view.specs.Seen.{spotsOf, holds, lies, Lies}
 use Rattle.view.specs.declared.Seen.{Seen}
 
 -- ---- where a position is
@@ -42,11 +42,11 @@ module _ (slots staged : List ℕ) (at n : ℕ) (long : length staged ≡ n) (h 
 
 module _ (z : ℕ) (disk stage : List ℕ) {x : Spot} (n : ℕ) where
   pub on-disk : x ≡ OnDisk n → lies z disk stage x ≡ true → n * z + z ≤ length disk
-  unfolding lies
+  unfolding lies holds
   on-disk e h = leb-true _ _ (ap (lies z disk stage) (sym e) ∙ h)
 
   pub in-stage : x ≡ InStage n → lies z disk stage x ≡ true → n * z + z ≤ length stage
-  unfolding lies
+  unfolding lies holds
   in-stage e h = leb-true _ _ (ap (lies z disk stage) (sym e) ∙ h)
 
 slot : (z : ℕ) (l : List ℕ) (n : ℕ) → n * z + z ≤ length l → length (take (n * z + z - n * z) (drop (n * z) l)) ≡ z
@@ -71,7 +71,7 @@ module _ (z : ℕ) (disk stage : List ℕ) (x : Spot) (n : ℕ) where
 
 -- the bytes of a sector that lies within its area
 pub sector-long : (z : ℕ) (disk stage : List ℕ) (x : Spot) → lies z disk stage x ≡ true → length (sector z disk stage x) ≡ z
-unfolding sector lies
+unfolding sector lies holds
 sector-long z disk stage (OnDisk n) h = length-part disk (n * z) z (leb-true _ _ h)
 sector-long z disk stage (InStage n) h = length-part stage (n * z) z (leb-true _ _ h)
 

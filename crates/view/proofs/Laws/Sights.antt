@@ -1,0 +1,77 @@
+-- What is seen of committed sectors, and of the first sector that has a root. z is the sector size. Assumes nothing.
+use mathlib.Core.Path.{_≡_, refl, sym, ap, _∙_}
+use mathlib.Core.Bool.{true, false}
+use mathlib.Core.List.{List, [], _∷_}
+use Prim.Native.Nat.{ℕ, zero, suc, _+_, _/_, _≤_, _<_}
+use native.Mathlib.Omega.{arith}
+use lib.ListN.{length, take, drop, getD, replicate}
+use lib.Seq.{slice, drop-cons}
+use borrow.Author.Tests.{eq-eqb}
+use Rattle.area.specs.Area.{same, tab}
+use Rattle.area.proofs.Laws.Pick.{picks, skips, yes, no}
+use Rattle.host.specs.Lists.{each}
+use Rattle.host.specs.Empty.{none}
+use Rattle.host.specs.Places.{committed}
+use Rattle.host.specs.declared.Place.{Place}
+use Rattle.host.proofs.Laws.Slices.{slice-none, slice-one}
+use Rattle.rules.specs.View.{sector, spotOf, committedSpots}
+use Rattle.rules.specs.Roots.{sectorRoot, firstRoot}
+use Rattle.rules.specs.declared.Spot.{Spot}
+use Rattle.rules.specs.declared.Spot.the-variants.{OnDisk}
+
+-- ---- committed sectors: nothing is staged
+
+pub none-staged : (n j : ℕ) → getD (replicate n none) j none ≡ none
+none-staged zero j = refl
+none-staged (suc n) zero = refl
+none-staged (suc n) (suc j) = none-staged n j
+
+module _ (slots staged : List ℕ) (unstaged : (j : ℕ) → getD staged j none ≡ none) where
+  on-disk : (j : ℕ) → spotOf slots staged j ≡ OnDisk (getD slots j 0)
+  unfolding spotOf
+  on-disk j = picks _ _ _ (eq-eqb _ _ (unstaged j))
+
+  from : (i n : ℕ) → i + n ≤ length slots → tab i n (spotOf slots staged) ≡ each OnDisk (take n (drop i slots))
+  unfolding tab each
+  from i zero h = refl
+  from i (suc n) h =
+      (λ k. on-disk i k ∷ from (suc i) n (omega arith) k)
+      ∙ ap (λ (l : List ℕ). each OnDisk (take (suc n) l)) (sym (drop-cons slots i 0 (omega arith)))
+
+  pub seen-committed : (z : ℕ) (p : Place) → p .held ≡ true → p .slots ≡ slots → p .size / z ≤ length slots
+      → tab 0 (p .size / z) (spotOf slots staged) ≡ committedSpots z p
+  unfolding committedSpots committed
+  seen-committed z p e q h =
+      from 0 (p .size / z) (omega arith)
+      ∙ ap (λ (l : List ℕ). each OnDisk (take (p .size / z) l)) (sym q)
+      ∙ ap (each OnDisk) (yes (p .held) (take (p .size / z) (p .slots)) [] e refl)
+
+pub seen-nothing : (z : ℕ) (p : Place) → p .held ≡ false → [] ≡ committedSpots z p
+unfolding committedSpots committed each
+seen-nothing z p e = ap (each OnDisk) (no (p .held) (take (p .size / z) (p .slots)) [] e refl)
+
+-- ---- one turn of the loop that looks for a root among the slots from f to t
+
+-- the stage is not looked at for a sector on the disk
+pub disk-root : (z : ℕ) (disk stage : List ℕ) (n : ℕ) → sectorRoot z disk stage (OnDisk n) ≡ sectorRoot z disk [] (OnDisk n)
+unfolding sectorRoot sector
+disk-root z disk stage n = refl
+
+module _ (z : ℕ) (disk key l : List ℕ) (f t : ℕ) {n : ℕ} (long : length l ≡ n) where
+  pub first-here : f < t → t ≤ n → same (sectorRoot z disk [] (OnDisk (getD l f 0))) key ≡ true
+      → OnDisk (getD l f 0) ∷ [] ≡ firstRoot z disk key (each OnDisk (slice f t l))
+  unfolding firstRoot each
+  first-here h g e = rw (slice-one l f t 0 long h g) (yes _ _ _ e refl)
+
+  pub first-further : f < t → t ≤ n → same (sectorRoot z disk [] (OnDisk (getD l f 0))) key ≡ false
+      → firstRoot z disk key (each OnDisk (slice f t l)) ≡ firstRoot z disk key (each OnDisk (slice (f + 1) t l))
+  unfolding firstRoot each
+  first-further h g e = rw (slice-one l f t 0 long h g) (skips _ _ _ e)
+
+pub first-none : (z : ℕ) (disk key l : List ℕ) (f t : ℕ) → t ≤ f → [] ≡ firstRoot z disk key (each OnDisk (slice f t l))
+unfolding firstRoot each
+first-none z disk key l f t h = rw (slice-none l f t h)
+
+-- of other slots that are the same
+pub first-same : (z : ℕ) (disk key : List ℕ) {l m : List ℕ} {x : List Spot} → x ≡ firstRoot z disk key (each OnDisk l) → l ≡ m → x ≡ firstRoot z disk key (each OnDisk m)
+first-same z disk key e q = e ∙ ap (λ (l : List ℕ). firstRoot z disk key (each OnDisk l)) q

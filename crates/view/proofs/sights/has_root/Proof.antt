@@ -1,0 +1,39 @@
+-- `has_root` meets its contract: for a sector on the disk the stage is not looked at. Assumes nothing.
+use mathlib.Core.Path.{ap, _∙_}
+use mathlib.Core.List.{List}
+use Prim.Native.Nat.{ℕ}
+use borrow.Author.Needs.{needs}
+use Rattle.area.specs.Area.{same}
+use Rattle.view.specs.Seen.{lies}
+use Rattle.view.proofs.Laws.Sights.{disk-root}
+use Rattle.view.proofs.sights.has_root.Statement.{statement}
+use Rattle.view.proofs.sights.has_root.Tie as tie
+
+sector-root-requires : tie.Need-sector-root-requires
+unfolding lies
+sector-root-requires c κs = c .before .pre
+
+slice-aggregate-same : tie.Need-slice-aggregate-same
+slice-aggregate-same c = search needs
+
+slice-aggregate-same-2 : tie.Need-slice-aggregate-same-2
+slice-aggregate-same-2 c = search needs
+
+same-requires : tie.Need-same-requires
+same-requires c κs = search needs
+
+returns : tie.Need-returns
+returns c =
+    let s = c .before .before .before .before .before in
+    c .same .ensures
+    ∙ ap (λ (x : List ℕ). same x (s .args .t3)) (c .before .before .before .sector-root .ensures ∙ disk-root 4096 (s .args .disk .now) (s .args .disk .now) (s .args .n))
+
+pub has-root-spec : {M : Type 1} → statement M
+has-root-spec =
+    tie.close
+    (tie.spec
+    sector-root-requires
+    slice-aggregate-same
+    slice-aggregate-same-2
+    same-requires
+    returns)

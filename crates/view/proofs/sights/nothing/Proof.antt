@@ -1,0 +1,13 @@
+-- `nothing` meets its contract. Assumes nothing.
+use mathlib.Core.Path.{refl}
+use Rattle.area.specs.Area.{tab}
+use Rattle.view.specs.Seen.{spotsOf}
+use Rattle.view.proofs.sights.nothing.Statement.{statement}
+use Rattle.view.proofs.sights.nothing.Tie as tie
+
+returns : tie.Need-returns
+unfolding spotsOf tab
+returns c = refl
+
+pub nothing-spec : {M : Type 1} → statement M
+nothing-spec = tie.close (tie.spec returns)

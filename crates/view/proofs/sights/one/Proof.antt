@@ -1,0 +1,15 @@
+-- `one` meets its contract: the position is not staged. Assumes nothing.
+use mathlib.Core.Path.{refl}
+use Rattle.area.specs.Pick.{pick}
+use Rattle.area.specs.Area.{tab}
+use Rattle.rules.specs.View.{spotOf}
+use Rattle.view.specs.Seen.{spotsOf}
+use Rattle.view.proofs.sights.one.Statement.{statement}
+use Rattle.view.proofs.sights.one.Tie as tie
+
+returns : tie.Need-returns
+unfolding spotsOf tab spotOf pick
+returns c = refl
+
+pub one-spec : {M : Type 1} → statement M
+one-spec = tie.close (tie.spec returns)
