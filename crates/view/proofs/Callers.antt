@@ -1,7 +1,7 @@
 -- What callers use: what is seen of a machine in order lies within its areas, and contracts of this crate in the machine's own words.
 -- Sectors are 4,096 bytes where that is said. Assumes nothing.
 use mathlib.Core.Path.{_≡_, refl, sym, ap, _∙_}
-use mathlib.Core.Bool.{Bool, true, false, not}
+use mathlib.Core.Bool.{true, false}
 use mathlib.Core.List.{List, [], _∷_}
 use Prim.Native.Nat.{ℕ, suc, _+_, _*_, _/_, _%_, _≤_, _<_}
 use native.Mathlib.Nat.{mul-le-mul-right, suc-mul}
@@ -26,7 +26,7 @@ use Rattle.host.specs.declared.Place.{Place}
 use Rattle.host.specs.declared.Progress.{Progress}
 use Rattle.rules.specs.declared.Spot.{Spot}
 use Rattle.rules.specs.declared.Spot.the-variants.{OnDisk, InStage}
-use Rattle.view.specs.Seen.{spotsOf, holds, lies, Lies, Inside, Ranged}
+use Rattle.view.specs.Seen.{spotsOf, holds, lies, spanOf, Lies, Inside, Ranged}
 use Rattle.view.specs.declared.Seen.{Seen}
 use Rattle.view.proofs.Laws.Roots.{seen-count, seen-at}
 
@@ -85,11 +85,11 @@ range-ranged op a m b p =
 
 -- `span` gives what a read hands out
 pub span-output : (z : ℕ) (disk stage : List ℕ) (v : Seen) (a : Args) → a .first / z < v .count
-    → part (sector z disk stage (spotOf (v .slots) (v .staged) (a .first / z))) (a .first % z) (a .len) ≡ outputOf z disk stage (spotsOf v) a
+    → spanOf z disk stage v (a .first) (a .len) ≡ outputOf z disk stage (spotsOf v) a
 unfolding outputOf
 span-output z disk stage v a h = at (spotsOf v) (omega (arith, seen-count v)) (λ d. seen-at v (a .first / z) d h) where
   at : (l : List Spot) → a .first / z < length l → ((d : Spot) → getD l (a .first / z) d ≡ spotOf (v .slots) (v .staged) (a .first / z))
-      → part (sector z disk stage (spotOf (v .slots) (v .staged) (a .first / z))) (a .first % z) (a .len) ≡ outputOf z disk stage l a
+      → spanOf z disk stage v (a .first) (a .len) ≡ outputOf z disk stage l a
   at [] lt f = absurd (omega arith)
   at (x ∷ xs) lt f = ap (λ (y : Spot). part (sector z disk stage y) (a .first % z) (a .len)) (sym (f x))
 

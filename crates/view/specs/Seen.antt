@@ -5,9 +5,9 @@ use mathlib.Core.List.{List}
 use Prim.Native.Nat.{ℕ, _+_, _*_, _/_, _%_, _≤_, _<_}
 use lib.ListN.{length}
 use lib.Dec.{leb}
-use Rattle.area.specs.Area.{tab}
+use Rattle.area.specs.Area.{part, tab}
 use Rattle.sia.specs.Encode.{every}
-use Rattle.rules.specs.View.{spotOf}
+use Rattle.rules.specs.View.{sector, spotOf}
 use Rattle.rules.specs.declared.Spot.{Spot}
 use Rattle.rules.specs.declared.Spot.the-variants.{OnDisk, InStage}
 use Rattle.view.specs.declared.Seen.{Seen}
@@ -30,12 +30,16 @@ pub record Lies (z : ℕ) (disk stage : List ℕ) (v : Seen) : Type 0 where
   pub few : v .count ≤ 64
   pub spots : every (lies z disk stage) (spotsOf v) ≡ true
 
--- the n bytes from `at` on lie in one of so many sectors
+-- the n bytes from `at` on, in the sector where they begin
+abbrev pub spanOf : ℕ → List ℕ → List ℕ → Seen → ℕ → ℕ → List ℕ
+spanOf z disk stage v at n = part (sector z disk stage (spotOf (v .slots) (v .staged) (at / z))) (at % z) n
+
+-- they lie in one of so many sectors
 pub record Inside (z count at n : ℕ) : Type 0 where
   pub below : at / z < count
   pub one : at % z + n ≤ z
 
--- they do, and are whole segments, one at least
+-- they do so, and are whole segments, one at least
 pub record Ranged (z count at n : ℕ) : Type 0 where
   pub inside : Inside z count at n
   pub some : 0 < n

@@ -1,5 +1,4 @@
 // What the machine sees of contracts: the bytes of a sector, in whichever area holds it, and roots and proofs of what is seen.
-ghost use mathlib.Core.Path.{_≡_};
 
 mod roots; // roots.rt: roots and proofs of what is seen
 mod sectors; // sectors.rt: where a sector is, and its bytes

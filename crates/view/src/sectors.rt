@@ -1,12 +1,11 @@
 // Where a sector is, and its bytes: a part of the area that holds it, never a copy.
 ghost use mathlib.Core.Path.{_≡_};
 ghost use mathlib.Core.Bool.{true};
-ghost use Prim.Native.Nat.{_/_, _%_, _<_};
+ghost use Prim.Native.Nat.{_<_};
 ghost use lib.ListN.{length};
-ghost use Rattle.area.specs.Area.{part};
 ghost use Rattle.rules.specs.View as Says;
 ghost use Rattle.rules.specs.View.{spotOf};
-ghost use Rattle.view.specs.Seen.{lies, Lies, Inside};
+ghost use Rattle.view.specs.Seen.{lies, spanOf, Lies, Inside};
 use crate::Seen;
 use host::Progress;
 use rules::Spot;
@@ -44,7 +43,7 @@ pub fn sector<'a>(disk: &'a [u8], stage: &'a [u8], spot: Spot) -> &'a [u8]
 pub fn span<'a>(disk: &'a [u8], stage: &'a [u8], seen: Seen, at: usize, n: usize) -> &'a [u8]
     requires { ⌜ Lies 4096 (now disk) (now stage) seen ⌝ }
     requires { ⌜ Inside 4096 (seen .count) at n ⌝ }
-    ensures { λ r. ⌜ (now r ≡ part (Says.sector 4096 (now (disk .entry)) (now (stage .entry)) (spotOf (seen .slots) (seen .staged) (at / 4096))) (at % 4096) n) × (length (now r) ≡ n) ⌝ }
+    ensures { λ r. ⌜ (now r ≡ spanOf 4096 (now (disk .entry)) (now (stage .entry)) seen at n) × (length (now r) ≡ n) ⌝ }
 {
     let slots = seen.slots;
     let staged = seen.staged;

@@ -2,12 +2,13 @@
 ghost use mathlib.Core.Path.{_≡_};
 ghost use mathlib.Core.Bool.{true};
 ghost use mathlib.Core.List.{[], _∷_};
-ghost use Prim.Native.Nat.{_/_, _≤_};
-ghost use lib.ListN.{take};
+ghost use Prim.Native.Nat.{_/_, _≤_, _<_};
+ghost use lib.ListN.{length, getD};
 ghost use Rattle.area.specs.Area.{same, tab};
 ghost use Rattle.sia.specs.Encode.{every};
 ghost use Rattle.host.specs.Lists.{each};
 ghost use Rattle.host.specs.Places.{taken};
+ghost use Rattle.host.specs.Listed.{listed};
 ghost use Rattle.host.specs.Order.{placeInOrder};
 ghost use Rattle.rules.specs.View.{spotOf, committedSpots};
 ghost use Rattle.rules.specs.Roots.{sectorRoot, firstRoot};
@@ -17,6 +18,7 @@ use crate::Seen;
 use crate::roots;
 use host::Host;
 use host::Place;
+use host::Slots;
 use rules::Spot;
 
 // No sector.
@@ -77,18 +79,32 @@ fn has_root(disk: &[u8], n: usize, key: [u8; 32]) -> bool
     ensures { λ r. ⌜ r ≡ same (sectorRoot 4096 (now (disk .entry)) [] (OnDisk n)) key ⌝ }
 {
     let root = roots::sector_root(disk, disk, Spot::OnDisk(n));
-    area::same(&root, &key)
+    agrees(&root, &key)
 }
 
-// The first sector with that root, of those in the first `count` slots listed; no sector where none has it.
-fn first_root(disk: &[u8], items: [u8; 512], count: usize, key: [u8; 32]) -> Seen
-    requires { ⌜ count ≤ 512 ⌝ }
-    requires { ⌜ every (holds 4096 (now disk)) (take count items) ≡ true ⌝ }
-    ensures { λ r. ⌜ spotsOf r ≡ firstRoot 4096 (now (disk .entry)) key (each OnDisk (take count items)) ⌝ }
+// Whether two roots are the same, all bytes of both.
+fn agrees(one: &[u8], two: &[u8]) -> bool
+    ensures { λ r. ⌜ r ≡ same (now (one .entry)) (now (two .entry)) ⌝ }
+{
+    area::same(one, two)
+}
+
+// Slot i of those listed.
+fn slot_at(slots: &[u8], i: usize) -> u8
+    requires { ⌜ i < length (now slots) ⌝ }
+    ensures { λ r. ⌜ r ≡ getD (now (slots .entry)) i 0 ⌝ }
+{
+    slots[i]
+}
+
+// The first sector with that root, of those in the disk slots listed; no sector where none has it.
+fn first_root(disk: &[u8], slots: &[u8], key: [u8; 32]) -> Seen
+    requires { ⌜ every (holds 4096 (now disk)) (now slots) ≡ true ⌝ }
+    ensures { λ r. ⌜ spotsOf r ≡ firstRoot 4096 (now (disk .entry)) key (each OnDisk (now (slots .entry))) ⌝ }
 {
     let mut i: usize = 0;
-    while i < count {
-        let n = items[i];
+    while i < slots.len() {
+        let n = slot_at(slots, i);
         if has_root(disk, n as usize, key) {
             return one(n);
         }
@@ -97,13 +113,22 @@ fn first_root(disk: &[u8], items: [u8; 512], count: usize, key: [u8; 32]) -> See
     nothing()
 }
 
+// The same, of the slots that an array lists.
+fn first_listed(disk: &[u8], all: Slots, key: [u8; 32]) -> Seen
+    requires { ⌜ all .count ≤ 512 ⌝ }
+    requires { ⌜ every (holds 4096 (now disk)) (listed all) ≡ true ⌝ }
+    ensures { λ r. ⌜ spotsOf r ≡ firstRoot 4096 (now (disk .entry)) key (each OnDisk (listed all)) ⌝ }
+{
+    let items = all.items;
+    let count = all.count;
+    first_root(disk, &items[..count], key)
+}
+
 // The first committed sector with that root, by contract place, then position; no sector where none has it.
 pub fn find_root(disk: &[u8], places: [Place; 8], key: [u8; 32]) -> Seen
     requires { ⌜ every (holds 4096 (now disk)) (taken 4096 places) ≡ true ⌝ }
     ensures { λ r. ⌜ spotsOf r ≡ firstRoot 4096 (now (disk .entry)) key (each OnDisk (taken 4096 places)) ⌝ }
 {
     let all = host::slots_taken(places);
-    let items = all.items;
-    let count = all.count;
-    first_root(disk, items, count, key)
+    first_listed(disk, all, key)
 }

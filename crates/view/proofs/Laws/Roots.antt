@@ -5,7 +5,7 @@ use mathlib.Core.List.{List, [], _∷_}
 use Prim.Native.Nat.{ℕ, _+_, _*_, _/_, _%_, _≤_, _<_}
 use native.Mathlib.Nat.{mul-comm}
 use native.Mathlib.Omega.{arith}
-use lib.ListN.{length, getD}
+use lib.ListN.{length, take, getD, length-take}
 use lib.Dec.{leb}
 use borrow.Author.Tests.{eq-eqb, lt-ltb, le-leb}
 use Rattle.area.specs.Pick.{pick, both}
@@ -148,6 +148,10 @@ module _ (disk stage : List ℕ) (v : Seen) (l : Lies 4096 disk stage v) {rs : L
   pub seen-roots : length rs ≡ 32 * v .count
   seen-roots = ap length e ∙ roots-long disk stage (spotsOf v) (l .spots) few ∙ ap (λ (n : ℕ). 32 * n) (seen-count v)
 
+  -- the array that they are the front of is as long at least
+  pub seen-room : (k : ℕ) (a : List ℕ) → rs ≡ take (32 * v .count) a → k ≤ v .count → 32 * k ≤ length a
+  seen-room k a q h = omega (arith, seen-roots, ap length q, length-take (32 * v .count) a)
+
   pub seen-join : join rs ≡ contractRoot 4096 disk stage (spotsOf v)
   seen-join = ap join e ∙ sym (contract-join disk stage (spotsOf v) (l .spots) few)
 
@@ -160,6 +164,7 @@ module _ (disk stage : List ℕ) (v : Seen) (l : Lies 4096 disk stage v) {rs : L
       let here : at / 4096 < length (spotsOf v) = omega (arith, seen-count v, g .inside .below) in
       let inside : at % 4096 / 64 + n / 64 ≤ 64 = omega (arith, g .inside .one) in
       let some : at % 4096 / 64 < at % 4096 / 64 + n / 64 = omega (arith, g .some, g .whole) in
-      (λ i. proofIn (e i) (at / 4096) ((q ∙ ap (sector 4096 disk stage) (sym (seen-at v (at / 4096) (OnDisk 0) (g .inside .below)))) i) (at % 4096 / 64) (at % 4096 / 64 + n / 64))
+      let here-is = q ∙ ap (sector 4096 disk stage) (sym (seen-at v (at / 4096) (OnDisk 0) (g .inside .below))) in
+      (λ i. proofIn (e i) (at / 4096) (here-is i) (at % 4096 / 64) (at % 4096 / 64 + n / 64))
       ∙ proof-within disk stage (spotsOf v) (l .spots) few (at / 4096) (OnDisk 0) (at % 4096 / 64) (at % 4096 / 64 + n / 64) here some inside
       ∙ (λ i. proof (whole 4096 disk stage (spotsOf v)) (first i) (end i))

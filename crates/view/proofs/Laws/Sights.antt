@@ -3,9 +3,10 @@ use mathlib.Core.Path.{_≡_, refl, sym, ap, _∙_}
 use mathlib.Core.Bool.{true, false}
 use mathlib.Core.List.{List, [], _∷_}
 use Prim.Native.Nat.{ℕ, zero, suc, _+_, _/_, _≤_, _<_}
+use native.Mathlib.Numerals.{add-one}
 use native.Mathlib.Omega.{arith}
-use lib.ListN.{length, take, drop, getD, replicate}
-use lib.Seq.{slice, drop-cons}
+use lib.ListN.{length, take, drop, getD, replicate, drop-of-length-le}
+use lib.Seq.{drop-cons}
 use borrow.Author.Tests.{eq-eqb}
 use Rattle.area.specs.Area.{same, tab}
 use Rattle.area.proofs.Laws.Pick.{picks, skips, yes, no}
@@ -13,7 +14,6 @@ use Rattle.host.specs.Lists.{each}
 use Rattle.host.specs.Empty.{none}
 use Rattle.host.specs.Places.{committed}
 use Rattle.host.specs.declared.Place.{Place}
-use Rattle.host.proofs.Laws.Slices.{slice-none, slice-one}
 use Rattle.rules.specs.View.{sector, spotOf, committedSpots}
 use Rattle.rules.specs.Roots.{sectorRoot, firstRoot}
 use Rattle.rules.specs.declared.Spot.{Spot}
@@ -50,27 +50,27 @@ pub seen-nothing : (z : ℕ) (p : Place) → p .held ≡ false → [] ≡ commit
 unfolding committedSpots committed each
 seen-nothing z p e = ap (each OnDisk) (no (p .held) (take (p .size / z) (p .slots)) [] e refl)
 
--- ---- one turn of the loop that looks for a root among the slots from f to t
+-- ---- one turn of the loop that looks for a root: slot i and those behind it are left
 
 -- the stage is not looked at for a sector on the disk
 pub disk-root : (z : ℕ) (disk stage : List ℕ) (n : ℕ) → sectorRoot z disk stage (OnDisk n) ≡ sectorRoot z disk [] (OnDisk n)
 unfolding sectorRoot sector
 disk-root z disk stage n = refl
 
-module _ (z : ℕ) (disk key l : List ℕ) (f t : ℕ) {n : ℕ} (long : length l ≡ n) where
-  pub first-here : f < t → t ≤ n → same (sectorRoot z disk [] (OnDisk (getD l f 0))) key ≡ true
-      → OnDisk (getD l f 0) ∷ [] ≡ firstRoot z disk key (each OnDisk (slice f t l))
+module _ (z : ℕ) (disk key l : List ℕ) (i : ℕ) where
+  pub first-here : {n : ℕ} → i < length l → n ≡ getD l i 0 → same (sectorRoot z disk [] (OnDisk n)) key ≡ true
+      → OnDisk n ∷ [] ≡ firstRoot z disk key (each OnDisk (drop i l))
   unfolding firstRoot each
-  first-here h g e = rw (slice-one l f t 0 long h g) (yes _ _ _ e refl)
+  first-here h q e = rw (drop-cons l i 0 h, ← q) (yes _ _ _ e refl)
 
-  pub first-further : f < t → t ≤ n → same (sectorRoot z disk [] (OnDisk (getD l f 0))) key ≡ false
-      → firstRoot z disk key (each OnDisk (slice f t l)) ≡ firstRoot z disk key (each OnDisk (slice (f + 1) t l))
+  pub first-further : {n : ℕ} → i < length l → n ≡ getD l i 0 → same (sectorRoot z disk [] (OnDisk n)) key ≡ false
+      → firstRoot z disk key (each OnDisk (drop i l)) ≡ firstRoot z disk key (each OnDisk (drop (i + 1) l))
   unfolding firstRoot each
-  first-further h g e = rw (slice-one l f t 0 long h g) (skips _ _ _ e)
+  first-further h q e = rw (drop-cons l i 0 h, ← q, add-one i) (skips _ _ _ e)
 
-pub first-none : (z : ℕ) (disk key l : List ℕ) (f t : ℕ) → t ≤ f → [] ≡ firstRoot z disk key (each OnDisk (slice f t l))
-unfolding firstRoot each
-first-none z disk key l f t h = rw (slice-none l f t h)
+  pub first-none : length l ≤ i → [] ≡ firstRoot z disk key (each OnDisk (drop i l))
+  unfolding firstRoot each
+  first-none h = rw (drop-of-length-le l {i = i} h)
 
 -- of other slots that are the same
 pub first-same : (z : ℕ) (disk key : List ℕ) {l m : List ℕ} {x : List Spot} → x ≡ firstRoot z disk key (each OnDisk l) → l ≡ m → x ≡ firstRoot z disk key (each OnDisk m)

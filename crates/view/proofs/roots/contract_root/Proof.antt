@@ -1,8 +1,9 @@
 -- `contract_root` meets its contract: the join of the sectors' roots. Assumes nothing.
-use mathlib.Core.Path.{sym, _∙_}
+use mathlib.Core.Path.{refl, sym, _∙_}
 use native.Mathlib.Omega.{arith}
+use lib.Seq.{length-take-le}
 use borrow.Author.Needs.{needs}
-use Rattle.view.proofs.Laws.Roots.{join-given, seen-roots, seen-join}
+use Rattle.view.proofs.Laws.Roots.{join-given, seen-roots, seen-room, seen-join}
 use Rattle.view.proofs.roots.contract_root.Statement.{statement}
 use Rattle.view.proofs.roots.contract_root.Tie as tie
 
@@ -16,7 +17,9 @@ array-share-prefix-roots : tie.Need-array-share-prefix-roots
 array-share-prefix-roots c = search needs
 
 slice-aggregate-join : tie.Need-slice-aggregate-join
-slice-aggregate-join c = sym (seen-roots _ _ (c .before .before .before .before .args .seen) (c .before .before .before .before .pre) (c .before .sector-roots .ensures))
+slice-aggregate-join c =
+    let s = c .before .before .before .before in
+    sym (length-take-le _ _ (seen-room _ _ (s .args .seen) (s .pre) (c .before .sector-roots .ensures) _ _ refl (omega arith)))
 
 join-requires : tie.Need-join-requires
 join-requires c κs = search needs

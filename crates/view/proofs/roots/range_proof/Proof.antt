@@ -1,14 +1,14 @@
 -- `range_proof` meets its contract: the proof within one sector is that of the range of all. Assumes nothing.
-use mathlib.Core.Path.{_≡_, sym, ap, _∙_}
-use mathlib.Core.List.{List}
-use Prim.Native.Nat.{ℕ, _+_, _/_, _%_, _≤_, _<_}
+use mathlib.Core.Path.{refl, sym, ap, _∙_}
+use Prim.Native.Nat.{_+_, _/_, _%_, _≤_, _<_}
 use native.Mathlib.Omega.{arith}
 use lib.ListN.{length}
+use lib.Seq.{length-take-le}
 use borrow.Author.Needs.{needs}
 use Rattle.area.specs.Area.{put}
 use Rattle.rules.specs.View.{sector}
 use Rattle.view.proofs.Laws.Sectors.{seen-lies}
-use Rattle.view.proofs.Laws.Roots.{proof-given, sector-provable, seen-roots, seen-proof}
+use Rattle.view.proofs.Laws.Roots.{proof-given, sector-provable, seen-roots, seen-room, seen-proof}
 use Rattle.view.proofs.roots.range_proof.Statement.{statement}
 use Rattle.view.proofs.roots.range_proof.Tie as tie
 
@@ -30,7 +30,9 @@ array-share-prefix-roots : tie.Need-array-share-prefix-roots
 array-share-prefix-roots c = search needs
 
 slice-aggregate-prove-in : tie.Need-slice-aggregate-prove-in
-slice-aggregate-prove-in c = sym (seen-roots _ _ (c .before .before .before .before .before .before .before .before .before .args .seen) (c .before .before .before .before .before .before .before .before .before .pre .0) (c .before .sector-roots .ensures))
+slice-aggregate-prove-in c =
+    let s = c .before .before .before .before .before .before .before .before .before in
+    sym (length-take-le _ _ (seen-room _ _ (s .args .seen) (s .pre .0) (c .before .sector-roots .ensures) _ _ refl (omega (arith, s .pre .1 .0 .inside .below))))
 
 add-prove-in : tie.Need-add-prove-in
 add-prove-in c = search needs

@@ -39,7 +39,10 @@ slice-aggregate-copy-between-2 : tie.Need-slice-aggregate-copy-between-2 Inv-loo
 slice-aggregate-copy-between-2 c = sym (c .before .before .before .before .before .loop .inv .1)
 
 mul-copy-between : tie.Need-mul-copy-between Inv-loop μ-loop
-mul-copy-between c = omega (arith, c .before .before .before .before .loop-test .taken, c .before .before .before .before .before .before .before .before .before .before .pre .few)
+mul-copy-between c =
+    let at-test = c .before .before .before .before in
+    let s = at-test .before .before .before .before .before .before in
+    omega (arith, at-test .loop-test .taken, s .pre .few)
 
 copy-between-requires : tie.Need-copy-between-requires Inv-loop μ-loop
 copy-between-requires c κs =
@@ -49,7 +52,10 @@ copy-between-requires c κs =
     (omega (arith, r), omega (arith, l .loop .inv .1, c .before .before .before .before .loop-test .taken, s .pre .few))
 
 add-i : tie.Need-add-i Inv-loop μ-loop
-add-i c = omega (arith, c .before .before .before .before .before .before .loop-test .taken, c .before .before .before .before .before .before .before .before .before .before .before .before .pre .few)
+add-i c =
+    let at-test = c .before .before .before .before .before .before in
+    let s = at-test .before .before .before .before .before .before in
+    omega (arith, at-test .loop-test .taken, s .pre .few)
 
 loop-less : tie.Need-loop-less Inv-loop μ-loop
 loop-less c = omega (arith, c .before .before .before .before .before .before .loop-test .taken)

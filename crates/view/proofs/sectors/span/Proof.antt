@@ -12,7 +12,9 @@ spot-of-requires : tie.Need-spot-of-requires
 spot-of-requires c κs = search needs
 
 sector-requires : tie.Need-sector-requires
-sector-requires c κs = seen-lies 4096 _ _ _ _ (c .before .before .before .before .before .pre .0) (c .before .before .before .before .before .pre .1 .below) (c .spot-of .ensures)
+sector-requires c κs =
+    let s = c .before .before .before .before .before in
+    seen-lies 4096 _ _ _ _ (s .pre .0) (s .pre .1 .below) (c .spot-of .ensures)
 
 add-result : tie.Need-add-result
 add-result c = search needs

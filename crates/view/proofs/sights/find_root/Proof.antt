@@ -10,14 +10,14 @@ use Rattle.view.proofs.sights.find_root.Tie as tie
 slots-taken-requires : tie.Need-slots-taken-requires
 slots-taken-requires c κs = search needs
 
-first-root-requires : tie.Need-first-root-requires
-first-root-requires c κs =
-    let s = c .before .before .before in
-    let listed = c .before .slots-taken .ensures in
-    (listed .1, ap (every (holds 4096 (s .args .disk .now))) (listed .0) ∙ s .pre)
+first-listed-requires : tie.Need-first-listed-requires
+first-listed-requires c κs =
+    let s = c .before .before in
+    let all = c .slots-taken .ensures in
+    (all .1, ap (every (holds 4096 (s .args .disk .now))) (all .0) ∙ s .pre)
 
 returns : tie.Need-returns
-returns c = first-same 4096 _ _ (c .first-root .ensures) (c .before .before .slots-taken .ensures .0)
+returns c = first-same 4096 _ _ (c .first-listed .ensures) (c .before .slots-taken .ensures .0)
 
 pub find-root-spec : {M : Type 1} → statement M
-find-root-spec = tie.close (tie.spec slots-taken-requires first-root-requires returns)
+find-root-spec = tie.close (tie.spec slots-taken-requires first-listed-requires returns)

@@ -13,19 +13,19 @@ sector-root-requires : tie.Need-sector-root-requires
 unfolding lies
 sector-root-requires c κs = c .before .pre
 
-slice-aggregate-same : tie.Need-slice-aggregate-same
-slice-aggregate-same c = search needs
+slice-aggregate-agrees : tie.Need-slice-aggregate-agrees
+slice-aggregate-agrees c = search needs
 
-slice-aggregate-same-2 : tie.Need-slice-aggregate-same-2
-slice-aggregate-same-2 c = search needs
+slice-aggregate-agrees-2 : tie.Need-slice-aggregate-agrees-2
+slice-aggregate-agrees-2 c = search needs
 
-same-requires : tie.Need-same-requires
-same-requires c κs = search needs
+agrees-requires : tie.Need-agrees-requires
+agrees-requires c κs = search needs
 
 returns : tie.Need-returns
 returns c =
     let s = c .before .before .before .before .before in
-    c .same .ensures
+    c .agrees .ensures
     ∙ ap (λ (x : List ℕ). same x (s .args .t3)) (c .before .before .before .sector-root .ensures ∙ disk-root 4096 (s .args .disk .now) (s .args .disk .now) (s .args .n))
 
 pub has-root-spec : {M : Type 1} → statement M
@@ -33,7 +33,7 @@ has-root-spec =
     tie.close
     (tie.spec
     sector-root-requires
-    slice-aggregate-same
-    slice-aggregate-same-2
-    same-requires
+    slice-aggregate-agrees
+    slice-aggregate-agrees-2
+    agrees-requires
     returns)
