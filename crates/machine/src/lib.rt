@@ -4,6 +4,7 @@ ghost use mathlib.Core.Path.{_≡_};
 ghost use Rattle.rules.specs.Run as Says;
 
 mod opening; // opening.rt: opening a program
+mod pairs; // pairs.rt: the roots of the parent, and failures
 
 use host::Program;
 pub use opening::open;

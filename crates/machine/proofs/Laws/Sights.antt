@@ -1,0 +1,46 @@
+-- What is seen of a contract that stands, and of the parent as it is read now, lies within the areas. Assumes nothing.
+use mathlib.Core.Path.{_≡_, refl, sym, ap, _∙_}
+use mathlib.Core.Bool.{true, false, not}
+use mathlib.Core.List.{List, [], _∷_}
+use Prim.Native.Nat.{ℕ, _/_, _≤_}
+use native.Mathlib.Omega.{arith}
+use lib.ListN.{length, take, length-take}
+use Rattle.area.specs.Area.{tab}
+use Rattle.area.proofs.Laws.Pick.{by, picks, skips, both-left, both-right, both-join}
+use Rattle.sia.specs.Encode.{every}
+use Rattle.host.specs.Lists.{each}
+use Rattle.host.specs.Places.{committed}
+use Rattle.host.specs.Order.{placeInOrder}
+use Rattle.rules.specs.View.{spotOf, committedSpots}
+use Rattle.rules.proofs.Laws.Sizes.{place-size}
+use Rattle.rules.proofs.Laws.Spots.{length-each}
+use Rattle.view.specs.Seen.{holds, lies, spotsOf, Lies}
+use Rattle.view.proofs.Laws.Roots.{seen-count}
+use Rattle.machine.specs.Asks.{Stands, Reads}
+use Rattle.host.specs.declared.Place.{Place}
+use Rattle.host.specs.declared.Progress.{Progress}
+use Rattle.view.specs.declared.Seen.{Seen}
+use Rattle.rules.specs.declared.Spot.the-variants.{OnDisk}
+
+few-committed : (z : ℕ) (p : Place) → placeInOrder z p ≡ true → length (committed z p) ≤ 64
+unfolding committed
+few-committed z p o =
+    by (p .held)
+    (λ e. omega (arith, ap length (picks (p .held) (take (p .size / z) (p .slots)) [] e), length-take (p .size / z) (p .slots), place-size z p o e .1))
+    (λ e. omega (arith, ap length (skips (p .held) (take (p .size / z) (p .slots)) [] e)))
+
+each-lies : (z : ℕ) (disk stage l : List ℕ) → every (holds z disk) l ≡ true → every (lies z disk stage) (each OnDisk l) ≡ true
+unfolding every each lies
+each-lies z disk stage [] h = refl
+each-lies z disk stage (n ∷ l) h = both-join _ _ (both-left _ _ h) (each-lies z disk stage l (both-right _ _ h))
+
+pub committed-lies : (disk stage : List ℕ) (p : Place) (v : Seen) → spotsOf v ≡ committedSpots 4096 p → Stands disk p → Lies 4096 disk stage v
+unfolding committedSpots
+committed-lies disk stage p v e s = record {
+  few = omega (arith, seen-count v, ap length e, length-each (committed 4096 p), few-committed 4096 p (s .order));
+  spots = ap (every (lies 4096 disk stage)) e ∙ each-lies 4096 disk stage (committed 4096 p) (s .slots);
+}
+
+pub running-lies : (disk stage : List ℕ) (p : Place) (g : Progress) (v : Seen) → spotsOf v ≡ tab 0 (g .size / 4096) (spotOf (p .slots) (g .staged)) → v .count ≡ g .size / 4096
+    → Reads disk stage p g → Lies 4096 disk stage v
+running-lies disk stage p g v e n r = record { few = omega (arith, r .few); spots = ap (every (lies 4096 disk stage)) e ∙ r .spots }

@@ -1,0 +1,2 @@
+-- The laws that the proofs of the calls share.
+pub mod Laws

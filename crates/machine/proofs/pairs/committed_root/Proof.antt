@@ -1,0 +1,24 @@
+-- `machine::pairs::committed_root` meets its contract. Assumes nothing.
+use mathlib.Core.Path.{ap, _∙_}
+use Rattle.rules.specs.Roots.{contractRoot}
+use Rattle.machine.proofs.Laws.Sights.{committed-lies}
+use borrow.Author.Needs.{needs}
+use Rattle.machine.proofs.pairs.committed_root.Statement.{statement}
+use Rattle.machine.proofs.pairs.committed_root.Tie as tie
+
+committed-seen-requires : tie.Need-committed-seen-requires
+committed-seen-requires c κs = search needs
+
+slice-aggregate-contract-root : tie.Need-slice-aggregate-contract-root
+slice-aggregate-contract-root c = search needs
+
+contract-root-requires : tie.Need-contract-root-requires
+contract-root-requires c κs = committed-lies _ _ _ _ (c .before .committed-seen .ensures) (c .before .before .before .pre)
+
+returns : tie.Need-returns
+returns c = c .contract-root .ensures ∙ ap (contractRoot 4096 _ _) (c .before .before .committed-seen .ensures)
+
+pub committed-root-spec : {M : Type 1} → statement M
+committed-root-spec =
+    tie.close
+    (tie.spec committed-seen-requires slice-aggregate-contract-root contract-root-requires returns)

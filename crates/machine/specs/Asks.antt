@@ -1,0 +1,35 @@
+-- What inner functions ask of their callers, and what calls leave beside their answer. Assumes nothing.
+use mathlib.Core.Path.{_≡_}
+use mathlib.Core.Bool.{true}
+use mathlib.Core.List.{List}
+use Prim.Native.Nat.{ℕ, _/_, _≤_}
+use Rattle.area.specs.Area.{tab}
+use Rattle.sia.specs.Encode.{every}
+use Rattle.host.specs.Places.{committed}
+use Rattle.host.specs.Order.{placeInOrder, inOrder}
+use Rattle.rules.specs.View.{spotOf, areasRight}
+use Rattle.rules.specs.Calls.{Interrupted, interrupted}
+use Rattle.view.specs.Seen.{holds, lies}
+use Rattle.host.specs.declared.Place.{Place}
+use Rattle.host.specs.declared.Progress.{Progress}
+use Rattle.host.specs.declared.Host.{Host}
+use Rattle.rules.specs.declared.Answer.{Answer}
+
+-- a contract in order whose slots lie within the disk
+pub record Stands (disk : List ℕ) (p : Place) : Type 0 where
+  pub order : placeInOrder 4096 p ≡ true
+  pub slots : every (holds 4096 disk) (committed 4096 p) ≡ true
+
+-- the parent's sectors up to its running size lie within the areas
+pub record Reads (disk stage : List ℕ) (p : Place) (g : Progress) : Type 0 where
+  pub few : g .size / 4096 ≤ 64
+  pub spots : every (lies 4096 disk stage) (tab 0 (g .size / 4096) (spotOf (p .slots) (g .staged))) ≡ true
+
+-- a host in order with an open program, and its areas as stated
+pub record Ready (disk : List ℕ) (h : Host) (stage : List ℕ) : Type 0 where
+  pub order : inOrder 4096 h ≡ true
+  pub areas : areasRight 4096 h disk stage ≡ true
+  pub live : h .program .active ≡ true
+
+abbrev pub interruptLeaves : Answer → List ℕ → Interrupted
+interruptLeaves r output = interrupted (r .number) (r .tally) (r .host) output

@@ -1,0 +1,58 @@
+// The roots of the parent: as committed, and as it is read now. And the record of a failure, which shows the first.
+ghost use mathlib.Core.Path.{_≡_};
+ghost use mathlib.Core.List.{[]};
+ghost use Prim.Native.Nat.{_+_, _/_, _≤_};
+ghost use lib.ListN.{length};
+ghost use Rattle.area.specs.Area.{put, tab};
+ghost use Rattle.rules.specs.View.{spotOf, committedSpots};
+ghost use Rattle.rules.specs.Roots.{contractRoot};
+ghost use Rattle.rules.specs.Record.{pairOf, recordBytes};
+ghost use Rattle.rules.specs.Run.{failedProgress};
+ghost use Rattle.machine.specs.Asks.{Stands, Reads};
+use host::Place;
+use host::Progress;
+
+// The root of a contract's committed sectors; zeros where there is none.
+pub fn committed_root(disk: &[u8], parent: Place) -> [u8; 32]
+    requires { ⌜ Stands (now disk) parent ⌝ }
+    ensures { λ r. ⌜ r ≡ contractRoot 4096 (now (disk .entry)) [] (committedSpots 4096 parent) ⌝ }
+{
+    let seen = view::committed_seen(parent);
+    view::contract_root(disk, b"", seen)
+}
+
+// The root of the parent as it is read now.
+pub fn running_root<'a>(
+    disk: &'a [u8],
+    stage: &'a [u8],
+    parent: Place,
+    progress: Progress,
+) -> [u8; 32]
+    requires { ⌜ Reads (now disk) (now stage) parent progress ⌝ }
+    ensures { λ r. ⌜ r ≡ contractRoot 4096 (now (disk .entry)) (now (stage .entry)) (tab 0 (progress .size / 4096) (spotOf (parent .slots) (progress .staged))) ⌝ }
+{
+    let staged = progress.staged;
+    let seen = view::parent_seen(parent, staged, progress.size);
+    view::contract_root(disk, stage, seen)
+}
+
+// A failure: it ends the program, and otherwise only writes its record.
+pub fn fail(
+    number: u64,
+    disk: &[u8],
+    parent: Place,
+    progress: Progress,
+    output: &mut [u8],
+) -> Progress
+    requires { ⌜ Stands (now disk) parent ⌝ }
+    requires { ⌜ progress .written + 72 ≤ length (now output) ⌝ }
+    ensures { λ r. ⌜ (r ≡ failedProgress progress) × (now (output .exit) ≡ put (now (output .entry)) (progress .written) (recordBytes number 0 (pairOf 4096 (now (disk .entry)) parent) 0 [] 0 [])) ⌝ }
+{
+    let root = committed_root(disk, parent);
+    let at = progress.written as usize;
+    records::put_failure(number, parent.size, root, &mut output[at..]);
+    let mut after = progress;
+    after.written = progress.written + 72;
+    after.failed = true;
+    after
+}
