@@ -7,8 +7,9 @@ use Rattle.area.specs.Area.{tab}
 use Rattle.sia.specs.Encode.{every}
 use Rattle.host.specs.Places.{committed}
 use Rattle.host.specs.Order.{placeInOrder, inOrder}
-use Rattle.rules.specs.View.{spotOf, areasRight}
-use Rattle.rules.specs.Calls.{Interrupted, interrupted}
+use Rattle.rules.specs.View.{spotOf, diskRight, areasRight}
+use Rattle.rules.specs.Run.{going}
+use Rattle.rules.specs.Calls.{outputRight, Interrupted, interrupted}
 use Rattle.view.specs.Seen.{holds, lies}
 use Rattle.host.specs.declared.Place.{Place}
 use Rattle.host.specs.declared.Progress.{Progress}
@@ -30,6 +31,14 @@ pub record Ready (disk : List ℕ) (h : Host) (stage : List ℕ) : Type 0 where
   pub order : inOrder 4096 h ≡ true
   pub areas : areasRight 4096 h disk stage ≡ true
   pub live : h .program .active ≡ true
+
+-- a host in order with an open program that is going, its disk and the output area as stated
+pub record Stops (d : List ℕ) (h : Host) (out : List ℕ) : Type 0 where
+  pub order : inOrder 4096 h ≡ true
+  pub disk : diskRight 4096 h d ≡ true
+  pub live : h .program .active ≡ true
+  pub output : outputRight h out ≡ true
+  pub going : going (h .program .terms) (h .program .progress) ≡ true
 
 abbrev pub interruptLeaves : Answer → List ℕ → Interrupted
 interruptLeaves r output = interrupted (r .number) (r .tally) (r .host) output

@@ -81,7 +81,7 @@ fn wide(x: u16) -> u64
     x as u64
 }
 
-fn refused(number: u64, host: Host) -> Answer
+pub fn refused(number: u64, host: Host) -> Answer
     ensures { λ r. ⌜ r ≡ Says.answered number 0 host ⌝ }
 {
     Answer {

@@ -47,7 +47,7 @@ module _ (z : ℕ) (s : Setting) (disk stage : List ℕ) (d : length disk ≡ s 
   valid-lies (OnDisk n) h = below z disk (s .sectors) n d h
   valid-lies (InStage n) h = below z stage (s .copies) n e h
 
-  every-lies : (l : List Spot) → every (valid s) l ≡ true → every (lies z disk stage) l ≡ true
+  pub every-lies : (l : List Spot) → every (valid s) l ≡ true → every (lies z disk stage) l ≡ true
   unfolding every
   every-lies [] h = refl
   every-lies (x ∷ xs) h = both-join _ _ (valid-lies x (both-left _ _ h)) (every-lies xs (both-right _ _ h))

@@ -9,6 +9,8 @@ use denote.Struct.Declared.{row}
 use denote.Struct.Field.{Field, u8-field}
 use Rattle.host.specs.declared.Place.{Place}
 use Rattle.host.specs.declared.slots.Slots.{Slots}
+use Rattle.host.specs.declared.Host.{Host}
+use Rattle.host.proofs.Host as host
 use Rattle.host.proofs.Place as place
 use Rattle.host.proofs.slots.Slots as slots
 
@@ -22,3 +24,10 @@ placed p vs g = long u8-field (p .slots) (g .1 .1 .1 .1 .1 .0 .1 .0 .1)
 -- 512 items
 pub listing : (s : Slots) (vs : List Val) → Is (row slots.the-type) s vs → length (s .items) ≡ 512
 listing s vs g = long u8-field (s .items) (g .1 .1 .1 .0 .1 .0 .1)
+
+-- a field that is a struct has the same facts one level in: 64 entries for staged positions
+pub hosted : (h : Host) (vs : List Val) → Is (row host.the-type) h vs → length (h .program .progress .staged) ≡ 64
+hosted h vs g =
+    let program = g .1 .1 .1 .1 .1 .0 in
+    let progress = program .1 .1 .1 .1 .1 .0 in
+    long u8-field (h .program .progress .staged) (progress .1 .1 .1 .1 .1 .1 .1 .0 .1 .0 .1)

@@ -162,7 +162,7 @@ module _ (z : ℕ) (s : Setting) (p : Progress) (solid : Solid z s) (f : Staged 
       (λ e. ap (valid s) (picks (eqb (getD (p .staged) j none) none) (OnDisk (getD (whose (s .terms .head .contract) (s .places) .slots) j 0)) (InStage (getD (p .staged) j none)) e) ∙ committed-slot j (unstaged j lt e))
       (λ e. ap (valid s) (skips (eqb (getD (p .staged) j none) none) (OnDisk (getD (whose (s .terms .head .contract) (s .places) .slots) j 0)) (InStage (getD (p .staged) j none)) e) ∙ either-second (eqb (getD (p .staged) j none) none) _ (every-at (slotInOrder (s .copies)) (p .staged) j none (f .slots) (slot-none (s .copies))) e)
 
-  parent-valid : every (valid s) (parentSpots z s p) ≡ true
+  pub parent-valid : every (valid s) (parentSpots z s p) ≡ true
   unfolding parentSpots
   parent-valid = every-tab (valid s) (spotOf (parent s .slots) (p .staged)) 0 (p .size / z) (λ j lo hi. spot-valid j (omega arith))
 

@@ -34,7 +34,7 @@ same-length c = search needs
 
 returns : tie.Need-returns
 unfolding failedProgress pairOf
-returns c = 
+returns c =
     let a = c .before .before .before .before .before .before .before .before .args in
     (refl, lent _ _ _ (c .before .before .before .put-failure .ensures) ∙ ap (λ (r : List ℕ). put (a .output .now) (a .progress .written) (recordBytes (a .number) 0 (pair (a .parent .size) r) 0 [] 0 [])) (c .before .before .before .before .before .committed-root .ensures))
 
