@@ -47,6 +47,9 @@ pub fn contract_root<'a>(disk: &'a [u8], stage: &'a [u8], seen: Seen) -> [u8; 32
     ensures { λ r. ⌜ r ≡ contractRoot 4096 (now (disk .entry)) (now (stage .entry)) (spotsOf seen) ⌝ }
 {
     let count = seen.count;
+    if count == 0 {
+        return [0u8; 32];
+    }
     let roots = sector_roots(disk, stage, seen);
     let rooted = tree::join(&roots[..32 * count]);
     rooted.root
@@ -62,7 +65,7 @@ pub fn range_count(sectors: usize, at: usize, n: usize) -> usize
     counted.count
 }
 
-// The proof of the n bytes from `at` on, which lie in one sector, laid over the front of out.
+// The proof of the n bytes from `at` on, which lie in one sector, laid over the front of out. Of one sector no root is needed.
 pub fn range_proof<'a>(
     disk: &'a [u8],
     stage: &'a [u8],
@@ -82,14 +85,12 @@ pub fn range_proof<'a>(
     let place = at / 4096;
     let spot = sectors::spot_of(slots, staged, place);
     let bytes = sectors::sector(disk, stage, spot);
-    let roots = sector_roots(disk, stage, seen);
     let first = at % 4096 / 64;
-    tree::prove_in(
-        &roots[..32 * count],
-        place,
-        bytes,
-        first,
-        first + n / 64,
-        out,
-    );
+    let end = first + n / 64;
+    if count == 1 {
+        tree::prove(bytes, first, end, out);
+        return;
+    }
+    let roots = sector_roots(disk, stage, seen);
+    tree::prove_in(&roots[..32 * count], place, bytes, first, end, out);
 }

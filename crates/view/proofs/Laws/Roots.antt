@@ -1,15 +1,15 @@
 -- Roots of sectors, and the root and proofs of all that is seen, by what the tree promises. Assumes nothing.
 use mathlib.Core.Path.{_≡_, refl, sym, ap, _∙_}
 use mathlib.Core.Bool.{Bool, true}
-use mathlib.Core.List.{List, [], _∷_}
+use mathlib.Core.List.{List, [], _∷_, append-nil}
 use Prim.Native.Nat.{ℕ, _+_, _*_, _/_, _%_, _≤_, _<_}
 use native.Mathlib.Nat.{mul-comm}
 use native.Mathlib.Omega.{arith}
-use lib.ListN.{length, take, getD, length-take}
+use lib.ListN.{length, getD}
 use lib.Dec.{leb}
 use borrow.Author.Tests.{eq-eqb, lt-ltb, le-leb}
 use Rattle.area.specs.Pick.{pick, both}
-use Rattle.area.specs.Area.{part, put}
+use Rattle.area.specs.Area.{part, put, zeros}
 use Rattle.area.proofs.Laws.Pick.{picks, both-join}
 use Rattle.area.proofs.Laws.Tab.{length-tab, getD-tab}
 use Rattle.area.proofs.Laws.Parts.{part-whole}
@@ -18,7 +18,7 @@ use Rattle.tree.specs.Tree.{root, join}
 use Rattle.tree.specs.Walk.{count, proof, proofIn}
 use Rattle.tree.specs.Checker.{ranged}
 use Rattle.tree.specs.Answers as answers
-use Rattle.tree.specs.Answers.{Root, rootGiven, rootIf, rooted, wholes, Count, countGiven, counted, Left, left, hashesLaid, provable, provableIn, provedIn, isPower}
+use Rattle.tree.specs.Answers.{Root, rootGiven, rootIf, rooted, wholes, Count, countGiven, counted, Left, left, hashesLaid, provable, proved, provableIn, provedIn, isPower}
 use Rattle.tree.specs.Promise.{Parted}
 use Rattle.tree.specs.declared.Rooted.{Rooted}
 use Rattle.tree.specs.declared.Counted.{Counted}
@@ -50,29 +50,43 @@ pub count-given : (r : Counted) (n s e : ℕ) → countGiven r ≡ counted n s e
 unfolding counted ranged
 count-given r n s e q lt le = ap (λ (x : Count). x .count) (q ∙ picks (ranged n s e) _ _ (both-join _ _ (lt-ltb s e lt) (le-leb e n le)))
 
-pub proof-given : (r : Counted) (rs : List ℕ) (at : ℕ) (b : List ℕ) (s e : ℕ) (out next : List ℕ) → left r next ≡ provedIn rs at b s e out
+laid : (r : Counted) (asked : Bool) (hs out next : List ℕ) → left r next ≡ hashesLaid asked hs out → asked ≡ true → length hs ≤ length out → next ≡ put out 0 hs
+unfolding hashesLaid
+laid r asked hs out next q h room =
+    ap (λ (x : Left). x .out) (q ∙ picks (both asked (leb (length hs) (length out))) _ _ (both-join _ _ h (le-leb _ _ room)))
+
+pub proof-given : (r : Counted) (b : List ℕ) (s e : ℕ) (out next : List ℕ) → left r next ≡ proved b s e out
+    → provable b s e ≡ true → length (proof b s e) ≤ length out → next ≡ put out 0 (proof b s e)
+unfolding proved
+proof-given r b s e out next q asked room = laid r (provable b s e) (proof b s e) out next q asked room
+
+pub proof-in-given : (r : Counted) (rs : List ℕ) (at : ℕ) (b : List ℕ) (s e : ℕ) (out next : List ℕ) → left r next ≡ provedIn rs at b s e out
     → provableIn rs at b s e ≡ true → length (proofIn rs at b s e) ≤ length out → next ≡ put out 0 (proofIn rs at b s e)
-unfolding provedIn hashesLaid
-proof-given r rs at b s e out next q asked room =
-    ap (λ (x : Left). x .out) (q ∙ picks (both (provableIn rs at b s e) (leb (length (proofIn rs at b s e)) (length out))) _ _ (both-join _ _ asked (le-leb _ _ room)))
+unfolding provedIn
+proof-in-given r rs at b s e out next q asked room = laid r (provableIn rs at b s e) (proofIn rs at b s e) out next q asked room
 
 sixty-four : isPower 64 64 ≡ true
 unfolding isPower pick
 sixty-four = refl
 
--- a range of one of m sectors can be proved
-pub sector-provable : (rs : List ℕ) (m at : ℕ) (b : List ℕ) (s e : ℕ) → length rs ≡ 32 * m → at < m → length b ≡ 4096 → s < e → e ≤ 64
+-- a range of a sector can be proved
+pub sector-provable : (b : List ℕ) (s e : ℕ) → length b ≡ 4096 → s < e → e ≤ 64 → provable b s e ≡ true
+unfolding provable wholes ranged
+sector-provable b s e size lt le =
+    let whole-segments : length b % 64 ≡ 0 = omega arith in
+    let within : e ≤ length b / 64 = omega arith in
+    both-join _ _ (eq-eqb _ _ whole-segments) (both-join _ _ (lt-ltb _ _ lt) (le-leb _ _ within))
+
+-- and of one of m sectors, with the roots of all
+pub sector-provable-in : (rs : List ℕ) (m at : ℕ) (b : List ℕ) (s e : ℕ) → length rs ≡ 32 * m → at < m → length b ≡ 4096 → s < e → e ≤ 64
     → provableIn rs at b s e ≡ true
-unfolding provableIn provable wholes ranged
-sector-provable rs m at b s e long here size lt le =
+unfolding provableIn wholes
+sector-provable-in rs m at b s e long here size lt le =
     let n : length b / 64 ≡ 64 = omega arith in
     let whole-roots : length rs % 32 ≡ 0 = omega arith in
     let one-of : at < length rs / 32 = omega arith in
-    let whole-segments : length b % 64 ≡ 0 = omega arith in
-    let within : e ≤ length b / 64 = omega arith in
     both-join _ _ (eq-eqb _ _ whole-roots)
-    (both-join _ _ (lt-ltb _ _ one-of)
-    (both-join _ _ (ap (isPower 64) n ∙ sixty-four) (both-join _ _ (eq-eqb _ _ whole-segments) (both-join _ _ (lt-ltb _ _ lt) (le-leb _ _ within)))))
+    (both-join _ _ (lt-ltb _ _ one-of) (both-join _ _ (ap (isPower 64) n ∙ sixty-four) (sector-provable b s e size lt le)))
 
 -- ---- sectors
 
@@ -141,16 +155,42 @@ unfolding spotsOf
 seen-at v i d h =
     getD-tab 0 (v .count) (spotOf (v .slots) (v .staged)) i d h ∙ ap (spotOf (v .slots) (v .staged)) (let q : 0 + i ≡ i = omega arith in q)
 
+-- of no sector
+pub seen-none : (z : ℕ) (disk stage : List ℕ) (v : Seen) → v .count ≡ 0 → zeros 32 ≡ contractRoot z disk stage (spotsOf v)
+unfolding contractRoot
+seen-none z disk stage v e = none (spotsOf v) (seen-count v ∙ e) where
+  none : (l : List Spot) → length l ≡ 0 → zeros 32 ≡ contractRoot z disk stage l
+  none [] q = refl
+  none (x ∷ xs) q = absurd (omega arith)
+
+-- a range of segments within its sector
+pub ranges : (m at n : ℕ) → Ranged 4096 m at n → (at % 4096 / 64 < at % 4096 / 64 + n / 64) × (at % 4096 / 64 + n / 64 ≤ 64)
+ranges m at n g = (omega (arith, g .some, g .whole), omega (arith, g .inside .one))
+
+-- of one sector
+pub seen-one : (disk stage : List ℕ) (v : Seen) (at n : ℕ) {b : List ℕ} → v .count ≡ 1 → Ranged 4096 (v .count) at n
+    → b ≡ sector 4096 disk stage (spotOf (v .slots) (v .staged) (at / 4096))
+    → proof b (at % 4096 / 64) (at % 4096 / 64 + n / 64) ≡ rangeProof 4096 disk stage (spotsOf v) at n
+unfolding rangeProof whole joined
+seen-one disk stage v at n {b} e g q =
+    let first : at % 4096 / 64 ≡ at / 64 = omega (arith, g .inside .below) in
+    let end : at % 4096 / 64 + n / 64 ≡ (at + n) / 64 = omega (arith, g .inside .below, g .first, g .whole) in
+    let here-is : at / 4096 ≡ 0 = omega (arith, g .inside .below) in
+    (λ i. proof (q i) (first i) (end i)) ∙ one (spotsOf v) (seen-count v ∙ e) (λ d. ap (λ (k : ℕ). getD (spotsOf v) k d) (sym here-is) ∙ seen-at v (at / 4096) d (g .inside .below)) where
+      one : (l : List Spot) → length l ≡ 1 → ((d : Spot) → getD l 0 d ≡ spotOf (v .slots) (v .staged) (at / 4096))
+          → proof (sector 4096 disk stage (spotOf (v .slots) (v .staged) (at / 4096))) (at / 64) ((at + n) / 64) ≡ rangeProof 4096 disk stage l at n
+      one [] k f = absurd (omega arith)
+      one (x ∷ []) k f =
+          ap (λ (y : Spot). proof (sector 4096 disk stage y) (at / 64) ((at + n) / 64)) (sym (f x))
+          ∙ ap (λ (y : List ℕ). proof y (at / 64) ((at + n) / 64)) (sym (append-nil (sector 4096 disk stage x)))
+      one (x ∷ (y ∷ l)) k f = absurd (omega arith)
+
 module _ (disk stage : List ℕ) (v : Seen) (l : Lies 4096 disk stage v) {rs : List ℕ} (e : rs ≡ joined (sectorRoot 4096 disk stage) (spotsOf v)) where
   few : length (spotsOf v) ≤ 64
   few = omega (arith, seen-count v, l .few)
 
   pub seen-roots : length rs ≡ 32 * v .count
   seen-roots = ap length e ∙ roots-long disk stage (spotsOf v) (l .spots) few ∙ ap (λ (n : ℕ). 32 * n) (seen-count v)
-
-  -- the array that they are the front of is as long at least
-  pub seen-room : (k : ℕ) (a : List ℕ) → rs ≡ take (32 * v .count) a → k ≤ v .count → 32 * k ≤ length a
-  seen-room k a q h = omega (arith, seen-roots, ap length q, length-take (32 * v .count) a)
 
   pub seen-join : join rs ≡ contractRoot 4096 disk stage (spotsOf v)
   seen-join = ap join e ∙ sym (contract-join disk stage (spotsOf v) (l .spots) few)
@@ -162,9 +202,8 @@ module _ (disk stage : List ℕ) (v : Seen) (l : Lies 4096 disk stage v) {rs : L
       let first : at % 4096 / 64 + at / 4096 * 64 ≡ at / 64 = omega arith in
       let end : at % 4096 / 64 + n / 64 + at / 4096 * 64 ≡ (at + n) / 64 = omega (arith, g .first, g .whole) in
       let here : at / 4096 < length (spotsOf v) = omega (arith, seen-count v, g .inside .below) in
-      let inside : at % 4096 / 64 + n / 64 ≤ 64 = omega (arith, g .inside .one) in
-      let some : at % 4096 / 64 < at % 4096 / 64 + n / 64 = omega (arith, g .some, g .whole) in
+      let range = ranges (v .count) at n g in
       let here-is = q ∙ ap (sector 4096 disk stage) (sym (seen-at v (at / 4096) (OnDisk 0) (g .inside .below))) in
       (λ i. proofIn (e i) (at / 4096) (here-is i) (at % 4096 / 64) (at % 4096 / 64 + n / 64))
-      ∙ proof-within disk stage (spotsOf v) (l .spots) few (at / 4096) (OnDisk 0) (at % 4096 / 64) (at % 4096 / 64 + n / 64) here some inside
+      ∙ proof-within disk stage (spotsOf v) (l .spots) few (at / 4096) (OnDisk 0) (at % 4096 / 64) (at % 4096 / 64 + n / 64) here (range .0) (range .1)
       ∙ (λ i. proof (whole 4096 disk stage (spotsOf v)) (first i) (end i))

@@ -1,11 +1,13 @@
--- `contract_root` meets its contract: the join of the sectors' roots. Assumes nothing.
-use mathlib.Core.Path.{refl, sym, _∙_}
+-- `contract_root` meets its contract: zeros of nothing, else the join of the sectors' roots. Assumes nothing.
+use mathlib.Core.Path.{sym, _∙_}
 use native.Mathlib.Omega.{arith}
-use lib.Seq.{length-take-le}
 use borrow.Author.Needs.{needs}
-use Rattle.view.proofs.Laws.Roots.{join-given, seen-roots, seen-room, seen-join}
+use Rattle.view.proofs.Laws.Roots.{join-given, seen-none, seen-roots, seen-join}
 use Rattle.view.proofs.roots.contract_root.Statement.{statement}
 use Rattle.view.proofs.roots.contract_root.Tie as tie
+
+returns : tie.Need-returns
+returns c = seen-none 4096 _ _ (c .before .before .before .args .seen) (c .if1 .taken)
 
 sector-roots-requires : tie.Need-sector-roots-requires
 sector-roots-requires c κs = search needs
@@ -18,15 +20,15 @@ array-share-prefix-roots c = search needs
 
 slice-aggregate-join : tie.Need-slice-aggregate-join
 slice-aggregate-join c =
-    let s = c .before .before .before .before in
-    sym (length-take-le _ _ (seen-room _ _ (s .args .seen) (s .pre) (c .before .sector-roots .ensures) _ _ refl (omega arith)))
+    let s = c .before .before .before .before .before in
+    sym (seen-roots _ _ (s .args .seen) (s .pre) (c .before .sector-roots .ensures))
 
 join-requires : tie.Need-join-requires
 join-requires c κs = search needs
 
-returns : tie.Need-returns
-returns c =
-    let s = c .before .before .before .before .before .before in
+returns-2 : tie.Need-returns-2
+returns-2 c =
+    let s = c .before .before .before .before .before .before .before in
     let roots = c .before .before .before .sector-roots in
     join-given (c .before .join .result) _ (c .before .join .ensures) (omega (arith, seen-roots _ _ (s .args .seen) (s .pre) (roots .ensures)))
     ∙ seen-join _ _ (s .args .seen) (s .pre) (roots .ensures)
@@ -35,9 +37,10 @@ pub contract-root-spec : {M : Type 1} → statement M
 contract-root-spec =
     tie.close
     (tie.spec
+    returns
     sector-roots-requires
     mul-roots
     array-share-prefix-roots
     slice-aggregate-join
     join-requires
-    returns)
+    returns-2)
