@@ -23,7 +23,7 @@ use rules::Spot;
 
 // No sector.
 fn nothing() -> Seen
-    ensures { λ r. ⌜ spotsOf r ≡ [] ⌝ }
+    ensures { λ r. ⌜ (spotsOf r ≡ []) × (r .count ≤ 1) ⌝ }
 {
     let slots = [0u8; 64];
     let staged = [255u8; 64];
@@ -36,7 +36,7 @@ fn nothing() -> Seen
 
 // The sector in disk slot n.
 fn one(n: u8) -> Seen
-    ensures { λ r. ⌜ spotsOf r ≡ OnDisk n ∷ [] ⌝ }
+    ensures { λ r. ⌜ (spotsOf r ≡ OnDisk n ∷ []) × (r .count ≤ 1) ⌝ }
 {
     let slots = [n; 64];
     let staged = [255u8; 64];
@@ -63,7 +63,7 @@ pub fn parent_seen(place: Place, staged: [u8; 64], size: u64) -> Seen
 // The committed sectors of a contract.
 pub fn committed_seen(place: Place) -> Seen
     requires { ⌜ placeInOrder 4096 place ≡ true ⌝ }
-    ensures { λ r. ⌜ spotsOf r ≡ committedSpots 4096 place ⌝ }
+    ensures { λ r. ⌜ (spotsOf r ≡ committedSpots 4096 place) × (r .count ≤ 64) ⌝ }
 {
     if !place.held {
         return nothing();
@@ -100,7 +100,7 @@ fn slot_at(slots: &[u8], i: usize) -> u8
 // The first sector with that root, of those in the disk slots listed; no sector where none has it.
 fn first_root(disk: &[u8], slots: &[u8], key: [u8; 32]) -> Seen
     requires { ⌜ every (holds 4096 (now disk)) (now slots) ≡ true ⌝ }
-    ensures { λ r. ⌜ spotsOf r ≡ firstRoot 4096 (now (disk .entry)) key (each OnDisk (now (slots .entry))) ⌝ }
+    ensures { λ r. ⌜ (spotsOf r ≡ firstRoot 4096 (now (disk .entry)) key (each OnDisk (now (slots .entry)))) × (r .count ≤ 1) ⌝ }
 {
     let mut i: usize = 0;
     while i < slots.len() {
@@ -117,7 +117,7 @@ fn first_root(disk: &[u8], slots: &[u8], key: [u8; 32]) -> Seen
 fn first_listed(disk: &[u8], all: Slots, key: [u8; 32]) -> Seen
     requires { ⌜ all .count ≤ 512 ⌝ }
     requires { ⌜ every (holds 4096 (now disk)) (listed all) ≡ true ⌝ }
-    ensures { λ r. ⌜ spotsOf r ≡ firstRoot 4096 (now (disk .entry)) key (each OnDisk (listed all)) ⌝ }
+    ensures { λ r. ⌜ (spotsOf r ≡ firstRoot 4096 (now (disk .entry)) key (each OnDisk (listed all))) × (r .count ≤ 1) ⌝ }
 {
     let items = all.items;
     let count = all.count;
@@ -127,7 +127,7 @@ fn first_listed(disk: &[u8], all: Slots, key: [u8; 32]) -> Seen
 // The first committed sector with that root, by contract place, then position; no sector where none has it.
 pub fn find_root(disk: &[u8], places: [Place; 8], key: [u8; 32]) -> Seen
     requires { ⌜ every (holds 4096 (now disk)) (taken 4096 places) ≡ true ⌝ }
-    ensures { λ r. ⌜ spotsOf r ≡ firstRoot 4096 (now (disk .entry)) key (each OnDisk (taken 4096 places)) ⌝ }
+    ensures { λ r. ⌜ (spotsOf r ≡ firstRoot 4096 (now (disk .entry)) key (each OnDisk (taken 4096 places))) × (r .count ≤ 1) ⌝ }
 {
     let all = host::slots_taken(places);
     first_listed(disk, all, key)

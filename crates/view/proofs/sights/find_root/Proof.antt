@@ -17,7 +17,7 @@ first-listed-requires c κs =
     (all .1, ap (every (holds 4096 (s .args .disk .now))) (all .0) ∙ s .pre)
 
 returns : tie.Need-returns
-returns c = first-same 4096 _ _ (c .first-listed .ensures) (c .before .slots-taken .ensures .0)
+returns c = (first-same 4096 _ _ (c .first-listed .ensures .0) (c .before .slots-taken .ensures .0), c .first-listed .ensures .1)
 
 pub find-root-spec : {M : Type 1} → statement M
 find-root-spec = tie.close (tie.spec slots-taken-requires first-listed-requires returns)

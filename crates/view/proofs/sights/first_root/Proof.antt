@@ -41,11 +41,13 @@ one-requires c κs = tt
 returns : tie.Need-returns Inv-loop μ-loop
 returns c =
     let at-slot-at = c .before .before .before in
-    let l = at-slot-at .before .before in
-    c .one .ensures
-    ∙ first-here 4096 _ _ _ (l .loop .i) (at-slot-at .before .loop-test .taken) (at-slot-at .slot-at .ensures)
-    (sym (c .before .before .has-root .ensures) ∙ c .before .if1 .taken)
-    ∙ sym (l .loop .inv)
+    let l = at-slot-at .before .before in (
+      c .one .ensures .0
+          ∙ first-here 4096 _ _ _ (l .loop .i) (at-slot-at .before .loop-test .taken) (at-slot-at .slot-at .ensures)
+          (sym (c .before .before .has-root .ensures) ∙ c .before .if1 .taken)
+          ∙ sym (l .loop .inv),
+      c .one .ensures .1,
+    )
 
 add-i : tie.Need-add-i Inv-loop μ-loop
 add-i c = omega (arith, c .before .before .before .loop-test .taken)
@@ -65,8 +67,10 @@ nothing-requires c κs = tt
 
 returns-2 : tie.Need-returns-2 Inv-loop μ-loop
 returns-2 c =
-    let l = c .before .before in
-    c .nothing .ensures ∙ first-none 4096 _ _ _ (l .loop .i) (omega (arith, c .before .loop-test .left)) ∙ sym (l .loop .inv)
+    let l = c .before .before in (
+      c .nothing .ensures .0 ∙ first-none 4096 _ _ _ (l .loop .i) (omega (arith, c .before .loop-test .left)) ∙ sym (l .loop .inv),
+      c .nothing .ensures .1,
+    )
 
 pub first-root-spec : {M : Type 1} → statement M
 first-root-spec =

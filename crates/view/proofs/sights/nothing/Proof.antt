@@ -1,5 +1,6 @@
 -- `nothing` meets its contract. Assumes nothing.
 use mathlib.Core.Path.{refl}
+use native.Mathlib.Omega.{arith}
 use Rattle.area.specs.Area.{tab}
 use Rattle.view.specs.Seen.{spotsOf}
 use Rattle.view.proofs.sights.nothing.Statement.{statement}
@@ -7,7 +8,7 @@ use Rattle.view.proofs.sights.nothing.Tie as tie
 
 returns : tie.Need-returns
 unfolding spotsOf tab
-returns c = refl
+returns c = (refl, omega arith)
 
 pub nothing-spec : {M : Type 1} → statement M
 nothing-spec = tie.close (tie.spec returns)

@@ -1,5 +1,6 @@
 -- `one` meets its contract: the position is not staged. Assumes nothing.
 use mathlib.Core.Path.{refl}
+use native.Mathlib.Omega.{arith}
 use Rattle.area.specs.Pick.{pick}
 use Rattle.area.specs.Area.{tab}
 use Rattle.rules.specs.View.{spotOf}
@@ -9,7 +10,7 @@ use Rattle.view.proofs.sights.one.Tie as tie
 
 returns : tie.Need-returns
 unfolding spotsOf tab spotOf pick
-returns c = refl
+returns c = (refl, omega arith)
 
 pub one-spec : {M : Type 1} → statement M
 one-spec = tie.close (tie.spec returns)
