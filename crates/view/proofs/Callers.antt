@@ -14,10 +14,11 @@ use Rattle.area.proofs.Laws.Pick.{both-left, both-right, both-join, either-left
 use Rattle.sia.specs.Encode.{joined, every}
 use Rattle.tree.specs.Tree.{root}
 use Rattle.tree.specs.Walk.{count}
+use Rattle.tree.proofs.Promise.{proofs}
 use Rattle.host.specs.Lists.{each}
 use Rattle.host.specs.Places.{committed, taken}
 use Rattle.rules.specs.View.{Setting, sector, spotOf, parent, parentSpots, committedSpots, allSpots, whole}
-use Rattle.rules.specs.Roots.{contractRoot, rangeCount, firstRoot}
+use Rattle.rules.specs.Roots.{contractRoot, rangeProof, rangeCount, firstRoot}
 use Rattle.rules.specs.Inputs.{Args}
 use Rattle.rules.specs.Plan.{badSpan, badProof}
 use Rattle.rules.specs.Record.{outputOf}
@@ -29,7 +30,7 @@ use Rattle.rules.specs.declared.Spot.{Spot}
 use Rattle.rules.specs.declared.Spot.the-variants.{OnDisk, InStage}
 use Rattle.view.specs.Seen.{spotsOf, holds, lies, spanOf, Lies, Inside, Ranged}
 use Rattle.view.specs.declared.Seen.{Seen}
-use Rattle.view.proofs.Laws.Roots.{seen-count, seen-at}
+use Rattle.view.proofs.Laws.Roots.{parted, seen-count, seen-at}
 
 -- ---- slots that there are lie within the areas
 
@@ -125,6 +126,17 @@ span-output z disk stage v a h = at (spotsOf v) (omega (arith, seen-count v)) (�
 pub count-range : (l : List Spot) (m at n : ℕ) → m ≡ length l → count (m * 64) (at / 64) ((at + n) / 64) ≡ rangeCount 4096 l at n
 unfolding rangeCount
 count-range l m at n e = ap (λ (k : ℕ). count (k * 64) (at / 64) ((at + n) / 64)) e
+
+-- and that of the bytes of its proof, so that `range_proof` has room
+pub proof-room : (disk stage : List ℕ) (v : Seen) (at n : ℕ) → Lies 4096 disk stage v → 0 < v .count
+    → length (rangeProof 4096 disk stage (spotsOf v) at n) ≡ 32 * rangeCount 4096 (spotsOf v) at n
+unfolding rangeProof rangeCount
+proof-room disk stage v at n l some =
+    let few : length (spotsOf v) ≤ 64 = omega (arith, seen-count v, l .few) in
+    let w = parted disk stage (spotsOf v) (l .spots) few .whole in
+    let k : length (whole 4096 disk stage (spotsOf v)) / 64 ≡ length (spotsOf v) * 64 = omega (arith, w) in
+    proofs .proof-long (whole 4096 disk stage (spotsOf v)) (at / 64) ((at + n) / 64) (omega (arith, k, seen-count v)) (omega (arith, k))
+    ∙ ap (λ (x : ℕ). 32 * count x (at / 64) ((at + n) / 64)) k
 
 -- `parent_seen` sees the parent
 pub parent-spots : (z : ℕ) (s : Setting) (p : Progress) (q : Place) → q ≡ parent s → tab 0 (p .size / z) (spotOf (q .slots) (p .staged)) ≡ parentSpots z s p

@@ -19,3 +19,10 @@ pub struct Seen {
     pub slots: [u8; 64],
     pub staged: [u8; 64],
 }
+
+impl Seen {
+    // The bytes of a sector, and of a segment.
+    pub const SECTOR: usize = 4_096;
+
+    pub const SEGMENT: usize = 64;
+}

@@ -61,7 +61,8 @@ pub fn range_count(sectors: usize, at: usize, n: usize) -> usize
     requires { ⌜ Ranged 4096 sectors at n ⌝ }
     ensures { λ r. ⌜ r ≡ count (sectors * 64) (at / 64) ((at + n) / 64) ⌝ }
 {
-    let counted = tree::count(sectors * 64, at / 64, (at + n) / 64);
+    let segments = sectors * (Seen::SECTOR / Seen::SEGMENT);
+    let counted = tree::count(segments, at / Seen::SEGMENT, (at + n) / Seen::SEGMENT);
     counted.count
 }
 
@@ -82,11 +83,11 @@ pub fn range_proof<'a>(
     let slots = seen.slots;
     let staged = seen.staged;
     let count = seen.count;
-    let place = at / 4096;
+    let place = at / Seen::SECTOR;
     let spot = sectors::spot_of(slots, staged, place);
     let bytes = sectors::sector(disk, stage, spot);
-    let first = at % 4096 / 64;
-    let end = first + n / 64;
+    let first = at % Seen::SECTOR / Seen::SEGMENT;
+    let end = first + n / Seen::SEGMENT;
     if count == 1 {
         tree::prove(bytes, first, end, out);
         return;

@@ -29,12 +29,12 @@ pub fn sector<'a>(disk: &'a [u8], stage: &'a [u8], spot: Spot) -> &'a [u8]
 {
     match spot {
         Spot::OnDisk(n) => {
-            let from = n * 4096;
-            &disk[from..from + 4096]
+            let from = n * Seen::SECTOR;
+            &disk[from..from + Seen::SECTOR]
         }
         Spot::InStage(n) => {
-            let from = n * 4096;
-            &stage[from..from + 4096]
+            let from = n * Seen::SECTOR;
+            &stage[from..from + Seen::SECTOR]
         }
     }
 }
@@ -47,8 +47,8 @@ pub fn span<'a>(disk: &'a [u8], stage: &'a [u8], seen: Seen, at: usize, n: usize
 {
     let slots = seen.slots;
     let staged = seen.staged;
-    let spot = spot_of(slots, staged, at / 4096);
+    let spot = spot_of(slots, staged, at / Seen::SECTOR);
     let bytes = sector(disk, stage, spot);
-    let from = at % 4096;
+    let from = at % Seen::SECTOR;
     &bytes[from..from + n]
 }

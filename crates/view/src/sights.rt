@@ -18,6 +18,7 @@ use crate::Seen;
 use crate::roots;
 use host::Host;
 use host::Place;
+use host::Progress;
 use host::Slots;
 use rules::Spot;
 
@@ -26,7 +27,7 @@ fn nothing() -> Seen
     ensures { λ r. ⌜ (spotsOf r ≡ []) × (r .count ≤ 1) ⌝ }
 {
     let slots = [0u8; 64];
-    let staged = [255u8; 64];
+    let staged = [Progress::NONE; 64];
     Seen {
         count: 0,
         slots,
@@ -39,7 +40,7 @@ fn one(n: u8) -> Seen
     ensures { λ r. ⌜ (spotsOf r ≡ OnDisk n ∷ []) × (r .count ≤ 1) ⌝ }
 {
     let slots = [n; 64];
-    let staged = [255u8; 64];
+    let staged = [Progress::NONE; 64];
     Seen {
         count: 1,
         slots,
@@ -68,7 +69,7 @@ pub fn committed_seen(place: Place) -> Seen
     if !place.held {
         return nothing();
     }
-    let staged = [255u8; 64];
+    let staged = [Progress::NONE; 64];
     let size = place.size;
     parent_seen(place, staged, size)
 }

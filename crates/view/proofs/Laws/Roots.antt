@@ -18,7 +18,8 @@ use Rattle.tree.specs.Tree.{root, join}
 use Rattle.tree.specs.Walk.{count, proof, proofIn}
 use Rattle.tree.specs.Checker.{ranged}
 use Rattle.tree.specs.Answers as answers
-use Rattle.tree.specs.Answers.{Root, rootGiven, rootIf, rooted, wholes, Count, countGiven, counted, Left, left, hashesLaid, provable, proved, provableIn, provedIn, isPower}
+use Rattle.tree.specs.Answers.{Root, rootGiven, rootIf, rooted, wholes, Count, countGiven, counted}
+use Rattle.tree.specs.Answers.{Left, left, hashesLaid, provable, proved, provableIn, provedIn, isPower}
 use Rattle.tree.specs.Promise.{Parted}
 use Rattle.tree.specs.declared.Rooted.{Rooted}
 use Rattle.tree.specs.declared.Counted.{Counted}
@@ -176,7 +177,8 @@ seen-one disk stage v at n {b} e g q =
     let first : at % 4096 / 64 ≡ at / 64 = omega (arith, g .inside .below) in
     let end : at % 4096 / 64 + n / 64 ≡ (at + n) / 64 = omega (arith, g .inside .below, g .first, g .whole) in
     let here-is : at / 4096 ≡ 0 = omega (arith, g .inside .below) in
-    (λ i. proof (q i) (first i) (end i)) ∙ one (spotsOf v) (seen-count v ∙ e) (λ d. ap (λ (k : ℕ). getD (spotsOf v) k d) (sym here-is) ∙ seen-at v (at / 4096) d (g .inside .below)) where
+    (λ i. proof (q i) (first i) (end i))
+    ∙ one (spotsOf v) (seen-count v ∙ e) (λ d. ap (λ (k : ℕ). getD (spotsOf v) k d) (sym here-is) ∙ seen-at v (at / 4096) d (g .inside .below)) where
       one : (l : List Spot) → length l ≡ 1 → ((d : Spot) → getD l 0 d ≡ spotOf (v .slots) (v .staged) (at / 4096))
           → proof (sector 4096 disk stage (spotOf (v .slots) (v .staged) (at / 4096))) (at / 64) ((at + n) / 64) ≡ rangeProof 4096 disk stage l at n
       one [] k f = absurd (omega arith)

@@ -73,5 +73,6 @@ module _ (z : ℕ) (disk key l : List ℕ) (i : ℕ) where
   first-none h = rw (drop-of-length-le l {i = i} h)
 
 -- of other slots that are the same
-pub first-same : (z : ℕ) (disk key : List ℕ) {l m : List ℕ} {x : List Spot} → x ≡ firstRoot z disk key (each OnDisk l) → l ≡ m → x ≡ firstRoot z disk key (each OnDisk m)
+pub first-same : (z : ℕ) (disk key : List ℕ) {l m : List ℕ} {x : List Spot} → x ≡ firstRoot z disk key (each OnDisk l) → l ≡ m
+    → x ≡ firstRoot z disk key (each OnDisk m)
 first-same z disk key e q = e ∙ ap (λ (l : List ℕ). firstRoot z disk key (each OnDisk l)) q

@@ -6,8 +6,8 @@ use Rattle.view.proofs.Laws.Roots.{count-given}
 use Rattle.view.proofs.roots.range_count.Statement.{statement}
 use Rattle.view.proofs.roots.range_count.Tie as tie
 
-mul-count : tie.Need-mul-count
-mul-count c = search needs
+mul-segments : tie.Need-mul-segments
+mul-segments c = search needs
 
 add-count : tie.Need-add-count
 add-count c = search needs
@@ -24,4 +24,4 @@ returns c =
     count-given (c .count .result) _ _ _ (c .count .ensures) some within
 
 pub range-count-spec : {M : Type 1} → statement M
-range-count-spec = tie.close (tie.spec mul-count add-count count-requires returns)
+range-count-spec = tie.close (tie.spec mul-segments add-count count-requires returns)

@@ -14,7 +14,8 @@ root-requires c κs = search needs
 returns : tie.Need-returns
 returns c =
     let at-sector = c .before .before in
-    root-is 4096 _ _ _ (at-sector .sector .ensures .0) (root-given (c .before .root .result) _ (c .before .root .ensures) (omega (arith, at-sector .sector .ensures .1)))
+    root-is 4096 _ _ _ (at-sector .sector .ensures .0)
+    (root-given (c .before .root .result) _ (c .before .root .ensures) (omega (arith, at-sector .sector .ensures .1)))
 
 pub sector-root-spec : {M : Type 1} → statement M
 sector-root-spec = tie.close (tie.spec sector-requires root-requires returns)
