@@ -4,6 +4,7 @@ pub mod Parts
 pub mod Puts
 pub mod Lent
 pub mod Loops
+pub mod Exchange
 pub mod Tab
 pub mod Same
 pub mod Lowest

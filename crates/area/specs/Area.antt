@@ -17,6 +17,10 @@ put (x ∷ xs) (suc at) bs = x ∷ put xs at bs
 put (x ∷ xs) zero [] = x ∷ xs
 put (x ∷ xs) zero (b ∷ bs) = b ∷ put xs zero bs
 
+-- two spans of n bytes exchanged: both are read first, the first is laid at `two`, then the second at `one`, over it where they overlap
+unfoldable pub exchanged : List ℕ → ℕ → ℕ → ℕ → List ℕ
+exchanged a one two n = put (put a two (part a one n)) one (part a two n)
+
 -- two byte strings are the same: as long, and equal at every place
 unfoldable pub same : List ℕ → List ℕ → Bool
 same [] [] = true

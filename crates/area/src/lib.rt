@@ -1,10 +1,11 @@
 // Lent bytes. Each function lays bytes over an area that its caller lends, or reads one, and its contract is one equation on
 // lists. These functions serve the layers above, which have tested every length: what they require, their callers prove.
 ghost use mathlib.Core.Path.{_≡_};
+ghost use mathlib.Core.Logic.{_⊎_};
 ghost use Prim.Native.Nat.{_+_, _*_, _^_, _≤_, _<_};
 ghost use lib.ListN.{length, replicate};
 ghost use Rattle.area.specs.Area as Says;
-ghost use Rattle.area.specs.Area.{part, put};
+ghost use Rattle.area.specs.Area.{part, put, exchanged};
 ghost use Rattle.area.specs.Little.{valueOf, bytesOf};
 
 // n bytes of src from `from` on, laid over dst from `to` on.
@@ -56,6 +57,51 @@ fn move_up(a: &mut [u8], from: usize, to: usize, n: usize)
     while 0 < i {
         i -= 1;
         a[to + i] = a[from + i];
+    }
+}
+
+// Two spans of n bytes of an area exchanged, as both were at the start. Where they overlap the bytes that both have are moved, and
+// only the ends of the spans are exchanged.
+pub fn swap_within(a: &mut [u8], one: usize, two: usize, n: usize)
+    requires { ⌜ one + n ≤ length (now a) ⌝ }
+    requires { ⌜ two + n ≤ length (now a) ⌝ }
+    ensures { λ _. ⌜ now (a .exit) ≡ exchanged (now (a .entry)) one two n ⌝ }
+{
+    if one <= two {
+        let d = two - one;
+        if n <= d {
+            swap_apart(a, one, two, n);
+        } else {
+            let m = n - d;
+            move_down(a, two, one, m);
+            swap_apart(a, one + m, two + m, d);
+        }
+    } else {
+        let d = one - two;
+        if n <= d {
+            swap_apart(a, one, two, n);
+        } else {
+            let m = n - d;
+            move_up(a, one, one + d, m);
+            swap_apart(a, one, two, d);
+        }
+    }
+}
+
+// Two spans that do not overlap.
+fn swap_apart(a: &mut [u8], one: usize, two: usize, n: usize)
+    requires { ⌜ (one + n ≤ two) ⊎ (two + n ≤ one) ⌝ }
+    requires { ⌜ one + n ≤ length (now a) ⌝ }
+    requires { ⌜ two + n ≤ length (now a) ⌝ }
+    ensures { λ _. ⌜ now (a .exit) ≡ exchanged (now (a .entry)) one two n ⌝ }
+{
+    let mut i = 0;
+    while i < n {
+        let x = a[one + i];
+        let y = a[two + i];
+        a[two + i] = x;
+        a[one + i] = y;
+        i += 1;
     }
 }
 
