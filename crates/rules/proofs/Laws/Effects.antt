@@ -76,7 +76,7 @@ pub whole-sectors : (z n : ℕ) → n % z ≡ 0 → n / z * z ≡ n
 whole-sectors z n e = omega (arith, div-add-mod' n z)
 
 -- a byte below a whole size lies in a sector below it
-sector-below : (z at size : ℕ) → 0 < z → size % z ≡ 0 → at < size → at / z < size / z
+pub sector-below : (z at size : ℕ) → 0 < z → size % z ≡ 0 → at < size → at / z < size / z
 sector-below z at size pos e lt = div-lt-iff-lt-mul {k = z} {x = at} {y = size / z} pos .1 (subst (λ (n : ℕ). at < n) (sym (whole-sectors z size e)) lt)
 
 -- ---- the stage staged
@@ -85,7 +85,7 @@ sector-below z at size pos e lt = div-lt-iff-lt-mul {k = z} {x = at} {y = size /
 unfoldable pub copiedMap : ℕ → ℕ → List ℕ → List ℕ
 copiedMap copies at staged = pick (eqb (getD staged at none) none) (set staged at (lowest (unused staged) 0 copies)) staged
 
-copied-map : (z : ℕ) (n : Ground) (at : ℕ) (g : Staging) → copied z n at g .staged ≡ copiedMap (n .copies) at (g .staged)
+pub copied-map : (z : ℕ) (n : Ground) (at : ℕ) (g : Staging) → copied z n at g .staged ≡ copiedMap (n .copies) at (g .staged)
 unfolding copied newCopy freeCopy copiedMap pick
 copied-map z n at g = under (eqb (getD (g .staged) at none) none) _ _
   where
@@ -93,14 +93,14 @@ copied-map z n at g = under (eqb (getD (g .staged) at none) none) _ _
     under true x y = refl
     under false x y = refl
 
-written-map : (z : ℕ) (n : Ground) (at : ℕ) (bs : List ℕ) (g : Staging) → spanWritten z n at bs g .staged ≡ copiedMap (n .copies) (at / z) (g .staged)
+pub written-map : (z : ℕ) (n : Ground) (at : ℕ) (bs : List ℕ) (g : Staging) → spanWritten z n at bs g .staged ≡ copiedMap (n .copies) (at / z) (g .staged)
 unfolding spanWritten laid
 written-map z n at bs g = copied-map z n (at / z) g
 
-free-slot : (copies : ℕ) (staged : List ℕ) → 0 < count (unused staged) 0 copies → Free copies (lowest (unused staged) 0 copies) staged
+pub free-slot : (copies : ℕ) (staged : List ℕ) → 0 < count (unused staged) 0 copies → Free copies (lowest (unused staged) 0 copies) staged
 free-slot copies staged h = let r = lowest-is (unused staged) 0 copies h in record { below = omega (arith, r .1); unused = not-true _ (r .0) }
 
-length-copied : (copies at : ℕ) (staged : List ℕ) → length (copiedMap copies at staged) ≡ length staged
+pub length-copied : (copies at : ℕ) (staged : List ℕ) → length (copiedMap copies at staged) ≡ length staged
 unfolding copiedMap
 length-copied copies at staged =
     by (eqb (getD staged at none) none)
@@ -111,7 +111,7 @@ length-copied copies at staged =
 unfoldable pub asks : List ℕ → ℕ → ℕ
 asks staged at = pick (eqb (getD staged at none) none) 1 0
 
-copied-kept : (copies start now at : ℕ) (staged : List ℕ) → copies ≤ 16 → at < now → asks staged at ≤ count (unused staged) 0 copies → Staged copies start now staged → Staged copies start now (copiedMap copies at staged)
+pub copied-kept : (copies start now at : ℕ) (staged : List ℕ) → copies ≤ 16 → at < now → asks staged at ≤ count (unused staged) 0 copies → Staged copies start now staged → Staged copies start now (copiedMap copies at staged)
 unfolding copiedMap asks
 copied-kept copies start now at staged few lt h f =
     by (eqb (getD staged at none) none)
@@ -120,11 +120,11 @@ copied-kept copies start now at staged few lt h f =
     (λ e. subst (λ (x : List ℕ). Staged copies start now x) (sym (skips (eqb (getD staged at none) none) (set staged at (lowest (unused staged) 0 copies)) staged e)) f)
 
 -- what two positions ask for, one after the other
-asks-some : (staged : List ℕ) (at : ℕ) → eqb (getD staged at none) none ≡ true → asks staged at ≡ 1
+pub asks-some : (staged : List ℕ) (at : ℕ) → eqb (getD staged at none) none ≡ true → asks staged at ≡ 1
 unfolding asks
 asks-some staged at e = picks (eqb (getD staged at none) none) 1 0 e
 
-asks-none : (staged : List ℕ) (at : ℕ) → eqb (getD staged at none) none ≡ false → asks staged at ≡ 0
+pub asks-none : (staged : List ℕ) (at : ℕ) → eqb (getD staged at none) none ≡ false → asks staged at ≡ 0
 unfolding asks
 asks-none staged at e = skips (eqb (getD staged at none) none) 1 0 e
 
@@ -143,7 +143,7 @@ copied-old copies at staged e = skips (eqb (getD staged at none) none) _ staged 
 unused-set : (staged : List ℕ) (at slot j : ℕ) → (j ≡ slot → ⊥) → unused staged j ≡ true → unused (set staged at slot) j ≡ true
 unused-set staged at slot j ne h = ap not (some-set (eqb j) staged at slot (not-true _ h) (ne-eqb j slot ne))
 
-asks-two : (copies at to : ℕ) (staged : List ℕ) → copies ≤ 16 → at < length staged → pick (eqb to at) (asks staged at) (asks staged at + asks staged to) ≤ count (unused staged) 0 copies
+pub asks-two : (copies at to : ℕ) (staged : List ℕ) → copies ≤ 16 → at < length staged → pick (eqb to at) (asks staged at) (asks staged at + asks staged to) ≤ count (unused staged) 0 copies
     → (asks staged at ≤ count (unused staged) 0 copies) × (asks (copiedMap copies at staged) to ≤ count (unused (copiedMap copies at staged)) 0 copies)
 asks-two copies at to staged few lt h =
     let one : asks staged at ≤ count (unused staged) 0 copies =
@@ -177,7 +177,7 @@ asks-two copies at to staged few lt h =
 -- ---- what each instruction does to the staged
 
 -- 40 in terms of what positions ask for
-wanted-one : (staged : List ℕ) (at : ℕ) → length (those (λ n. eqb (getD staged n none) none) (at ∷ [])) ≡ asks staged at
+pub wanted-one : (staged : List ℕ) (at : ℕ) → length (those (λ n. eqb (getD staged n none) none) (at ∷ [])) ≡ asks staged at
 unfolding those asks pick
 wanted-one staged at = under (eqb (getD staged at none) none)
   where
@@ -185,7 +185,7 @@ wanted-one staged at = under (eqb (getD staged at none) none)
     under true = refl
     under false = refl
 
-wanted-two : (staged : List ℕ) (at to : ℕ) → length (those (λ n. eqb (getD staged n none) none) (at ∷ to ∷ [])) ≡ asks staged at + asks staged to
+pub wanted-two : (staged : List ℕ) (at to : ℕ) → length (those (λ n. eqb (getD staged n none) none) (at ∷ to ∷ [])) ≡ asks staged at + asks staged to
 unfolding those asks pick
 wanted-two staged at to = under (eqb (getD staged at none) none) (eqb (getD staged to none) none)
   where
@@ -195,7 +195,7 @@ wanted-two staged at to = under (eqb (getD staged at none) none) (eqb (getD stag
     under false true = refl
     under false false = refl
 
-span-in : (z size at n : ℕ) → badSpan z size at n ≡ false → at < size
+pub span-in : (z size at n : ℕ) → badSpan z size at n ≡ false → at < size
 unfolding badSpan
 span-in z size at n e =
     let a = neither _ _ e in
@@ -221,7 +221,7 @@ module _ (z : ℕ) (s : Setting) (p : Progress) (start : ℕ) (pos : 0 < z) (few
 
 -- ---- Truncate
 
-next-sector : (z a b : ℕ) → 0 < z → a % z ≡ 0 → b % z ≡ 0 → a < b → b ≤ a + z → b / z ≡ suc (a / z)
+pub next-sector : (z a b : ℕ) → 0 < z → a % z ≡ 0 → b % z ≡ 0 → a < b → b ≤ a + z → b / z ≡ suc (a / z)
 next-sector z a b pos ea eb lt le =
     let wa = whole-sectors z a ea in
     let wb = whole-sectors z b eb in
@@ -229,7 +229,7 @@ next-sector z a b pos ea eb lt le =
     let dn : b / z ≤ suc (a / z) = le-of-mul-le-mul-right {m = b / z} {n = suc (a / z)} {k = z} (omega (arith, suc-mul (a / z) z)) pos in
     omega arith
 
-past-first : (now : ℕ) (staged : List ℕ) → every (λ n. eqb n none) (drop now staged) ≡ true → eqb (getD staged now none) none ≡ true
+pub past-first : (now : ℕ) (staged : List ℕ) → every (λ n. eqb n none) (drop now staged) ≡ true → eqb (getD staged now none) none ≡ true
 unfolding every
 past-first zero [] h = refl
 past-first zero (x ∷ xs) h = both-left _ _ h
@@ -258,7 +258,7 @@ pub record Sized (z now to : ℕ) : Type 0 where
   pub up : to ≤ now + z
   pub down : now ≤ to + z
 
-sized : (z now to : ℕ) → badSize z now to ≡ false → Sized z now to
+pub sized : (z now to : ℕ) → badSize z now to ≡ false → Sized z now to
 unfolding badSize
 sized z now to e =
     let a = neither _ _ e in
@@ -288,7 +288,7 @@ resized-kept z s p start to bytes pos few whole f sz len free =
     subst (λ (m : List ℕ). Staged (s .copies) start (to / z) m) (sym (resized-same z (groundOf s) (p .size) to g e d))
     (subst (λ (n : ℕ). Staged (s .copies) start (n / z) (p .staged)) q f)))
 
-swap-asks : (b : Bool) (staged : List ℕ) (at to : ℕ) → length (those (λ n. eqb (getD staged n none) none) (pick b (at ∷ []) (at ∷ to ∷ []))) ≡ pick b (asks staged at) (asks staged at + asks staged to)
+pub swap-asks : (b : Bool) (staged : List ℕ) (at to : ℕ) → length (those (λ n. eqb (getD staged n none) none) (pick b (at ∷ []) (at ∷ to ∷ []))) ≡ pick b (asks staged at) (asks staged at + asks staged to)
 unfolding pick
 swap-asks true staged at to = wanted-one staged at
 swap-asks false staged at to = wanted-two staged at to

@@ -46,7 +46,7 @@ every-get p [] i d h e = absurd (omega arith)
 every-get p (x ∷ xs) zero d h e = both-left _ _ e
 every-get p (x ∷ xs) (suc i) d h e = every-get p xs i d (omega arith) (both-right _ _ e)
 
-either-second : (a b : Bool) → either a b ≡ true → a ≡ false → b ≡ true
+pub either-second : (a b : Bool) → either a b ≡ true → a ≡ false → b ≡ true
 unfolding pick
 either-second true b e f = never f
 either-second false b e f = e
@@ -146,7 +146,7 @@ module _ (z : ℕ) (s : Setting) (p : Progress) (solid : Solid z s) (f : Staged 
       subst (λ (x : ℕ). not (eqb x none) ≡ true) g (every-get (λ n. not (eqb n none)) (drop (startOf z s) (take (p .size / z) (p .staged))) (j - startOf z s) none inside (f .past)) in
       never (sym e ∙ not-true _ q))
 
-  committed-slot : (j : ℕ) → j < startOf z s → ltb (getD (whose (s .terms .head .contract) (s .places) .slots) j 0) (s .sectors) ≡ true
+  pub committed-slot : (j : ℕ) → j < startOf z s → ltb (getD (whose (s .terms .head .contract) (s .places) .slots) j 0) (s .sectors) ≡ true
   committed-slot j lt =
       by (whose (s .terms .head .contract) (s .places) .held)
       (λ u. subst (λ (x : ℕ). ltb x (s .sectors) ≡ true) (getD-take (startOf z s) (whose (s .terms .head .contract) (s .places) .slots) j 0 lt)
@@ -155,7 +155,7 @@ module _ (z : ℕ) (s : Setting) (p : Progress) (solid : Solid z s) (f : Staged 
       (lt-ltb 0 (s .sectors) (solid .one))))
       (λ u. let q : startOf z s ≡ 0 = ap (λ (n : ℕ). n / z) (whose-nobody (s .terms .head .contract) (s .places) u) ∙ zero-div z in absurd (omega arith))
 
-  spot-valid : (j : ℕ) → j < p .size / z → valid s (spotOf (parent s .slots) (p .staged) j) ≡ true
+  pub spot-valid : (j : ℕ) → j < p .size / z → valid s (spotOf (parent s .slots) (p .staged) j) ≡ true
   unfolding spotOf valid parent slotInOrder
   spot-valid j lt =
       by (eqb (getD (p .staged) j none) none)

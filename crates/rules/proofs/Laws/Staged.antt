@@ -33,7 +33,7 @@ every-drop-more p n l h =
     let e : n + 1 ≡ suc n = omega arith in
     subst (λ (x : ℕ). every p (drop x l) ≡ true) e (subst (λ (x : List ℕ). every p x ≡ true) (drop-drop 1 n l) (every-drop p 1 (drop n l) h))
 
-slot-below : (stage slot : ℕ) → slot < stage → slotInOrder stage slot ≡ true
+pub slot-below : (stage slot : ℕ) → slot < stage → slotInOrder stage slot ≡ true
 unfolding slotInOrder
 slot-below stage slot h = by (eqb slot none) (λ e. picks _ true _ e) (λ e. skips _ true _ e ∙ lt-ltb _ _ h)
 

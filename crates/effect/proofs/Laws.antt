@@ -1,0 +1,5 @@
+-- The laws, a file for each subject.
+pub mod Slots
+pub mod Copies
+pub mod Kept
+pub mod Spans

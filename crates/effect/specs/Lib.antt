@@ -1,0 +1,3 @@
+-- What effects look at and change, as the code has it, and what the code asks of its callers.
+pub mod Parts
+pub mod Asks
