@@ -3,3 +3,5 @@ pub mod Slots
 pub mod Copies
 pub mod Kept
 pub mod Spans
+pub mod Cases
+pub mod Passed

@@ -1,6 +1,6 @@
 -- What effects ask of their callers. z is the sector size. Assumes nothing.
 use mathlib.Core.Path.{_≡_}
-use mathlib.Core.Bool.{Bool, true, false}
+use mathlib.Core.Bool.{Bool, true}
 use Prim.Native.Nat.{ℕ, _+_, _*_, _/_, _%_, _≤_, _<_}
 use lib.ListN.{length, getD}
 use lib.Dec.{eqb}
@@ -11,7 +11,7 @@ use Rattle.host.specs.Order.{slotInOrder}
 use Rattle.rules.specs.Inputs.{Args}
 use Rattle.rules.specs.Effect.{Ground, Staging, copied}
 use Rattle.sia.specs.declared.Op.{Op}
-use Rattle.sia.specs.declared.Op.the-variants.{Read, ReadSector, Write, Copy, Swap, Truncate, Unknown}
+use Rattle.sia.specs.declared.Op.the-variants.{Write, Copy, Swap, Truncate}
 
 -- a position that has no copy in the stage
 unfoldable pub bare : ℕ → Staging → Bool

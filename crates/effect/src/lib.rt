@@ -2,16 +2,18 @@
 // handed back, while the stage's bytes are changed where they lie. `slots[p]` is the disk slot of position p; the disk is only read.
 // Whether an instruction can run was judged before: what these functions require, their callers prove.
 ghost use mathlib.Core.Path.{_≡_};
-ghost use Prim.Native.Nat.{_+_, _*_, _/_, _%_, _≤_, _<_};
+ghost use Prim.Native.Nat.{_+_, _/_, _≤_, _<_};
 ghost use lib.ListN.{length, getD};
 ghost use lib.Dec.{eqb};
 ghost use Rattle.area.specs.Area.{part};
 ghost use Rattle.host.specs.Empty.{none};
 ghost use Rattle.rules.specs.Effect as Says;
 ghost use Rattle.rules.specs.Effect.{spanWritten};
+ghost use Rattle.sia.specs.declared.Op.the-variants.{Write};
 ghost use Rattle.effect.specs.Parts.{ground, alone, staging, args, grown, placeOf, spanCopied, spansSwapped};
-ghost use Rattle.effect.specs.Asks.{Lent, Free, Lies, Room, From, Over, Two, Sized, Stands};
+ghost use Rattle.effect.specs.Asks.{Lent, Free, Room, From, Over, Two, Sized, Stands};
 use host::Progress;
+use sia::Op;
 
 const SECTOR: usize = 4096;
 
@@ -29,6 +31,14 @@ fn new_zeros(copies: u64, staged: [u8; 64], stage: &mut [u8], at: usize) -> [u8;
     after
 }
 
+// Whether a position has no copy.
+fn is_bare(staged: [u8; 64], at: usize) -> bool
+    requires { ⌜ at < 64 ⌝ }
+    ensures { λ r. ⌜ r ≡ eqb (getD staged at none) none ⌝ }
+{
+    staged[at] == Progress::NONE
+}
+
 // A copy of position `at`, unless it has one: the disk's sector in the lowest free slot.
 fn copied(
     copies: u64,
@@ -42,7 +52,7 @@ fn copied(
     requires { ⌜ Room 4096 (ground copies slots (now disk)) (staging staged (now stage)) at ⌝ }
     ensures { λ r. ⌜ staging r (now (stage .exit)) ≡ Says.copied 4096 (ground copies slots (now (disk .entry))) at (staging staged (now (stage .entry))) ⌝ }
 {
-    if staged[at] != Progress::NONE {
+    if !is_bare(staged, at) {
         return staged;
     }
     let slot = host::free_copy(copies, staged);
@@ -92,14 +102,6 @@ fn write(
     let after = copied(copies, slots, disk, staged, stage, at / SECTOR);
     area::copy_between(input, from, stage, place(after, at), n);
     after
-}
-
-// Whether a position has no copy.
-fn is_bare(staged: [u8; 64], at: usize) -> bool
-    requires { ⌜ at < 64 ⌝ }
-    ensures { λ r. ⌜ r ≡ eqb (getD staged at none) none ⌝ }
-{
-    staged[at] == Progress::NONE
 }
 
 // n bytes of the parent from `from` on, laid from `to` on as they were at the start.
@@ -163,4 +165,35 @@ fn resized(copies: u64, staged: [u8; 64], stage: &mut [u8], size: usize, new: us
         after[new / SECTOR] = Progress::NONE;
     }
     after
+}
+
+// What an instruction does. Of what its inputs say: two offsets, the first also Truncate's new size, and a length; Write's data lie in
+// the input from `from` on.
+pub fn effect(
+    op: Op,
+    copies: u64,
+    slots: [u8; 64],
+    disk: &[u8],
+    staged: [u8; 64],
+    stage: &mut [u8],
+    size: usize,
+    first: usize,
+    second: usize,
+    len: usize,
+    input: &[u8],
+    from: usize,
+) -> [u8; 64]
+    requires { ⌜ Stands 4096 (ground copies slots (now disk)) size op (args first second len (part (now input) from len)) (staging staged (now stage)) ⌝ }
+    requires { ⌜ (op ≡ Write → from + len ≤ length (now input)) ⌝ }
+    ensures { λ r. ⌜ staging r (now (stage .exit)) ≡ Says.effect 4096 (ground copies slots (now (disk .entry))) size op (args first second len (part (now (input .entry)) from len)) (staging staged (now (stage .entry))) ⌝ }
+{
+    match op {
+        Op::Read => staged,
+        Op::ReadSector => staged,
+        Op::Write => write(copies, slots, disk, staged, stage, first, len, input, from),
+        Op::Copy => copy(copies, slots, disk, staged, stage, first, second, len),
+        Op::Swap => swap(copies, slots, disk, staged, stage, first, second, len),
+        Op::Truncate => resized(copies, staged, stage, size, first),
+        Op::Unknown => staged,
+    }
 }

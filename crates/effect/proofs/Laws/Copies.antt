@@ -1,12 +1,11 @@
 -- Copies of sectors in the stage: what is made of one, and that every sector reads as before. z is the sector size. Assumes nothing.
-use mathlib.Core.Path.{_≡_, refl, sym, ap, _∙_}
-use mathlib.Core.Bool.{Bool, true, false}
+use mathlib.Core.Path.{_≡_, sym, ap, _∙_}
+use mathlib.Core.Bool.{true, false}
 use mathlib.Core.List.{List}
-use Prim.Native.Nat.{ℕ, _+_, _*_, _≤_, _<_}
-use lib.ListN.{length, getD, set, replicate}
-use lib.Dec.{eqb}
+use Prim.Native.Nat.{ℕ, _*_}
+use lib.ListN.{getD, set, replicate}
 use Rattle.area.specs.Area.{part, put, zeros}
-use Rattle.area.proofs.Laws.Pick.{picks, skips, no}
+use Rattle.area.proofs.Laws.Pick.{picks, skips}
 use Rattle.host.specs.Empty.{none}
 use Rattle.host.specs.Places.{freeCopy}
 use Rattle.rules.specs.View.{sector, spotOf}

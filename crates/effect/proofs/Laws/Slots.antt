@@ -1,24 +1,23 @@
 -- Slots of the stage: where they begin and end, and what the lowest free one is. z is the sector size. Assumes nothing.
 use mathlib.Core.Path.{_≡_, refl, sym, ap, _∙_}
 use mathlib.Core.Logic.{_⊎_, inl, inr}
-use mathlib.Core.Bool.{Bool, true, false}
+use mathlib.Core.Bool.{false}
 use mathlib.Core.List.{List, [], _∷_}
 use Prim.Native.Nat.{ℕ, zero, suc, _+_, _*_, _/_, _%_, _≤_, _<_}
 use native.Mathlib.Nat.{suc-mul, mul-le-mul-right}
 use native.Mathlib.Omega.{arith}
 use lib.ListN.{length, getD}
 use lib.Dec.{ltb, eqb}
-use borrow.Author.Tests.{eq-eqb, ne-eqb, eqb-false, ltb-true, ltb-false}
-use Rattle.area.proofs.Laws.Pick.{by, never}
+use borrow.Author.Tests.{eqb-false, ltb-true, ltb-false}
+use Rattle.area.proofs.Laws.Pick.{by}
 use Rattle.host.specs.Lists.{some}
 use Rattle.host.specs.Empty.{none}
 use Rattle.host.specs.Places.{freeCopy}
 use Rattle.rules.specs.Effect.{Ground, Staging}
 use Rattle.rules.proofs.Laws.Lists.{some-first, some-tail}
-use Rattle.rules.proofs.Laws.Staged as staged
 use Rattle.rules.proofs.Laws.Effects.{free-slot}
 use Rattle.effect.specs.Parts.{placeOf}
-use Rattle.effect.specs.Asks.{bare, Lent, Free, Lies}
+use Rattle.effect.specs.Asks.{Lent, Free}
 
 -- a slot below a count of slots ends where they end, or before
 pub slot-ends : (z slot n : ℕ) → slot < n → slot * z + z ≤ n * z
@@ -41,15 +40,6 @@ any-default (x ∷ xs) (suc p) d c h = any-default xs p d c (omega arith)
 pub place-is : {slot : ℕ} (z : ℕ) (slots : List ℕ) (at : ℕ) → length slots ≡ 64 → at / z < 64 → slot ≡ getD slots (at / z) 0
     → slot * z + at % z ≡ placeOf z slots at
 place-is z slots at l h e = ap (λ (n : ℕ). n * z + at % z) (e ∙ any-default slots (at / z) 0 none (omega arith))
-
--- the code's test of an entry
-pub is-bare : (z : ℕ) (e : Ground) (g : Staging) (p : ℕ) → Lies z e g p → length (g .staged) ≡ 64 → getD (g .staged) p 0 ≡ 255 → bare p g ≡ true
-unfolding bare
-is-bare z e g p lies l q = eq-eqb _ _ (any-default (g .staged) p none 0 (omega (arith, lies .entry, l)) ∙ q)
-
-pub is-staged : (z : ℕ) (e : Ground) (g : Staging) (p : ℕ) → Lies z e g p → length (g .staged) ≡ 64 → (getD (g .staged) p 0 ≡ 255 → ⊥) → bare p g ≡ false
-unfolding bare
-is-staged z e g p lies l q = ne-eqb _ _ (λ x. q (sym (any-default (g .staged) p none 0 (omega (arith, lies .entry, l))) ∙ x))
 
 -- a slot that no position has
 pub not-there : (slot : ℕ) (l : List ℕ) (p : ℕ) → some (eqb slot) l ≡ false → (slot ≡ none → ⊥) → getD l p none ≡ slot → ⊥

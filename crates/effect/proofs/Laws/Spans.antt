@@ -8,7 +8,7 @@ use lib.ListN.{length, getD}
 use Rattle.area.specs.Area.{part, put, exchanged}
 use Rattle.area.proofs.Laws.Parts.{length-part, part-part}
 use Rattle.host.specs.Empty.{none}
-use Rattle.rules.specs.Effect.{Ground, Staging, sectorAt, copied, spanRead, laid, spanWritten}
+use Rattle.rules.specs.Effect.{Ground, Staging, copied, spanRead, laid, spanWritten}
 use Rattle.rules.proofs.Laws.Effects.{copied-map, length-copied as length-map}
 use Rattle.effect.specs.Parts.{staging, placeOf, spanCopied, spansSwapped}
 use Rattle.effect.specs.Asks.{bare, Lent, Lies, Room, From, Over, Two}

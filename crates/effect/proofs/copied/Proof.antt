@@ -1,19 +1,20 @@
 -- `effect::copied` meets its contract: the position has a copy, or gets the disk's sector in the lowest free slot. Assumes nothing.
-use mathlib.Core.Path.{sym}
+use mathlib.Core.Path.{sym, _∙_}
 use native.Mathlib.Omega.{arith}
 use borrow.Author.Needs.{needs}
-use Rattle.effect.proofs.Laws.Slots.{is-bare, is-staged, new-slot}
+use borrow.Author.Tests.{not-true, not-false}
+use Rattle.effect.specs.Asks.{bare}
+use Rattle.effect.proofs.Laws.Slots.{new-slot}
 use Rattle.effect.proofs.Laws.Copies.{copied-old, laid-copy}
 use Rattle.effect.proofs.copied.Statement.{statement}
 use Rattle.effect.proofs.copied.Tie as tie
 
-array-read-if1 : tie.Need-array-read-if1
-array-read-if1 c = search needs
+is-bare-requires : tie.Need-is-bare-requires
+is-bare-requires c κs = search needs
 
 returns : tie.Need-returns
-returns c =
-    let s = c .before .before .before in
-    sym (copied-old _ _ _ _ (is-staged _ _ _ _ (s .pre .1 .lies) (s .good .1 .1 .1 .0 .1 .0 .1) (c .if1 .taken)))
+unfolding bare
+returns c = sym (copied-old _ _ _ _ (sym (c .before .is-bare .ensures) ∙ not-true _ (c .if1 .taken)))
 
 free-copy-requires : tie.Need-free-copy-requires
 free-copy-requires c κs = tt
@@ -25,29 +26,32 @@ cast-copy-between : tie.Need-cast-copy-between
 cast-copy-between c = search needs
 
 mul-copy-between : tie.Need-mul-copy-between
+unfolding bare
 mul-copy-between c =
-    let s = c .before .before .before .before in
-    let none = is-bare _ _ _ _ (s .pre .1 .lies) (s .good .1 .1 .1 .0 .1 .0 .1) (c .before .if1 .left) in
-    omega (arith, s .pre .1 .lies .there none)
+    let s = c .before .before .before .before .before in
+    omega (arith, s .pre .1 .lies .there (sym (c .before .before .is-bare .ensures) ∙ not-false _ (c .before .if1 .left)))
 
 mul-copy-between-2 : tie.Need-mul-copy-between-2
+unfolding bare
 mul-copy-between-2 c =
-    let s = c .before .before .before .before .before in
-    let none = is-bare _ _ _ _ (s .pre .1 .lies) (s .good .1 .1 .1 .0 .1 .0 .1) (c .before .before .if1 .left) in
-    let new = new-slot _ _ _ _ (s .pre .0) (s .pre .1 .free none) (c .before .free-copy .ensures) in
+    let s = c .before .before .before .before .before .before in
+    let free = s .pre .1 .free (sym (c .before .before .before .is-bare .ensures) ∙ not-false _ (c .before .before .if1 .left)) in
+    let new = new-slot _ _ _ _ (s .pre .0) free (c .before .free-copy .ensures) in
     omega (arith, new .small)
 
 copy-between-requires : tie.Need-copy-between-requires
+unfolding bare
 copy-between-requires c κs =
-    let s = c .before .before .before .before .before in
-    let none = is-bare _ _ _ _ (s .pre .1 .lies) (s .good .1 .1 .1 .0 .1 .0 .1) (c .before .before .if1 .left) in
+    let s = c .before .before .before .before .before .before in
+    let none = sym (c .before .before .before .is-bare .ensures) ∙ not-false _ (c .before .before .if1 .left) in
     (s .pre .1 .lies .there none, new-slot _ _ _ _ (s .pre .0) (s .pre .1 .free none) (c .before .free-copy .ensures) .room)
 
 cast-after : tie.Need-cast-after
+unfolding bare
 cast-after c =
-    let s = c .before .before .before .before .before .before .before .before in
-    let none = is-bare _ _ _ _ (s .pre .1 .lies) (s .good .1 .1 .1 .0 .1 .0 .1) (c .before .before .before .before .before .if1 .left) in
-    let new = new-slot _ _ _ _ (s .pre .0) (s .pre .1 .free none) (c .before .before .before .before .free-copy .ensures) in
+    let s = c .before .before .before .before .before .before .before .before .before in
+    let free = s .pre .1 .free (sym (c .before .before .before .before .before .before .is-bare .ensures) ∙ not-false _ (c .before .before .before .before .before .if1 .left)) in
+    let new = new-slot _ _ _ _ (s .pre .0) free (c .before .before .before .before .free-copy .ensures) in
     omega (arith, new .small)
 
 array-write-after : tie.Need-array-write-after
@@ -57,16 +61,16 @@ same-length : tie.Need-same-length
 same-length c = search needs
 
 returns-2 : tie.Need-returns-2
+unfolding bare
 returns-2 c =
-    let s = c .before .before .before .before .before .before .before .before in
-    let none = is-bare _ _ _ _ (s .pre .1 .lies) (s .good .1 .1 .1 .0 .1 .0 .1) (c .before .before .before .before .before .if1 .left) in
-    laid-copy _ _ _ _ none (c .before .before .before .before .free-copy .ensures) (c .before .before .copy-between .ensures)
+    laid-copy _ _ _ _ (sym (c .before .before .before .before .before .before .is-bare .ensures) ∙ not-false _ (c .before .before .before .before .before .if1 .left))
+    (c .before .before .before .before .free-copy .ensures) (c .before .before .copy-between .ensures)
 
 pub copied-spec : {M : Type 1} → statement M
 copied-spec =
     tie.close
     (tie.spec
-    array-read-if1
+    is-bare-requires
     returns
     free-copy-requires
     array-read-copy-between

@@ -1,6 +1,5 @@
 -- `effect::resized` meets its contract: a walk down the definition. Assumes nothing.
 use mathlib.Core.Path.{refl}
-use native.Mathlib.Omega.{arith}
 use borrow.Author.Needs.{needs}
 use borrow.Author.Tests.{lt-ltb, le-ltb}
 use Rattle.area.proofs.Laws.Pick.{yes, no}

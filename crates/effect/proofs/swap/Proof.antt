@@ -2,6 +2,8 @@
 -- Assumes nothing.
 use native.Mathlib.Omega.{arith}
 use borrow.Author.Needs.{needs}
+use Rattle.rules.specs.Effect.{Ground}
+use Rattle.effect.specs.Parts.{ground}
 use Rattle.effect.proofs.Laws.Spans.{lent-made, over-first, one-fits, two-fits, swapped}
 use Rattle.effect.proofs.swap.Statement.{statement}
 use Rattle.effect.proofs.swap.Tie as tie
@@ -27,10 +29,11 @@ place-requires-2 c κs = c .before .before .before .before .before .before .befo
 swap-within-requires : tie.Need-swap-within-requires
 swap-within-requires c κs =
     let s = c .before .before .before .before .before .before .before .before .before .before .before .before .before in
+    let e : Ground = ground (s .args .copies) (s .args .slots) (s .args .disk .now) in
     let first = c .before .before .before .before .before .before .before .before .before .copied .ensures in
     let second = c .before .before .before .before .before .copied2 .ensures in
-    let one = one-fits 4096 _ _ _ _ _ _ _ first second (s .pre .0) (s .pre .1) (s .good .1 .1 .1 .0 .1 .0 .1) in
-    let two = two-fits 4096 _ _ _ _ _ _ _ first second (s .pre .0) (s .pre .1) (s .good .1 .1 .1 .0 .1 .0 .1) in
+    let one = one-fits 4096 e _ _ _ _ _ _ first second (s .pre .0) (s .pre .1) (s .good .1 .1 .1 .0 .1 .0 .1) in
+    let two = two-fits 4096 e _ _ _ _ _ _ first second (s .pre .0) (s .pre .1) (s .good .1 .1 .1 .0 .1 .0 .1) in
     (omega (arith, one, c .before .place .ensures), omega (arith, two, c .place2 .ensures))
 
 same-length : tie.Need-same-length
@@ -39,7 +42,8 @@ same-length c = search needs
 returns : tie.Need-returns
 returns c =
     let s = c .before .before .before .before .before .before .before .before .before .before .before .before .before .before .before .before in
-    swapped 4096 _ _ _ _ _ _ _ (c .before .before .before .before .before .before .before .before .before .before .before .before .copied .ensures) (c .before .before .before .before .before .before .before .before .copied2 .ensures) (s .pre .0) (s .pre .1) (s .good .1 .1 .1 .0 .1 .0 .1)
+    let e : Ground = ground (s .args .copies) (s .args .slots) (s .args .disk .now) in
+    swapped 4096 e _ _ _ _ _ _ (c .before .before .before .before .before .before .before .before .before .before .before .before .copied .ensures) (c .before .before .before .before .before .before .before .before .copied2 .ensures) (s .pre .0) (s .pre .1) (s .good .1 .1 .1 .0 .1 .0 .1)
     (c .before .before .before .before .place .ensures) (c .before .before .before .place2 .ensures) (c .before .before .swap-within .ensures)
 
 pub swap-spec : {M : Type 1} → statement M
