@@ -1,5 +1,5 @@
 -- What effects ask, from an instruction that passed its checks on a host in order. z is the sector size. Assumes nothing.
-use mathlib.Core.Path.{_≡_, sym, ap, subst}
+use mathlib.Core.Path.{_≡_, sym, ap, _∙_, subst}
 use mathlib.Core.Bool.{true, false}
 use mathlib.Core.List.{List, [], _∷_}
 use Prim.Native.Nat.{ℕ, _+_, _*_, _/_, _%_, _≤_, _<_}
@@ -17,16 +17,17 @@ use Rattle.rules.specs.View.{Setting, parent, freeCopies}
 use Rattle.rules.specs.Inputs.{Args}
 use Rattle.rules.specs.Plan.{badSpan, badSpans, touched, wanted, newSize}
 use Rattle.rules.specs.Facts.{Good, Solid}
-use Rattle.rules.specs.Effect.{groundOf, Staging, copied}
+use Rattle.rules.specs.Effect.{groundOf, Staging, copied, effect}
 use Rattle.rules.proofs.Laws.Effects.{Passed, neither, whole-sectors, sector-below, asks, asks-some, asks-two, copied-map, wanted-one, swap-asks, span-in, past-first}
 use Rattle.rules.proofs.Laws.Spots.{unstaged, committed-slot}
 use Rattle.sia.specs.declared.Op.{Op}
 use Rattle.sia.specs.declared.Op.the-variants.{Write, Copy, Swap, Truncate}
 use Rattle.host.specs.declared.Progress.{Progress}
-use Rattle.effect.specs.Parts.{staging, args}
+use Rattle.effect.specs.Parts.{ground, staging, args}
 use Rattle.effect.specs.Asks.{bare, Lent, Lies, From, Over, Two, Sized, Stands}
 use Rattle.effect.proofs.Laws.Slots.{slot-ends}
 use Rattle.effect.proofs.Laws.Kept.{lies-copied}
+use Rattle.effect.proofs.Laws.Cases.{effect-args}
 
 -- what `badSpan` rules out
 span-within : (z size at n : ℕ) → badSpan z size at n ≡ false → at % z + n ≤ z
@@ -152,3 +153,18 @@ module _ (z : ℕ) (s : Setting) (p : Progress) (bytes : List ℕ) (good : Good 
         swap = λ o. swaps a n (subst (λ (x : Op). Passed z s p x a n) o q);
         truncate = λ o. truncates a n (subst (λ (x : Op). Passed z s p x a n) o q);
       }
+
+  -- the same where the code has the parent's disk slots
+  pub stands-with : (slots : List ℕ) → slots ≡ parent s .slots → (op : Op) (a : Args) (n : ℕ) (bs : List ℕ) → Passed z s p op a n
+      → Stands z (ground (s .copies) slots (s .disk)) (p .size) op (args (a .first) (a .second) (a .len) bs) (staging (p .staged) bytes)
+  stands-with slots own op a n bs q =
+      subst (λ (l : List ℕ). Stands z (ground (s .copies) l (s .disk)) (p .size) op (args (a .first) (a .second) (a .len) bs) (staging (p .staged) bytes))
+      (sym own) (stands op a n bs q)
+
+-- and what the code's answer is then
+pub effect-with : {x : Staging} (z : ℕ) (s : Setting) (slots : List ℕ) → slots ≡ parent s .slots → (size : ℕ) (op : Op) (a : Args) (bs : List ℕ) (g : Staging)
+    → (op ≡ Write → a .bytes ≡ bs) → x ≡ effect z (ground (s .copies) slots (s .disk)) size op (args (a .first) (a .second) (a .len) bs) g
+    → x ≡ effect z (groundOf s) size op a g
+effect-with z s slots own size op a bs g h q =
+    q ∙ ap (λ (l : List ℕ). effect z (ground (s .copies) l (s .disk)) size op (args (a .first) (a .second) (a .len) bs) g) own
+    ∙ effect-args z (groundOf s) size op a bs g h

@@ -18,7 +18,8 @@ mul-fill c =
 fill-requires : tie.Need-fill-requires
 fill-requires c κs =
     let s = c .before .before .before in
-    new-slot _ _ _ _ (s .pre .0) (s .pre .1 .0) (c .before .free-copy .ensures) .room
+    let new = new-slot _ _ _ _ (s .pre .0) (s .pre .1 .0) (c .before .free-copy .ensures) in
+    omega (arith, new .room)
 
 cast-after : tie.Need-cast-after
 cast-after c =
