@@ -97,7 +97,8 @@ fn write(
     requires { ⌜ Lent 4096 (ground copies slots (now disk)) (staging staged (now stage)) ⌝ }
     requires { ⌜ Over 4096 (ground copies slots (now disk)) (staging staged (now stage)) at n ⌝ }
     requires { ⌜ from + n ≤ length (now input) ⌝ }
-    ensures { λ r. ⌜ staging r (now (stage .exit)) ≡ spanWritten 4096 (ground copies slots (now (disk .entry))) at (part (now (input .entry)) from n) (staging staged (now (stage .entry))) ⌝ }
+    ensures { λ r. ⌜ staging r (now (stage .exit)) ≡
+        spanWritten 4096 (ground copies slots (now (disk .entry))) at (part (now (input .entry)) from n) (staging staged (now (stage .entry))) ⌝ }
 {
     let after = copied(copies, slots, disk, staged, stage, at / SECTOR);
     area::copy_between(input, from, stage, place(after, at), n);
@@ -151,7 +152,7 @@ fn swap(
     after
 }
 
-// A sector of zeros is added, or the last one is dropped.
+// A sector of zeros is added, or the last one is dropped and its slot is free again.
 fn resized(copies: u64, staged: [u8; 64], stage: &mut [u8], size: usize, new: usize) -> [u8; 64]
     requires { ⌜ Lent 4096 (alone copies) (staging staged (now stage)) ⌝ }
     requires { ⌜ Sized 4096 (alone copies) (staging staged (now stage)) size new ⌝ }
@@ -185,7 +186,9 @@ pub fn effect(
 ) -> [u8; 64]
     requires { ⌜ Stands 4096 (ground copies slots (now disk)) size op (args first second len (part (now input) from len)) (staging staged (now stage)) ⌝ }
     requires { ⌜ (op ≡ Write → from + len ≤ length (now input)) ⌝ }
-    ensures { λ r. ⌜ staging r (now (stage .exit)) ≡ Says.effect 4096 (ground copies slots (now (disk .entry))) size op (args first second len (part (now (input .entry)) from len)) (staging staged (now (stage .entry))) ⌝ }
+    ensures { λ r. ⌜ staging r (now (stage .exit)) ≡
+        Says.effect 4096 (ground copies slots (now (disk .entry))) size op (args first second len (part (now (input .entry)) from len))
+        (staging staged (now (stage .entry))) ⌝ }
 {
     match op {
         Op::Read => staged,

@@ -15,7 +15,8 @@ use Rattle.effect.specs.Parts.{alone, args}
 use Rattle.effect.specs.Asks.{Lent, Sized}
 
 -- the code's arm
-pub arm : {x : Staging} {op known : Op} (z : ℕ) (e : Ground) (size : ℕ) (a : Args) (g : Staging) → op ≡ known → x ≡ effect z e size known a g → x ≡ effect z e size op a g
+pub arm : {x : Staging} {op known : Op} (z : ℕ) (e : Ground) (size : ℕ) (a : Args) (g : Staging) → op ≡ known → x ≡ effect z e size known a g
+    → x ≡ effect z e size op a g
 arm z e size a g told q = q ∙ ap (λ (o : Op). effect z e size o a g) (sym told)
 
 -- ---- a change of size looks at the stage alone
@@ -26,7 +27,8 @@ lent-alone z e g h = record { few = h .few; long = h .long; slots = h .slots }
 pub sized-alone : (z : ℕ) (e : Ground) (g : Staging) (size new : ℕ) → Sized z e g size new → Sized z (alone (e .copies)) g size new
 sized-alone z e g size new h = record { more = h .more; less = h .less; free = h .free }
 
-pub resized-alone : {x : Staging} (z : ℕ) (e : Ground) (g : Staging) (size new : ℕ) → x ≡ resized z (alone (e .copies)) size new g → x ≡ resized z e size new g
+pub resized-alone : {x : Staging} (z : ℕ) (e : Ground) (g : Staging) (size new : ℕ) → x ≡ resized z (alone (e .copies)) size new g
+    → x ≡ resized z e size new g
 unfolding resized newCopy
 resized-alone z e g size new q = q
 

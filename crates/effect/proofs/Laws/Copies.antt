@@ -1,4 +1,5 @@
--- Copies of sectors in the stage: what is made of one, and that every sector reads as before. z is the sector size. Assumes nothing.
+-- Copies of sectors in the stage: what is read of a position, and what the code makes where one gets a copy. z is the sector size.
+-- Assumes nothing.
 use mathlib.Core.Path.{_≡_, sym, ap, _∙_}
 use mathlib.Core.Bool.{true, false}
 use mathlib.Core.List.{List}
@@ -42,7 +43,9 @@ copied-old z e p g h = skips _ _ _ h
 pub laid-new : {slot : ℕ} {after : List ℕ} (z : ℕ) (e : Ground) (p : ℕ) (bs : List ℕ) (g : Staging) → slot ≡ freeCopy (e .copies) (g .staged)
     → after ≡ put (g .bytes) (slot * z) bs → staging (set (g .staged) p slot) after ≡ newCopy z e p bs g
 unfolding newCopy
-laid-new z e p bs g q b = (λ x. staging (set (g .staged) p (q x)) (b x)) ∙ (λ x. staging (set (g .staged) p (freeCopy (e .copies) (g .staged))) (put (g .bytes) (q x * z) bs))
+laid-new z e p bs g q b =
+    (λ x. staging (set (g .staged) p (q x)) (b x))
+    ∙ (λ x. staging (set (g .staged) p (freeCopy (e .copies) (g .staged))) (put (g .bytes) (q x * z) bs))
 
 pub laid-zeros : {slot : ℕ} {after : List ℕ} (z : ℕ) (e : Ground) (p : ℕ) (g : Staging) → slot ≡ freeCopy (e .copies) (g .staged)
     → after ≡ put (g .bytes) (slot * z) (replicate z 0) → staging (set (g .staged) p slot) after ≡ grown z e p g

@@ -21,12 +21,16 @@ use Rattle.effect.proofs.Laws.Kept.{Has, has, lent-copied, lies-copied,
 pub span-disk : (z : ℕ) (e : Ground) (at n : ℕ) (g : Staging) → bare (at / z) g ≡ true → at % z + n ≤ z
     → spanRead z e at n g ≡ part (e .disk) (getD (e .slots) (at / z) 0 * z + at % z) n
 unfolding spanRead onDisk
-span-disk z e at n g h le = ap (λ (l : List ℕ). part l (at % z) n) (reads-disk z e (at / z) g h) ∙ part-part (e .disk) (getD (e .slots) (at / z) 0 * z) z (at % z) n le
+span-disk z e at n g h le =
+    ap (λ (l : List ℕ). part l (at % z) n) (reads-disk z e (at / z) g h)
+    ∙ part-part (e .disk) (getD (e .slots) (at / z) 0 * z) z (at % z) n le
 
 pub span-stage : (z : ℕ) (e : Ground) (at n : ℕ) (g : Staging) → bare (at / z) g ≡ false → at % z + n ≤ z
     → spanRead z e at n g ≡ part (g .bytes) (placeOf z (g .staged) at) n
 unfolding spanRead
-span-stage z e at n g h le = ap (λ (l : List ℕ). part l (at % z) n) (reads-stage z e (at / z) g h) ∙ part-part (g .bytes) (getD (g .staged) (at / z) none * z) z (at % z) n le
+span-stage z e at n g h le =
+    ap (λ (l : List ℕ). part l (at % z) n) (reads-stage z e (at / z) g h)
+    ∙ part-part (g .bytes) (getD (g .staged) (at / z) none * z) z (at % z) n le
 
 -- it stays when a copy is made
 span-copied : (z : ℕ) (e : Ground) (g : Staging) (p at n : ℕ) → Lent z e g → Room z e g p → length (g .staged) ≡ 64
@@ -42,7 +46,8 @@ place-fits z h at n k le = omega (arith, k .ends, le)
 
 module _ (z : ℕ) (e : Ground) (g h : Staging) (at : ℕ) (made : h ≡ copied z e (at / z) g) where
   -- bytes laid at a span's place
-  pub written : {after : List ℕ} {k : ℕ} (bs : List ℕ) → k ≡ placeOf z (h .staged) at → after ≡ put (h .bytes) k bs → staging (h .staged) after ≡ spanWritten z e at bs g
+  pub written : {after : List ℕ} {k : ℕ} (bs : List ℕ) → k ≡ placeOf z (h .staged) at → after ≡ put (h .bytes) k bs
+      → staging (h .staged) after ≡ spanWritten z e at bs g
   unfolding spanWritten laid
   written bs place b = (λ x. staging (h .staged) (b x)) ∙ (λ x. staging (h .staged) (put (h .bytes) (place x) bs)) ∙ ap (laid z at bs) made
 

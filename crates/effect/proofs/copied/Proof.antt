@@ -49,8 +49,9 @@ copy-between-requires c κs =
 cast-after : tie.Need-cast-after
 unfolding bare
 cast-after c =
-    let s = c .before .before .before .before .before .before .before .before .before in
-    let free = s .pre .1 .free (sym (c .before .before .before .before .before .before .is-bare .ensures) ∙ not-false _ (c .before .before .before .before .before .if1 .left)) in
+    let at-if1 = c .before .before .before .before .before in
+    let s = at-if1 .before .before .before .before in
+    let free = s .pre .1 .free (sym (at-if1 .before .is-bare .ensures) ∙ not-false _ (at-if1 .if1 .left)) in
     let new = new-slot _ _ _ _ (s .pre .0) free (c .before .before .before .before .free-copy .ensures) in
     omega (arith, new .small)
 
@@ -63,7 +64,8 @@ same-length c = search needs
 returns-2 : tie.Need-returns-2
 unfolding bare
 returns-2 c =
-    laid-copy _ _ _ _ (sym (c .before .before .before .before .before .before .is-bare .ensures) ∙ not-false _ (c .before .before .before .before .before .if1 .left))
+    let at-if1 = c .before .before .before .before .before in
+    laid-copy _ _ _ _ (sym (at-if1 .before .is-bare .ensures) ∙ not-false _ (at-if1 .if1 .left))
     (c .before .before .before .before .free-copy .ensures) (c .before .before .copy-between .ensures)
 
 pub copied-spec : {M : Type 1} → statement M

@@ -49,10 +49,13 @@ same-length c = search needs
 returns : tie.Need-returns
 unfolding bare
 returns c =
-    let s = c .before .before .before .before .before .before .before .before .before .before .before .before .before .before in
-    let none = sym (c .before .before .before .before .before .before .is-bare .ensures) ∙ c .before .before .before .before .before .if1 .taken in
-    fetched 4096 _ _ _ _ (c .before .before .before .before .before .before .before .before .before .before .copied .ensures) _ (s .pre .0) (s .pre .1 .0) (s .good .1 .1 .1 .0 .1 .0 .1) _ (s .pre .1 .1) (s .good .1 .0 .1 .0 .1) none
-    (c .before .before .before .before .before .before .before .place .ensures) (c .before .before .before .before .place2 .ensures) (c .before .before .copy-between .ensures)
+    let at-if1 = c .before .before .before .before .before in
+    let at-copied = at-if1 .before .before .before .before .before in
+    let s = at-copied .before .before .before .before in
+    let none = sym (at-if1 .before .is-bare .ensures) ∙ at-if1 .if1 .taken in
+    let target = at-if1 .before .before .place .ensures in
+    fetched 4096 _ _ _ _ (at-copied .copied .ensures) _ (s .pre .0) (s .pre .1 .0) (s .good .1 .1 .1 .0 .1 .0 .1) _ (s .pre .1 .1)
+    (s .good .1 .0 .1 .0 .1) none target (c .before .before .before .before .place2 .ensures) (c .before .before .copy-between .ensures)
 
 same-length-2 : tie.Need-same-length-2
 same-length-2 c = search needs
@@ -60,10 +63,13 @@ same-length-2 c = search needs
 returns-2 : tie.Need-returns-2
 unfolding bare
 returns-2 c =
-    let s = c .before .before .before .before .before .before .before .before .before .before .before .before .before .before in
-    let some = sym (c .before .before .before .before .before .before .is-bare .ensures) ∙ c .before .before .before .before .before .if1 .left in
-    moved 4096 _ _ _ _ (c .before .before .before .before .before .before .before .before .before .before .copied .ensures) _ (s .pre .0) (s .pre .1 .0) (s .good .1 .1 .1 .0 .1 .0 .1) _ (s .pre .1 .1) some
-    (c .before .before .before .before .before .before .before .place .ensures) (c .before .before .before .place3 .ensures) (c .before .before .move-within .ensures)
+    let at-if1 = c .before .before .before .before .before in
+    let at-copied = at-if1 .before .before .before .before .before in
+    let s = at-copied .before .before .before .before in
+    let some = sym (at-if1 .before .is-bare .ensures) ∙ at-if1 .if1 .left in
+    let target = at-if1 .before .before .place .ensures in
+    moved 4096 _ _ _ _ (at-copied .copied .ensures) _ (s .pre .0) (s .pre .1 .0) (s .good .1 .1 .1 .0 .1 .0 .1) _ (s .pre .1 .1) some
+    target (c .before .before .before .place3 .ensures) (c .before .before .move-within .ensures)
 
 pub copy-spec : {M : Type 1} → statement M
 copy-spec =

@@ -41,9 +41,11 @@ same-length c = search needs
 
 returns : tie.Need-returns
 returns c =
-    let s = c .before .before .before .before .before .before .before .before .before .before .before .before .before .before .before .before in
+    let at-second = c .before .before .before .before .before .before .before .before in
+    let at-first = at-second .before .before .before .before in
+    let s = at-first .before .before .before .before in
     let e : Ground = ground (s .args .copies) (s .args .slots) (s .args .disk .now) in
-    swapped 4096 e _ _ _ _ _ _ (c .before .before .before .before .before .before .before .before .before .before .before .before .copied .ensures) (c .before .before .before .before .before .before .before .before .copied2 .ensures) (s .pre .0) (s .pre .1) (s .good .1 .1 .1 .0 .1 .0 .1)
+    swapped 4096 e _ _ _ _ _ _ (at-first .copied .ensures) (at-second .copied2 .ensures) (s .pre .0) (s .pre .1) (s .good .1 .1 .1 .0 .1 .0 .1)
     (c .before .before .before .before .place .ensures) (c .before .before .before .place2 .ensures) (c .before .before .swap-within .ensures)
 
 pub swap-spec : {M : Type 1} → statement M

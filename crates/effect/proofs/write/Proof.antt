@@ -21,7 +21,9 @@ same-length : tie.Need-same-length
 same-length c = search needs
 
 returns : tie.Need-returns
-returns c = written 4096 _ _ _ _ (c .before .before .before .before .before .before .before .copied .ensures) _ (c .before .before .before .place .ensures) (c .before .before .copy-between .ensures)
+returns c =
+    let made = c .before .before .before .before .before .before .before .copied .ensures in
+    written 4096 _ _ _ _ made _ (c .before .before .before .place .ensures) (c .before .before .copy-between .ensures)
 
 pub write-spec : {M : Type 1} → statement M
 write-spec = tie.close (tie.spec copied-requires place-requires copy-between-requires same-length returns)
