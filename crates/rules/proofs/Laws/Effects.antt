@@ -93,7 +93,7 @@ copied-map z n at g = under (eqb (getD (g .staged) at none) none) _ _
     under true x y = refl
     under false x y = refl
 
-pub written-map : (z : ℕ) (n : Ground) (at : ℕ) (bs : List ℕ) (g : Staging) → spanWritten z n at bs g .staged ≡ copiedMap (n .copies) (at / z) (g .staged)
+written-map : (z : ℕ) (n : Ground) (at : ℕ) (bs : List ℕ) (g : Staging) → spanWritten z n at bs g .staged ≡ copiedMap (n .copies) (at / z) (g .staged)
 unfolding spanWritten laid
 written-map z n at bs g = copied-map z n (at / z) g
 
@@ -111,7 +111,7 @@ length-copied copies at staged =
 unfoldable pub asks : List ℕ → ℕ → ℕ
 asks staged at = pick (eqb (getD staged at none) none) 1 0
 
-pub copied-kept : (copies start now at : ℕ) (staged : List ℕ) → copies ≤ 16 → at < now → asks staged at ≤ count (unused staged) 0 copies → Staged copies start now staged → Staged copies start now (copiedMap copies at staged)
+copied-kept : (copies start now at : ℕ) (staged : List ℕ) → copies ≤ 16 → at < now → asks staged at ≤ count (unused staged) 0 copies → Staged copies start now staged → Staged copies start now (copiedMap copies at staged)
 unfolding copiedMap asks
 copied-kept copies start now at staged few lt h f =
     by (eqb (getD staged at none) none)
@@ -124,7 +124,7 @@ pub asks-some : (staged : List ℕ) (at : ℕ) → eqb (getD staged at none) non
 unfolding asks
 asks-some staged at e = picks (eqb (getD staged at none) none) 1 0 e
 
-pub asks-none : (staged : List ℕ) (at : ℕ) → eqb (getD staged at none) none ≡ false → asks staged at ≡ 0
+asks-none : (staged : List ℕ) (at : ℕ) → eqb (getD staged at none) none ≡ false → asks staged at ≡ 0
 unfolding asks
 asks-none staged at e = skips (eqb (getD staged at none) none) 1 0 e
 
@@ -185,7 +185,7 @@ wanted-one staged at = under (eqb (getD staged at none) none)
     under true = refl
     under false = refl
 
-pub wanted-two : (staged : List ℕ) (at to : ℕ) → length (those (λ n. eqb (getD staged n none) none) (at ∷ to ∷ [])) ≡ asks staged at + asks staged to
+wanted-two : (staged : List ℕ) (at to : ℕ) → length (those (λ n. eqb (getD staged n none) none) (at ∷ to ∷ [])) ≡ asks staged at + asks staged to
 unfolding those asks pick
 wanted-two staged at to = under (eqb (getD staged at none) none) (eqb (getD staged to none) none)
   where
@@ -221,7 +221,7 @@ module _ (z : ℕ) (s : Setting) (p : Progress) (start : ℕ) (pos : 0 < z) (few
 
 -- ---- Truncate
 
-pub next-sector : (z a b : ℕ) → 0 < z → a % z ≡ 0 → b % z ≡ 0 → a < b → b ≤ a + z → b / z ≡ suc (a / z)
+next-sector : (z a b : ℕ) → 0 < z → a % z ≡ 0 → b % z ≡ 0 → a < b → b ≤ a + z → b / z ≡ suc (a / z)
 next-sector z a b pos ea eb lt le =
     let wa = whole-sectors z a ea in
     let wb = whole-sectors z b eb in
@@ -258,7 +258,7 @@ pub record Sized (z now to : ℕ) : Type 0 where
   pub up : to ≤ now + z
   pub down : now ≤ to + z
 
-pub sized : (z now to : ℕ) → badSize z now to ≡ false → Sized z now to
+sized : (z now to : ℕ) → badSize z now to ≡ false → Sized z now to
 unfolding badSize
 sized z now to e =
     let a = neither _ _ e in

@@ -40,7 +40,7 @@ every-at p [] i d h e = e
 every-at p (x ∷ xs) zero d h e = both-left _ _ h
 every-at p (x ∷ xs) (suc i) d h e = every-at p xs i d (both-right _ _ h) e
 
-pub every-get : {A : Type 0} (p : A → Bool) (l : List A) (i : ℕ) (d : A) → i < length l → every p l ≡ true → p (getD l i d) ≡ true
+every-get : {A : Type 0} (p : A → Bool) (l : List A) (i : ℕ) (d : A) → i < length l → every p l ≡ true → p (getD l i d) ≡ true
 unfolding every
 every-get p [] i d h e = absurd (omega arith)
 every-get p (x ∷ xs) zero d h e = both-left _ _ e
@@ -155,7 +155,7 @@ module _ (z : ℕ) (s : Setting) (p : Progress) (solid : Solid z s) (f : Staged 
       (lt-ltb 0 (s .sectors) (solid .one))))
       (λ u. let q : startOf z s ≡ 0 = ap (λ (n : ℕ). n / z) (whose-nobody (s .terms .head .contract) (s .places) u) ∙ zero-div z in absurd (omega arith))
 
-  pub spot-valid : (j : ℕ) → j < p .size / z → valid s (spotOf (parent s .slots) (p .staged) j) ≡ true
+  spot-valid : (j : ℕ) → j < p .size / z → valid s (spotOf (parent s .slots) (p .staged) j) ≡ true
   unfolding spotOf valid parent slotInOrder
   spot-valid j lt =
       by (eqb (getD (p .staged) j none) none)
