@@ -40,7 +40,7 @@ every-at p [] i d h e = e
 every-at p (x ∷ xs) zero d h e = both-left _ _ h
 every-at p (x ∷ xs) (suc i) d h e = every-at p xs i d (both-right _ _ h) e
 
-every-get : {A : Type 0} (p : A → Bool) (l : List A) (i : ℕ) (d : A) → i < length l → every p l ≡ true → p (getD l i d) ≡ true
+pub every-get : {A : Type 0} (p : A → Bool) (l : List A) (i : ℕ) (d : A) → i < length l → every p l ≡ true → p (getD l i d) ≡ true
 unfolding every
 every-get p [] i d h e = absurd (omega arith)
 every-get p (x ∷ xs) zero d h e = both-left _ _ e
