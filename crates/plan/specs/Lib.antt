@@ -1,0 +1,2 @@
+-- What the code of inputs and plan means, where the machine's definitions have no name for it.
+pub mod Ends
