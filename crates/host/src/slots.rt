@@ -136,7 +136,7 @@ pub fn free_slot(disk: u64, places: [Place; 8]) -> u64
 }
 
 // Whether a position is staged in slot x.
-fn staged_in(staged: [u8; 64], x: u64) -> bool
+pub fn staged_in(staged: [u8; 64], x: u64) -> bool
     ensures { λ r. ⌜ r ≡ some (eqb x) staged ⌝ }
 {
     let mut i: usize = 0;

@@ -2,3 +2,7 @@
 pub mod Sums
 pub mod Ends
 pub mod Given
+pub mod Numbers
+pub mod Costs
+pub mod Room
+pub mod Weighed

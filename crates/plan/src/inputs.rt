@@ -1,4 +1,5 @@
 // Checks 21 and 22, and the need of an instruction.
+use crate::sums::above;
 use sia::Instruction;
 use sia::Op;
 use sia::Operand;
@@ -55,14 +56,11 @@ pub fn ill_formed(i: Instruction) -> bool
     i.count != operands_of(op)
 }
 
-// Whether an operand ends past the declared length; the sum is never made.
+// Whether an operand ends past the declared length.
 fn ends_past(declared: u64, o: Operand) -> bool
     ensures { λ r. ⌜ r ≡ endsPast declared o ⌝ }
 {
-    if declared < o.offset {
-        return true;
-    }
-    declared - o.offset < o.len
+    above(declared, o.offset, o.len)
 }
 
 // The operands that a count counts.

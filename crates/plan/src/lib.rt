@@ -2,6 +2,11 @@
 // looks a root up.
 mod decode; // decode.rt: what the inputs say, and check 23
 mod inputs; // inputs.rt: checks 21 and 22, and the need
+mod cost; // cost.rt: what an instruction is charged
+mod judge; // judge.rt: checks 26 to 42, in order
+mod room; // room.rt: what checks 40, 41 and 42 count
+mod spans; // spans.rt: checks 24, 26 and 27
+mod sums; // sums.rt: sums against a limit
 
 pub use decode::decoded;
 pub use inputs::ill_formed;
@@ -22,4 +27,13 @@ pub struct Args {
 pub struct Given {
     pub told: bool,
     pub args: Args,
+}
+
+// Checks 26 to 42: the failure's number, or 0 with the cost, the new size, the hashes of the proof and the length of the record.
+pub struct Weighed {
+    pub number: u64,
+    pub cost: u64,
+    pub size: u64,
+    pub hashes: u64,
+    pub count: u64,
 }

@@ -1,7 +1,7 @@
 -- Sums that are never made: a limit counted down. Assumes nothing.
 use mathlib.Core.Path.{_≡_, sym, _∙_}
-use mathlib.Core.Bool.{true}
-use Prim.Native.Nat.{ℕ, _+_, _-_, _≤_, _<_}
+use mathlib.Core.Bool.{true, false}
+use Prim.Native.Nat.{ℕ, _+_, _-_, _*_, _/_, _≤_, _<_}
 use native.Mathlib.Omega.{arith}
 use lib.Dec.{ltb}
 use borrow.Author.Tests.{ltb-true, ltb-false, lt-ltb, le-ltb}
@@ -16,3 +16,31 @@ pub over : (limit a b : ℕ) → a ≤ limit → ltb (limit - a) b ≡ ltb limit
 over limit a b h = by (ltb (limit - a) b)
     (λ u. u ∙ sym (lt-ltb limit (a + b) (omega (arith, ltb-true (limit - a) b u))))
     (λ u. u ∙ sym (le-ltb limit (a + b) (omega (arith, ltb-false (limit - a) b u))))
+
+-- ---- more than z above
+
+pub not-far : (z a b : ℕ) → b < a → false ≡ ltb (a + z) b
+not-far z a b h = sym (le-ltb (a + z) b (omega arith))
+
+pub far : (z a b : ℕ) → a ≤ b → ltb z (b - a) ≡ ltb (a + z) b
+far z a b h = by (ltb z (b - a))
+    (λ u. u ∙ sym (lt-ltb (a + z) b (omega (arith, ltb-true z (b - a) u))))
+    (λ u. u ∙ sym (le-ltb (a + z) b (omega (arith, ltb-false z (b - a) u))))
+
+-- ---- a record of h hashes and o bytes behind w bytes, with 72 bytes left after it
+
+module _ (room w h o : ℕ) where
+  pub all-written : room < w → true ≡ ltb room (w + (72 + 32 * h + o) + 72)
+  all-written g = sym (lt-ltb room (w + (72 + 32 * h + o) + 72) (omega arith))
+
+  pub no-counts : w ≤ room → room - w < 144 → true ≡ ltb room (w + (72 + 32 * h + o) + 72)
+  no-counts e g = sym (lt-ltb room (w + (72 + 32 * h + o) + 72) (omega arith))
+
+  pub no-output : w ≤ room → 144 ≤ room - w → room - w - 72 - 72 < o → true ≡ ltb room (w + (72 + 32 * h + o) + 72)
+  no-output e g f = sym (lt-ltb room (w + (72 + 32 * h + o) + 72) (omega arith))
+
+  pub hashes-left : w ≤ room → 144 ≤ room - w → o ≤ room - w - 72 - 72
+      → ltb ((room - w - 72 - 72 - o) / 32) h ≡ ltb room (w + (72 + 32 * h + o) + 72)
+  hashes-left e g f = by (ltb ((room - w - 72 - 72 - o) / 32) h)
+      (λ u. u ∙ sym (lt-ltb room (w + (72 + 32 * h + o) + 72) (omega (arith, ltb-true ((room - w - 72 - 72 - o) / 32) h u))))
+      (λ u. u ∙ sym (le-ltb room (w + (72 + 32 * h + o) + 72) (omega (arith, ltb-false ((room - w - 72 - 72 - o) / 32) h u))))

@@ -1,0 +1,14 @@
+-- `plan::Weighed::refused` meets its contract. Assumes nothing.
+use mathlib.Core.Path.{refl}
+use Prim.Native.Nat.{_-_}
+use Rattle.plan.specs.Weighed.{refused}
+use Rattle.tree.specs.Walk as Walk
+use Rattle.plan.proofs.Weighed.refused.Statement.{statement}
+use Rattle.plan.proofs.Weighed.refused.Tie as tie
+
+returns : tie.Need-returns
+unfolding refused
+returns c = refl
+
+pub refused-spec : {M : Type 1} → statement M
+refused-spec = tie.close (tie.spec returns)

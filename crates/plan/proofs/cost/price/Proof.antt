@@ -1,0 +1,19 @@
+-- `plan::cost::price` meets its contract. Assumes nothing.
+use mathlib.Core.Path.{refl}
+use Prim.Native.Nat.{_-_}
+use native.Mathlib.Omega.{arith}
+use Rattle.plan.proofs.Laws.Costs.{priced}
+use Rattle.plan.proofs.cost.price.Statement.{statement}
+use Rattle.plan.proofs.cost.price.Tie as tie
+
+mul-result : tie.Need-mul-result
+mul-result c = omega (arith, priced (c .args .each) (c .args .n) (omega arith) (c .pre))
+
+add-result : tie.Need-add-result
+add-result c = omega (arith, priced (c .args .each) (c .args .n) (omega arith) (c .pre))
+
+returns : tie.Need-returns
+returns c = (refl, omega (arith, priced (c .args .each) (c .args .n) (omega arith) (c .pre)))
+
+pub price-spec : {M : Type 1} → statement M
+price-spec = tie.close (tie.spec mul-result add-result returns)

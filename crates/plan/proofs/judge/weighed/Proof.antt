@@ -1,0 +1,271 @@
+-- `plan::judge::weighed` meets its contract: a walk down the definition. Assumes nothing.
+use mathlib.Core.Path.{refl, sym, ap, ap₂, _∙_}
+use mathlib.Core.Bool.{not}
+use Prim.Native.Nat.{ℕ, _+_, _-_, _*_}
+use native.Mathlib.Omega.{arith}
+use lib.Dec.{ltb}
+use borrow.Author.Tests.{ltb-false, lt-ltb, le-ltb}
+use Rattle.area.proofs.Laws.Pick.{yes, no}
+use Rattle.sia.specs.Number.{number}
+use Rattle.host.specs.Lists.{count}
+use Rattle.host.specs.Places.{others}
+use Rattle.rules.specs.View.{freeCopies}
+use Rattle.rules.specs.Plan.{cost, recordCount, judgedSource}
+use Rattle.plan.specs.Numbers.{sectorsOf, numbers}
+use Rattle.plan.specs.Weighed.{fine}
+use Rattle.plan.proofs.Laws.Numbers.{charged}
+use Rattle.plan.proofs.Laws.Weighed.{not-leb, fails, passes, provable}
+use Rattle.tree.specs.Walk as Walk
+use borrow.Author.Needs.{needs}
+use Rattle.plan.proofs.judge.weighed.Statement.{statement}
+use Rattle.plan.proofs.judge.weighed.Tie as tie
+
+bad-spans-requires : tie.Need-bad-spans-requires
+bad-spans-requires c κs = search needs
+
+refused-requires : tie.Need-refused-requires
+refused-requires c κs = search needs
+
+returns : tie.Need-returns
+unfolding judgedSource freeCopies recordCount numbers
+returns c =
+    let at-bad-spans = c .before .before in
+    c .refused .ensures ∙ fails _ _ _ _ _ _ _ 26 (omega arith)
+    (yes _ _ _ (sym (at-bad-spans .bad-spans .ensures) ∙ c .before .if1 .taken) refl)
+
+asked-badly-requires : tie.Need-asked-badly-requires
+asked-badly-requires c κs = search needs
+
+refused-requires-2 : tie.Need-refused-requires-2
+refused-requires-2 c κs = search needs
+
+returns-2 : tie.Need-returns-2
+unfolding judgedSource freeCopies recordCount numbers
+returns-2 c =
+    let at-asked-badly = c .before .before in
+    let at-if1 = at-asked-badly .before in
+    let at-bad-spans = at-if1 .before in
+    c .refused2 .ensures ∙ fails _ _ _ _ _ _ _ 27 (omega arith)
+    (no _ _ _ (sym (at-bad-spans .bad-spans .ensures) ∙ at-if1 .if1 .left)
+    (yes _ _ _ (sym (at-asked-badly .asked-badly .ensures) ∙ c .before .if2 .taken) refl))
+
+cost-requires : tie.Need-cost-requires
+unfolding numbers
+cost-requires c κs =
+    let at-if1 = c .before .before .before .before in
+    let at-bad-spans = at-if1 .before in
+    let s = at-bad-spans .before in
+    (s .pre .1 .1 .0, charged _ (sectorsOf (s .args .seen)) (s .args .op) (numbers (s .args .args)) (sym (at-bad-spans .bad-spans .ensures) ∙ at-if1 .if1 .left))
+
+above-requires : tie.Need-above-requires
+above-requires c κs = search needs
+
+refused-requires-3 : tie.Need-refused-requires-3
+refused-requires-3 c κs = search needs
+
+returns-3 : tie.Need-returns-3
+unfolding judgedSource freeCopies recordCount numbers
+returns-3 c =
+    let at-above = c .before .before in
+    let at-cost = at-above .before in
+    let at-if2 = at-cost .before .before .before in
+    let at-asked-badly = at-if2 .before in
+    let at-if1 = at-asked-badly .before in
+    let at-bad-spans = at-if1 .before in
+    let s = at-bad-spans .before in
+    c .refused3 .ensures ∙ fails _ _ _ _ _ _ _ 28 (omega arith)
+    (no _ _ _ (sym (at-bad-spans .bad-spans .ensures) ∙ at-if1 .if1 .left)
+    (no _ _ _ (sym (at-asked-badly .asked-badly .ensures) ∙ at-if2 .if2 .left)
+    (yes _ _ _ (ap (λ (k : ℕ). ltb (s .args .terms .budget) (s .args .p .tally + k)) (sym (at-cost .cost .ensures)) ∙ sym (at-above .above .ensures) ∙ c .before .if3 .taken) refl)))
+
+free-copies-requires : tie.Need-free-copies-requires
+free-copies-requires c κs = search needs
+
+wanted-requires : tie.Need-wanted-requires
+wanted-requires c κs = search needs
+
+refused-requires-4 : tie.Need-refused-requires-4
+refused-requires-4 c κs = search needs
+
+returns-4 : tie.Need-returns-4
+unfolding judgedSource freeCopies recordCount numbers
+returns-4 c =
+    let at-wanted = c .before .before in
+    let at-free-copies = at-wanted .before in
+    let at-if3 = at-free-copies .before .before in
+    let at-above = at-if3 .before in
+    let at-cost = at-above .before in
+    let at-if2 = at-cost .before .before .before in
+    let at-asked-badly = at-if2 .before in
+    let at-if1 = at-asked-badly .before in
+    let at-bad-spans = at-if1 .before in
+    let s = at-bad-spans .before in
+    c .refused4 .ensures ∙ fails _ _ _ _ _ _ _ 40 (omega arith)
+    (no _ _ _ (sym (at-bad-spans .bad-spans .ensures) ∙ at-if1 .if1 .left)
+    (no _ _ _ (sym (at-asked-badly .asked-badly .ensures) ∙ at-if2 .if2 .left)
+    (no _ _ _ (ap (λ (k : ℕ). ltb (s .args .terms .budget) (s .args .p .tally + k)) (sym (at-cost .cost .ensures)) ∙ sym (at-above .above .ensures) ∙ at-if3 .if3 .left)
+    (yes _ _ _ (ap₂ ltb (sym (at-free-copies .free-copies .ensures)) (sym (at-wanted .wanted .ensures)) ∙ lt-ltb _ _ (c .before .if4 .taken)) refl))))
+
+new-size-requires : tie.Need-new-size-requires
+new-size-requires c κs = search needs
+
+mul-sizes-fit : tie.Need-mul-sizes-fit
+mul-sizes-fit c = search needs
+
+sizes-fit-requires : tie.Need-sizes-fit-requires
+sizes-fit-requires c κs = search needs
+
+refused-requires-5 : tie.Need-refused-requires-5
+refused-requires-5 c κs = search needs
+
+returns-5 : tie.Need-returns-5
+unfolding judgedSource freeCopies recordCount numbers
+returns-5 c =
+    let at-sizes-fit = c .before .before in
+    let at-new-size = at-sizes-fit .before in
+    let at-if4 = at-new-size .before .before in
+    let at-wanted = at-if4 .before in
+    let at-free-copies = at-wanted .before in
+    let at-if3 = at-free-copies .before .before in
+    let at-above = at-if3 .before in
+    let at-cost = at-above .before in
+    let at-if2 = at-cost .before .before .before in
+    let at-asked-badly = at-if2 .before in
+    let at-if1 = at-asked-badly .before in
+    let at-bad-spans = at-if1 .before in
+    let s = at-bad-spans .before in
+    c .refused5 .ensures ∙ fails _ _ _ _ _ _ _ 41 (omega arith)
+    (no _ _ _ (sym (at-bad-spans .bad-spans .ensures) ∙ at-if1 .if1 .left)
+    (no _ _ _ (sym (at-asked-badly .asked-badly .ensures) ∙ at-if2 .if2 .left)
+    (no _ _ _ (ap (λ (k : ℕ). ltb (s .args .terms .budget) (s .args .p .tally + k)) (sym (at-cost .cost .ensures)) ∙ sym (at-above .above .ensures) ∙ at-if3 .if3 .left)
+    (no _ _ _ (ap₂ ltb (sym (at-free-copies .free-copies .ensures)) (sym (at-wanted .wanted .ensures)) ∙ le-ltb _ _ (at-if4 .if4 .left))
+    (yes _ _ _ (ap (λ (k : ℕ). ltb (s .args .sectors * 4096) (k + others (s .args .terms .head .contract) (s .args .places))) (sym (at-new-size .new-size .ensures)) ∙ not-leb (at-new-size .new-size .result + others (s .args .terms .head .contract) (s .args .places)) (s .args .sectors * 4096) ∙ ap not (sym (at-sizes-fit .sizes-fit .ensures)) ∙ c .before .if5 .taken) refl)))))
+
+proof-count-requires : tie.Need-proof-count-requires
+proof-count-requires c κs =
+    let at-if2 = c .before .before .before .before .before .before .before .before .before .before .before .before .before in
+    let at-asked-badly = at-if2 .before in
+    let at-if1 = at-asked-badly .before in
+    let at-bad-spans = at-if1 .before in
+    let s = at-bad-spans .before in
+    (s .pre .1 .0, provable _ _ _ _ _ (sym (at-bad-spans .bad-spans .ensures) ∙ at-if1 .if1 .left) (sym (at-asked-badly .asked-badly .ensures) ∙ at-if2 .if2 .left))
+
+output-count-requires : tie.Need-output-count-requires
+output-count-requires c κs = search needs
+
+record-above-requires : tie.Need-record-above-requires
+record-above-requires c κs = search needs
+
+refused-requires-6 : tie.Need-refused-requires-6
+refused-requires-6 c κs = search needs
+
+returns-6 : tie.Need-returns-6
+unfolding judgedSource freeCopies recordCount numbers
+returns-6 c =
+    let at-record-above = c .before .before in
+    let at-output-count = at-record-above .before in
+    let at-proof-count = at-output-count .before in
+    let at-if5 = at-proof-count .before in
+    let at-sizes-fit = at-if5 .before in
+    let at-new-size = at-sizes-fit .before in
+    let at-if4 = at-new-size .before .before in
+    let at-wanted = at-if4 .before in
+    let at-free-copies = at-wanted .before in
+    let at-if3 = at-free-copies .before .before in
+    let at-above = at-if3 .before in
+    let at-cost = at-above .before in
+    let at-if2 = at-cost .before .before .before in
+    let at-asked-badly = at-if2 .before in
+    let at-if1 = at-asked-badly .before in
+    let at-bad-spans = at-if1 .before in
+    let s = at-bad-spans .before in
+    c .refused6 .ensures ∙ fails _ _ _ _ _ _ _ 42 (omega arith)
+    (no _ _ _ (sym (at-bad-spans .bad-spans .ensures) ∙ at-if1 .if1 .left)
+    (no _ _ _ (sym (at-asked-badly .asked-badly .ensures) ∙ at-if2 .if2 .left)
+    (no _ _ _ (ap (λ (k : ℕ). ltb (s .args .terms .budget) (s .args .p .tally + k)) (sym (at-cost .cost .ensures)) ∙ sym (at-above .above .ensures) ∙ at-if3 .if3 .left)
+    (no _ _ _ (ap₂ ltb (sym (at-free-copies .free-copies .ensures)) (sym (at-wanted .wanted .ensures)) ∙ le-ltb _ _ (at-if4 .if4 .left))
+    (no _ _ _ (ap (λ (k : ℕ). ltb (s .args .sectors * 4096) (k + others (s .args .terms .head .contract) (s .args .places))) (sym (at-new-size .new-size .ensures)) ∙ not-leb (at-new-size .new-size .result + others (s .args .terms .head .contract) (s .args .places)) (s .args .sectors * 4096) ∙ ap not (sym (at-sizes-fit .sizes-fit .ensures)) ∙ at-if5 .if5 .left)
+    (yes _ _ _ (ap₂ (λ (h o : ℕ). ltb (s .args .terms .room) (s .args .p .written + (72 + 32 * h + o) + 72)) (sym (at-proof-count .proof-count .ensures)) (sym (at-output-count .output-count .ensures)) ∙ sym (at-record-above .record-above .ensures) ∙ c .before .if6 .taken) refl))))))
+
+mul-t22 : tie.Need-mul-t22
+mul-t22 c =
+    let at-output-count = c .before .before in
+    let at-proof-count = at-output-count .before in
+    let s = at-proof-count .before .before .before .before .before .before .before .before .before .before .before .before .before .before .before .before .before .before in
+    omega (arith, ltb-false (s .args .terms .room) (s .args .p .written + (72 + 32 * at-proof-count .proof-count .result + at-output-count .output-count .result) + 72) (sym (c .before .record-above .ensures) ∙ c .if6 .left), s .pre .1 .1 .1)
+
+add-t21 : tie.Need-add-t21
+add-t21 c =
+    let at-output-count = c .before .before in
+    let at-proof-count = at-output-count .before in
+    let s = at-proof-count .before .before .before .before .before .before .before .before .before .before .before .before .before .before .before .before .before .before in
+    omega (arith, ltb-false (s .args .terms .room) (s .args .p .written + (72 + 32 * at-proof-count .proof-count .result + at-output-count .output-count .result) + 72) (sym (c .before .record-above .ensures) ∙ c .if6 .left), s .pre .1 .1 .1)
+
+add-t26 : tie.Need-add-t26
+add-t26 c =
+    let at-output-count = c .before .before in
+    let at-proof-count = at-output-count .before in
+    let s = at-proof-count .before .before .before .before .before .before .before .before .before .before .before .before .before .before .before .before .before .before in
+    omega (arith, ltb-false (s .args .terms .room) (s .args .p .written + (72 + 32 * at-proof-count .proof-count .result + at-output-count .output-count .result) + 72) (sym (c .before .record-above .ensures) ∙ c .if6 .left), s .pre .1 .1 .1)
+
+returns-7 : tie.Need-returns-7
+unfolding judgedSource freeCopies recordCount numbers fine
+returns-7 c =
+    let at-output-count = c .before .before in
+    let at-proof-count = at-output-count .before in
+    let at-if5 = at-proof-count .before in
+    let at-sizes-fit = at-if5 .before in
+    let at-new-size = at-sizes-fit .before in
+    let at-if4 = at-new-size .before .before in
+    let at-wanted = at-if4 .before in
+    let at-free-copies = at-wanted .before in
+    let at-if3 = at-free-copies .before .before in
+    let at-above = at-if3 .before in
+    let at-cost = at-above .before in
+    let at-if2 = at-cost .before .before .before in
+    let at-asked-badly = at-if2 .before in
+    let at-if1 = at-asked-badly .before in
+    let at-bad-spans = at-if1 .before in
+    let s = at-bad-spans .before in
+    passes _ _ _ _ _ _ _ _
+    (no _ _ _ (sym (at-bad-spans .bad-spans .ensures) ∙ at-if1 .if1 .left)
+    (no _ _ _ (sym (at-asked-badly .asked-badly .ensures) ∙ at-if2 .if2 .left)
+    (no _ _ _ (ap (λ (k : ℕ). ltb (s .args .terms .budget) (s .args .p .tally + k)) (sym (at-cost .cost .ensures)) ∙ sym (at-above .above .ensures) ∙ at-if3 .if3 .left)
+    (no _ _ _ (ap₂ ltb (sym (at-free-copies .free-copies .ensures)) (sym (at-wanted .wanted .ensures)) ∙ le-ltb _ _ (at-if4 .if4 .left))
+    (no _ _ _ (ap (λ (k : ℕ). ltb (s .args .sectors * 4096) (k + others (s .args .terms .head .contract) (s .args .places))) (sym (at-new-size .new-size .ensures)) ∙ not-leb (at-new-size .new-size .result + others (s .args .terms .head .contract) (s .args .places)) (s .args .sectors * 4096) ∙ ap not (sym (at-sizes-fit .sizes-fit .ensures)) ∙ at-if5 .if5 .left)
+    (no _ _ _ (ap₂ (λ (h o : ℕ). ltb (s .args .terms .room) (s .args .p .written + (72 + 32 * h + o) + 72)) (sym (at-proof-count .proof-count .ensures)) (sym (at-output-count .output-count .ensures)) ∙ sym (c .before .record-above .ensures) ∙ c .if6 .left)
+    refl))))))
+    (λ i. record { number = 0; cost = at-cost .cost .ensures i; size = at-new-size .new-size .ensures i; hashes = at-proof-count .proof-count .ensures i; count = 72 + 32 * at-proof-count .proof-count .ensures i + at-output-count .output-count .ensures i })
+
+pub weighed-spec : {M : Type 1} → statement M
+weighed-spec =
+    tie.close
+    (tie.spec
+    bad-spans-requires
+    refused-requires
+    returns
+    asked-badly-requires
+    refused-requires-2
+    returns-2
+    cost-requires
+    above-requires
+    refused-requires-3
+    returns-3
+    free-copies-requires
+    wanted-requires
+    refused-requires-4
+    returns-4
+    new-size-requires
+    mul-sizes-fit
+    sizes-fit-requires
+    refused-requires-5
+    returns-5
+    proof-count-requires
+    output-count-requires
+    record-above-requires
+    refused-requires-6
+    returns-6
+    mul-t22
+    add-t21
+    add-t26
+    returns-7)

@@ -1,0 +1,14 @@
+-- `plan::sums::far_above` meets its contract. Assumes nothing.
+use Prim.Native.Nat.{_-_}
+use Rattle.plan.proofs.Laws.Sums.{not-far, far}
+use Rattle.plan.proofs.sums.far_above.Statement.{statement}
+use Rattle.plan.proofs.sums.far_above.Tie as tie
+
+returns : tie.Need-returns
+returns c = not-far 4096 _ _ (c .if1 .taken)
+
+returns-2 : tie.Need-returns-2
+returns-2 c = far 4096 _ _ (c .if1 .left)
+
+pub far-above-spec : {M : Type 1} → statement M
+far-above-spec = tie.close (tie.spec returns returns-2)

@@ -1,0 +1,33 @@
+-- What checks 26 to 42 look at: of what is read the number of sectors, of the arguments the numbers. Assumes nothing.
+use mathlib.Core.List.{[]}
+use Prim.Native.Nat.{ℕ, _+_, _*_, _≤_}
+use Rattle.area.specs.Area.{tab}
+use Rattle.rules.specs.Inputs as Says
+use Rattle.rules.specs.Plan.{Source, seen}
+use Rattle.sia.specs.declared.Op.{Op}
+use Rattle.sia.specs.declared.Op.the-variants.{Read, ReadSector, Write, Copy, Swap, Truncate, Unknown}
+use Rattle.rules.specs.declared.Spot.the-variants.{OnDisk}
+use Rattle.plan.specs.declared.Args.{Args}
+
+-- n sectors, whichever they are
+unfoldable pub sectorsOf : ℕ → Source
+sectorsOf n = seen (tab 0 n OnDisk)
+
+-- the arguments without Write's bytes
+unfoldable pub numbers : Args → Says.Args
+numbers a = record { key = a .key; first = a .first; second = a .second; len = a .len; bytes = [] }
+
+-- a length that is charged for is within a sector
+unfoldable pub Small : Op → ℕ → Type 0
+Small Read n = n ≤ 4096
+Small ReadSector n = n ≤ 4096
+Small Write n = n ≤ 4096
+Small Copy n = n ≤ 4096
+Small Swap n = n ≤ 4096
+Small Truncate n = Unit {0}
+Small Unknown n = Unit {0}
+
+-- a range of segments of n sectors, one at least
+pub record Ranged (n : ℕ) (a : Args) : Type 0 where
+  pub some : 64 ≤ a .len
+  pub within : a .first + a .len ≤ n * 4096
