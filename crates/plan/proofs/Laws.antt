@@ -6,3 +6,6 @@ pub mod Numbers
 pub mod Costs
 pub mod Room
 pub mod Weighed
+pub mod Lookup
+pub mod Alike
+pub mod Planned

@@ -3,3 +3,5 @@ pub mod Ends
 pub mod Given
 pub mod Numbers
 pub mod Weighed
+pub mod Source
+pub mod Planned

@@ -1,6 +1,6 @@
 -- What checks 26 to 42 look at: of what is read the number of sectors, of the arguments the numbers. Assumes nothing.
 use mathlib.Core.List.{[]}
-use Prim.Native.Nat.{ℕ, _+_, _*_, _≤_}
+use Prim.Native.Nat.{ℕ, _≤_}
 use Rattle.area.specs.Area.{tab}
 use Rattle.rules.specs.Inputs as Says
 use Rattle.rules.specs.Plan.{Source, seen}
@@ -26,8 +26,3 @@ Small Copy n = n ≤ 4096
 Small Swap n = n ≤ 4096
 Small Truncate n = Unit {0}
 Small Unknown n = Unit {0}
-
--- a range of segments of n sectors, one at least
-pub record Ranged (n : ℕ) (a : Args) : Type 0 where
-  pub some : 64 ≤ a .len
-  pub within : a .first + a .len ≤ n * 4096

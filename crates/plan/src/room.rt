@@ -15,7 +15,8 @@ ghost use Rattle.host.specs.Lists.{count, unused};
 ghost use Rattle.host.specs.Empty.{none};
 ghost use Rattle.rules.specs.Plan.{newSize, proofCount, outputCount};
 ghost use Rattle.rules.specs.Plan as Says;
-ghost use Rattle.plan.specs.Numbers.{sectorsOf, numbers, Ranged};
+ghost use Rattle.plan.specs.Numbers.{sectorsOf, numbers};
+ghost use Rattle.view.specs.Seen.{Ranged};
 
 // One for a stage slot that no position has.
 fn free_at(staged: [u8; 64], x: u64) -> u64
@@ -111,16 +112,13 @@ pub fn new_size(size: u64, op: Op, args: Args) -> u64
 // How many hashes a range of segments is proved by, 0 where no proof is asked.
 pub fn proof_count(asked: bool, seen: u64, args: Args) -> u64
     requires { ⌜ seen ≤ 64 ⌝ }
-    requires { ⌜ (asked ≡ true → Ranged seen args) ⌝ }
+    requires { ⌜ (asked ≡ true → Ranged 4096 seen (args .first) (args .len)) ⌝ }
     ensures { λ r. ⌜ r ≡ proofCount 4096 asked (sectorsOf seen) (numbers args) ⌝ }
 {
     if !asked {
         return 0;
     }
-    let first = args.first / 64;
-    let end = (args.first + args.len) / 64;
-    let counted = tree::count(seen as usize * 64, first as usize, end as usize);
-    counted.count as u64
+    view::range_count(seen as usize, args.first as usize, args.len as usize) as u64
 }
 
 // How many bytes are handed out.

@@ -7,15 +7,11 @@ use native.Mathlib.Numerals.{add-one}
 use native.Mathlib.Omega.{arith}
 use lib.ListN.{length, getD}
 use lib.Dec.{eqb}
-use borrow.Author.Tests.{eq-eqb, ne-eqb, le-leb, lt-ltb}
+use borrow.Author.Tests.{eq-eqb, ne-eqb}
 use Rattle.area.specs.Pick.{pick}
-use Rattle.area.proofs.Laws.Pick.{yes, no, by, picks, skips, both-join}
-use Rattle.tree.specs.Walk as Walk
-use Rattle.tree.specs.Checker.{ranged}
-use Rattle.tree.specs.Answers.{Count, countGiven, counted}
+use Rattle.area.proofs.Laws.Pick.{yes, no, by, picks, skips}
 use Rattle.host.specs.Lists.{those, count}
 use Rattle.host.specs.Empty.{none}
-use Rattle.tree.specs.declared.Counted.{Counted}
 
 -- ---- the loop: of n in all, those below i are counted
 
@@ -84,10 +80,3 @@ module _ {A : Type 0} (p : A → Bool) where
       (λ e. let long : length (those p (x ∷ y ∷ [])) ≡ length (those p (y ∷ [])) = ap (λ (l : List A). length l) (skips (p x) (x ∷ those p (y ∷ [])) (those p (y ∷ [])) e) in
       let here : _≡_ {A = ℕ} (pick (p x) 1 0) 0 = skips (p x) 1 0 e in
       omega arith)
-
--- ---- hashes
-
--- the count of a range
-pub counted-is : (r : Counted) (n s e : ℕ) → countGiven r ≡ counted n s e → s < e → e ≤ n → r .count ≡ Walk.count n s e
-unfolding counted ranged
-counted-is r n s e q h g = ap (λ (c : Count). c .count) (q ∙ picks _ _ _ (both-join _ _ (lt-ltb s e h) (le-leb e n g)))

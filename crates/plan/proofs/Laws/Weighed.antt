@@ -1,20 +1,28 @@
 -- Walking down checks 26 to 42. Assumes nothing.
 use mathlib.Core.Path.{_≡_, refl, sym, ap, _∙_}
 use mathlib.Core.Bool.{Bool, true, false, not}
-use Prim.Native.Nat.{ℕ, _+_, _*_, _%_, _≤_, _<_}
+use Prim.Native.Nat.{ℕ, _+_, _*_, _<_}
 use native.Mathlib.Omega.{arith}
 use lib.ListN.{length}
 use lib.Dec.{leb, ltb, eqb}
-use borrow.Author.Tests.{not-false, leb-true, leb-false, le-ltb, lt-ltb, ltb-true, ltb-false, eqb-true, eqb-false, eq-eqb, ne-eqb}
+use borrow.Author.Tests.{leb-true, leb-false, le-ltb, lt-ltb, eqb-true, eq-eqb, ne-eqb}
 use Rattle.area.specs.Pick.{both}
+<<<<<<< HEAD
 use Rattle.area.proofs.Laws.Pick.{yes, no, by, never, picks, skips, either-left, either-right}
 use Rattle.rules.specs.View.{Setting}
+=======
+use Rattle.area.proofs.Laws.Pick.{yes, no, by, never, picks, skips, either-left}
+use Rattle.host.specs.Places.{others}
+use Rattle.rules.specs.View.{Setting, freeCopies}
+>>>>>>> 9d21203 (plan: what is read, and checks 21 to 42 of one instruction with its plan)
 use Rattle.rules.specs.Inputs as Says
 use Rattle.rules.specs.Plan.{Source, spots, badSpan, badSpans, reads, badProof, judgedSource}
 use Rattle.sia.specs.declared.Op.{Op}
 use Rattle.sia.specs.declared.Op.the-variants.{Read, ReadSector, Write, Copy, Swap, Truncate, Unknown}
 use Rattle.host.specs.declared.Progress.{Progress}
-use Rattle.plan.specs.Numbers.{sectorsOf, numbers, Ranged}
+use Rattle.plan.specs.Numbers.{sectorsOf, numbers}
+use Rattle.view.specs.Seen.{Ranged}
+use Rattle.view.proofs.Callers.{range-ranged}
 use Rattle.plan.specs.Weighed.{refused, fine, weighed}
 use Rattle.plan.specs.declared.Args.{Args}
 use Rattle.plan.specs.declared.Weighed.{Weighed}
@@ -45,25 +53,19 @@ module _ (z : ℕ) (s : Setting) (p : Progress) (asked : Bool) (from : Source) (
 
 -- ---- a proof that can be asked
 
-span-ranged : (end at n : ℕ) → badSpan 4096 end at n ≡ false → n % 64 ≡ 0 → (64 ≤ n) × (at + n ≤ end)
-unfolding badSpan
-span-ranged end at n e w =
-    let some : n ≡ 0 → ⊥ = eqb-false n 0 (either-left _ _ e) in
-    let below : at + n ≤ end = ltb-false end (at + n) (either-left _ _ (either-right _ _ e)) in
-    (big n w some, below) where
-      big : (m : ℕ) → m % 64 ≡ 0 → (m ≡ 0 → ⊥) → 64 ≤ m
-      big m w some = by (ltb 0 m) (λ u. omega (arith, ltb-true 0 m u)) (λ u. absurd (some (omega (arith, ltb-false 0 m u))))
-
-read-ranged : (n : ℕ) (a : Args) → badSpan 4096 (length (spots (sectorsOf n)) * 4096) (a .first) (a .len) ≡ false → a .len % 64 ≡ 0 → Ranged n a
-read-ranged n a e w = let r = span-ranged _ (a .first) (a .len) e w in record { some = r .0; within = omega (arith, r .1, sectors-many n) }
+read-ranged : (n : ℕ) (op : Op) (a : Args) → badSpan 4096 (length (spots (sectorsOf n)) * 4096) (a .first) (a .len) ≡ false
+    → badProof op (numbers a) ≡ false → Ranged 4096 n (a .first) (a .len)
+unfolding numbers
+read-ranged n op a e g =
+    range-ranged op (numbers a) n (ap (λ (k : ℕ). badSpan 4096 (k * 4096) (a .first) (a .len)) (sym (sectors-many n)) ∙ e) g
 
 pub provable : (size n : ℕ) (op : Op) (a : Args) (asked : Bool) → badSpans 4096 size (sectorsOf n) op (numbers a) ≡ false
-    → both asked (badProof op (numbers a)) ≡ false → asked ≡ true → Ranged n a
+    → both asked (badProof op (numbers a)) ≡ false → asked ≡ true → Ranged 4096 n (a .first) (a .len)
 unfolding badSpans badProof reads numbers
 provable size n op a asked e f t = go op e (sym (picks asked _ false t) ∙ f) where
-  go : (o : Op) → badSpans 4096 size (sectorsOf n) o (numbers a) ≡ false → badProof o (numbers a) ≡ false → Ranged n a
-  go Read e g = read-ranged n a e (eqb-true _ _ (not-false _ (either-right _ _ (either-right _ _ g))))
-  go ReadSector e g = read-ranged n a e (eqb-true _ _ (not-false _ (either-right _ _ (either-right _ _ g))))
+  go : (o : Op) → badSpans 4096 size (sectorsOf n) o (numbers a) ≡ false → badProof o (numbers a) ≡ false → Ranged 4096 n (a .first) (a .len)
+  go Read e g = read-ranged n Read a e g
+  go ReadSector e g = read-ranged n ReadSector a e g
   go Write e g = never (either-left _ _ g)
   go Copy e g = never (either-left _ _ g)
   go Swap e g = never (either-left _ _ g)

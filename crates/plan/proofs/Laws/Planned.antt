@@ -1,0 +1,143 @@
+-- Walking down checks 21 to 25, and on to the plan. Assumes nothing.
+use mathlib.Core.Path.{_≡_, refl, sym, ap, _∙_}
+use mathlib.Core.Bool.{true, false, not}
+use mathlib.Core.List.{List}
+use Prim.Native.Nat.{ℕ, _+_, _*_, _/_, _≤_, _<_}
+use native.Mathlib.Omega.{arith}
+use lib.ListN.{length}
+use lib.Dec.{eqb}
+use borrow.Author.Tests.{eq-eqb, ne-eqb}
+use Rattle.area.specs.Pick.{pick, both}
+use Rattle.area.proofs.Laws.Pick.{yes, no, by, picks, skips}
+use Rattle.sia.specs.Names.{opOf}
+use Rattle.sia.proofs.Laws.Limits.{within-is}
+use Rattle.host.proofs.Laws.Order.{terms-facts}
+use Rattle.rules.specs.View.{Setting, setting, readOnlyMode, parent, parentSpots, allSpots}
+use Rattle.rules.specs.Inputs.{Args, illFormed, pastEnd, inputsOf, wellFormed, argsOf}
+use Rattle.rules.specs.Plan.{changes, Source, isThere, spots, contractSource, sectorSource, sourceOf, judgedSource, judgedInputs, judged}
+use Rattle.rules.specs.Facts.{Solid, Good}
+use Rattle.sia.specs.declared.Instruction.{Instruction}
+use Rattle.sia.specs.declared.Op.{Op}
+use Rattle.sia.specs.declared.Op.the-variants.{Read, ReadSector, Write, Copy, Swap, Truncate, Unknown}
+use Rattle.host.specs.declared.Place.{Place}
+use Rattle.host.specs.declared.Terms.{Terms}
+use Rattle.host.specs.declared.Progress.{Progress}
+use Rattle.rules.specs.declared.Spot.{Spot}
+use Rattle.plan.specs.Given.{placed, malformed, given, fromOf}
+use Rattle.plan.specs.Weighed.{refused, fine, weighed}
+use Rattle.plan.specs.Planned.{Said, failed, runs, planOf}
+use Rattle.plan.specs.declared.Args as code
+use Rattle.plan.specs.declared.Given.{Given}
+use Rattle.plan.specs.declared.Weighed.{Weighed}
+use Rattle.plan.proofs.Laws.Weighed.{number-judged}
+
+-- ---- what the decoder told
+
+pub told-is : (op : Op) (l : List (List ℕ)) (from : ℕ) (g : Given) → g ≡ given op l from → g .told ≡ wellFormed op l
+unfolding given malformed
+told-is op l from g e = ap (λ (x : Given). x .told) e ∙ by (wellFormed op l)
+    (λ u. ap (λ (x : Given). x .told) (picks _ _ _ u) ∙ sym u)
+    (λ u. ap (λ (x : Given). x .told) (skips _ _ _ u) ∙ sym u)
+
+pub args-are : (op : Op) (l : List (List ℕ)) (from : ℕ) (g : Given) → g ≡ given op l from → wellFormed op l ≡ true → g .args ≡ placed (argsOf op l) from
+unfolding given
+args-are op l from g e u = ap (λ (x : Given). x .args) (e ∙ picks _ _ _ u)
+
+-- ---- what is read does not look at the areas' numbers
+
+pub source-same : (z : ℕ) (s : Setting) (p : Progress) (op : Op) (key : List ℕ)
+    → sourceOf z (setting 0 0 (s .places) (s .terms) (s .disk)) p op key ≡ sourceOf z s p op key
+unfolding sourceOf contractSource parentSpots parent sectorSource allSpots
+source-same z s p Read key = refl
+source-same z s p ReadSector key = refl
+source-same z s p Write key = refl
+source-same z s p Copy key = refl
+source-same z s p Swap key = refl
+source-same z s p Truncate key = refl
+source-same z s p Unknown key = refl
+
+-- ---- limits, from the facts of a machine in order
+
+pub size-few : (s : Setting) (p : Progress) → Solid 4096 s → Good 4096 s p → p .size / 4096 ≤ 64
+size-few s p h g = omega (arith, h .lent .most, g .orderly .within)
+
+pub length-most : (z : ℕ) (s : Setting) (p : Progress) → Good z s p → s .terms .head .length ≤ 65536
+length-most z s p g = within-is _ (terms-facts _ _ _ (g .terms) .head) .declared
+
+pub room-most : (z : ℕ) (s : Setting) (p : Progress) → Good z s p → s .terms .room ≤ 65536
+room-most z s p g = terms-facts _ _ _ (g .terms) .most
+
+-- ---- the first check that applies
+
+module _ (z : ℕ) (s : Setting) (p : Progress) (i : Instruction) (area : List ℕ) where
+  abbrev op : Op
+  op = opOf (i .name)
+
+  abbrev args : Args
+  args = argsOf op (inputsOf i area)
+
+  abbrev from : Source
+  from = sourceOf z s p op (args .key)
+
+  pub fails : (n : ℕ) → 0 < n → n ≡ judged z s p i (inputsOf i area) → failed op n ≡ planOf z s p i area
+  unfolding planOf
+  fails n h e = no _ _ _ (ne-eqb _ _ (λ q. let n-zero : n ≡ 0 = e ∙ q in omega arith)) (ap (failed op) e)
+
+  pub fails-21 : illFormed i ≡ true → failed op 21 ≡ planOf z s p i area
+  unfolding judged
+  fails-21 formed = fails 21 (omega arith) (yes _ _ _ formed refl)
+
+  module _ (formed : illFormed i ≡ false) where
+    pub fails-22 : pastEnd (s .terms .head .length) i ≡ true → failed op 22 ≡ planOf z s p i area
+    unfolding judged
+    fails-22 within = fails 22 (omega arith) (no _ _ _ formed (yes _ _ _ within refl))
+
+    module _ (within : pastEnd (s .terms .head .length) i ≡ false) where
+      inputs : {n : ℕ} → n ≡ judgedInputs z s p i op (inputsOf i area) → n ≡ judged z s p i (inputsOf i area)
+      unfolding judged
+      inputs e = no _ _ _ formed (no _ _ _ within e)
+
+      pub fails-23 : wellFormed op (inputsOf i area) ≡ false → failed op 23 ≡ planOf z s p i area
+      unfolding judgedInputs
+      fails-23 told = fails 23 (omega arith) (inputs (yes _ _ _ (ap not told) refl))
+
+      module _ (told : wellFormed op (inputsOf i area) ≡ true) where
+        pub fails-24 : both (changes op) (readOnlyMode (s .terms)) ≡ true → failed op 24 ≡ planOf z s p i area
+        unfolding judgedInputs
+        fails-24 mode = fails 24 (omega arith) (inputs (no _ _ _ (ap not told) (yes _ _ _ mode refl)))
+
+        module _ (mode : both (changes op) (readOnlyMode (s .terms)) ≡ false) where
+          pub fails-25 : isThere from ≡ false → failed op 25 ≡ planOf z s p i area
+          unfolding judgedInputs
+          fails-25 there = fails 25 (omega arith) (inputs (no _ _ _ (ap not told) (no _ _ _ mode (yes _ _ _ (ap not there) refl))))
+
+          module _ (there : isThere from ≡ true) (w : Weighed) (e : w ≡ weighed z s p (i .proof) from op args) where
+            number-is : w .number ≡ judged z s p i (inputsOf i area)
+            unfolding judgedInputs
+            number-is = inputs (no _ _ _ (ap not told) (no _ _ _ mode (no _ _ _ (ap not there) (ap (λ (x : Weighed). x .number) e ∙ number-judged z s p (i .proof) from op args))))
+
+            pub fails-later : (w .number ≡ 0 → ⊥) → failed op (w .number) ≡ planOf z s p i area
+            fails-later n = fails (w .number) (positive (w .number) n) number-is where
+              positive : (k : ℕ) → (k ≡ 0 → ⊥) → 0 < k
+              positive k n = omega (arith, n)
+
+            w-fine : w .number ≡ 0 → w ≡ fine z s p (i .proof) from op args
+            unfolding weighed
+            w-fine n = e ∙ picks _ _ _ (eq-eqb _ _ (sym (ap (λ (x : Weighed). x .number) e ∙ number-judged z s p (i .proof) from op args) ∙ n))
+
+            pub plan-is : w .number ≡ 0 → (o : Op) (g : code.Args) (l : List Spot) → o ≡ op → g ≡ placed args (fromOf op i) → l ≡ spots from
+                → record { number = 0; op = o; args = g; sectors = l; cost = w .cost; size = w .size; hashes = w .hashes; count = w .count } ≡ planOf z s p i area
+            unfolding planOf runs fine
+            plan-is n o g l eo eg el =
+                let q = w-fine n in
+                yes _ _ _ (eq-eqb _ _ (sym number-is ∙ n))
+                (λ k. record {
+                  number = 0;
+                  op = eo k;
+                  args = eg k;
+                  sectors = el k;
+                  cost = q k .cost;
+                  size = q k .size;
+                  hashes = q k .hashes;
+                  count = q k .count;
+                })

@@ -1,0 +1,15 @@
+-- `plan::Source::missing` meets its contract. Assumes nothing.
+use Prim.Native.Nat.{_-_}
+use Rattle.plan.proofs.Laws.Lookup.{shows-missing}
+use borrow.Author.Needs.{needs}
+use Rattle.plan.proofs.Source.missing.Statement.{statement}
+use Rattle.plan.proofs.Source.missing.Tie as tie
+
+no-sectors-requires : tie.Need-no-sectors-requires
+no-sectors-requires c κs = search needs
+
+returns : tie.Need-returns
+returns c = shows-missing _ (c .no-sectors .ensures)
+
+pub missing-spec : {M : Type 1} → statement M
+missing-spec = tie.close (tie.spec no-sectors-requires returns)

@@ -1,0 +1,256 @@
+-- `plan::chain::planned` meets its contract: a walk down the definition. Assumes nothing.
+use mathlib.Core.Path.{sym, ap, ap₂, _∙_}
+use mathlib.Core.List.{List, []}
+use Prim.Native.Nat.{ℕ, _-_}
+use native.Mathlib.Omega.{arith}
+use lib.ListN.{length}
+use borrow.Author.Tests.{not-true, not-false}
+use Rattle.area.specs.Pick.{both}
+use Rattle.area.specs.Area.{same}
+use Rattle.sia.specs.Names.{opOf}
+use Rattle.rules.specs.View.{readOnlyMode, setting}
+use Rattle.rules.specs.Inputs.{pastEnd, inputsOf, told, argsOf}
+use Rattle.rules.specs.Plan.{changes}
+use Rattle.plan.specs.Planned.{failed}
+use Rattle.sia.specs.declared.Op.{Op}
+use Rattle.plan.specs.declared.Args.{Args}
+use Rattle.rules.specs.declared.Spot.{Spot}
+use Rattle.sia.specs.Names.{readOnly}
+use Rattle.plan.specs.Given.{given, fromOf, placed}
+use Rattle.plan.specs.Numbers.{sectorsOf, numbers}
+use Rattle.plan.specs.Weighed.{weighed}
+use Rattle.plan.proofs.Laws.Planned.{told-is, args-are, source-same, size-few, length-most, room-most, fails-21, fails-22, fails-23, fails-24, fails-25, fails-later, plan-is}
+use Rattle.plan.proofs.Laws.Alike.{weighed-same}
+use Rattle.plan.proofs.Laws.Lookup.{shows-as}
+use Rattle.view.proofs.Laws.Roots.{seen-count}
+use Rattle.view.proofs.Callers.{slots-hold}
+use Rattle.host.specs.Places.{taken}
+use Rattle.rules.specs.Plan.{sourceOf}
+use Rattle.rules.proofs.Laws.Spots.{few-spots}
+use borrow.Author.Needs.{needs}
+use Rattle.plan.proofs.chain.planned.Statement.{statement}
+use Rattle.plan.proofs.chain.planned.Tie as tie
+
+op-of-requires : tie.Need-op-of-requires
+op-of-requires c κs = search needs
+
+ill-formed-requires : tie.Need-ill-formed-requires
+ill-formed-requires c κs = search needs
+
+failed-requires : tie.Need-failed-requires
+failed-requires c κs = search needs
+
+returns : tie.Need-returns
+returns c =
+    let at-ill-formed = c .before .before in
+    let at-op-of = at-ill-formed .before in
+    let s = at-op-of .before .before .before .before in
+    let named = at-op-of .op-of .ensures in
+    c .failed .ensures ∙ ap (λ (o : Op). failed o 21) named ∙ fails-21 4096 (setting (s .args .sectors) (s .args .copies) (s .args .places) (s .args .terms) (s .args .disk .now)) (s .args .p) (s .args .i) (s .args .input .now) (sym (at-ill-formed .ill-formed .ensures) ∙ c .before .if1 .taken)
+
+past-end-requires : tie.Need-past-end-requires
+past-end-requires c κs = search needs
+
+failed-requires-2 : tie.Need-failed-requires-2
+failed-requires-2 c κs = search needs
+
+returns-2 : tie.Need-returns-2
+returns-2 c =
+    let at-past-end = c .before .before in
+    let at-if1 = at-past-end .before .before in
+    let at-ill-formed = at-if1 .before in
+    let at-op-of = at-ill-formed .before in
+    let s = at-op-of .before .before .before .before in
+    let named = at-op-of .op-of .ensures in
+    let formed = sym (at-ill-formed .ill-formed .ensures) ∙ at-if1 .if1 .left in
+    c .failed2 .ensures ∙ ap (λ (o : Op). failed o 22) named ∙ fails-22 4096 (setting (s .args .sectors) (s .args .copies) (s .args .places) (s .args .terms) (s .args .disk .now)) (s .args .p) (s .args .i) (s .args .input .now) formed (sym (at-past-end .past-end .ensures) ∙ c .before .if2 .taken)
+
+decoded-requires : tie.Need-decoded-requires
+decoded-requires c κs =
+    let at-if1 = c .before .before .before in
+    let at-ill-formed = at-if1 .before in
+    let at-op-of = at-ill-formed .before in
+    let s = at-op-of .before .before .before .before in
+    (at-op-of .op-of .ensures, (sym (at-ill-formed .ill-formed .ensures) ∙ at-if1 .if1 .left, ap (λ (n : ℕ). pastEnd n (s .args .i)) (s .pre .1 .1) ∙ sym (c .before .past-end .ensures) ∙ c .if2 .left))
+
+failed-requires-3 : tie.Need-failed-requires-3
+failed-requires-3 c κs = search needs
+
+returns-3 : tie.Need-returns-3
+returns-3 c =
+    let at-decoded = c .before .before .before in
+    let at-if2 = at-decoded .before in
+    let at-past-end = at-if2 .before in
+    let at-if1 = at-past-end .before .before in
+    let at-ill-formed = at-if1 .before in
+    let at-op-of = at-ill-formed .before in
+    let s = at-op-of .before .before .before .before in
+    let named = at-op-of .op-of .ensures in
+    let formed = sym (at-ill-formed .ill-formed .ensures) ∙ at-if1 .if1 .left in
+    let within = sym (at-past-end .past-end .ensures) ∙ at-if2 .if2 .left in
+    let heard = at-decoded .decoded .ensures ∙ ap (λ (o : Op). given o (inputsOf (s .args .i) (s .args .input .now)) (fromOf o (s .args .i))) named in
+    c .failed3 .ensures ∙ ap (λ (o : Op). failed o 23) named ∙ fails-23 4096 (setting (s .args .sectors) (s .args .copies) (s .args .places) (s .args .terms) (s .args .disk .now)) (s .args .p) (s .args .i) (s .args .input .now) formed within (sym (told-is _ _ _ _ heard) ∙ not-true _ (c .before .if3 .taken))
+
+changes-nothing-requires : tie.Need-changes-nothing-requires
+changes-nothing-requires c κs = search needs
+
+failed-requires-4 : tie.Need-failed-requires-4
+failed-requires-4 c κs = search needs
+
+returns-4 : tie.Need-returns-4
+unfolding readOnlyMode
+returns-4 c =
+    let at-changes-nothing = c .before .before in
+    let at-if3 = at-changes-nothing .before .before in
+    let at-decoded = at-if3 .before .before in
+    let at-if2 = at-decoded .before in
+    let at-past-end = at-if2 .before in
+    let at-if1 = at-past-end .before .before in
+    let at-ill-formed = at-if1 .before in
+    let at-op-of = at-ill-formed .before in
+    let s = at-op-of .before .before .before .before in
+    let named = at-op-of .op-of .ensures in
+    let formed = sym (at-ill-formed .ill-formed .ensures) ∙ at-if1 .if1 .left in
+    let within = sym (at-past-end .past-end .ensures) ∙ at-if2 .if2 .left in
+    let heard = at-decoded .decoded .ensures ∙ ap (λ (o : Op). given o (inputsOf (s .args .i) (s .args .input .now)) (fromOf o (s .args .i))) named in
+    let told = sym (told-is _ _ _ _ heard) ∙ not-false _ (at-if3 .if3 .left) in
+    c .failed4 .ensures ∙ ap (λ (o : Op). failed o 24) named ∙ fails-24 4096 (setting (s .args .sectors) (s .args .copies) (s .args .places) (s .args .terms) (s .args .disk .now)) (s .args .p) (s .args .i) (s .args .input .now) formed within told (ap (λ (o : Op). both (changes o) (same (s .args .terms .head .contract) readOnly)) (sym named) ∙ sym (at-changes-nothing .changes-nothing .ensures) ∙ c .before .if4 .taken)
+
+source-of-requires : tie.Need-source-of-requires
+source-of-requires c κs =
+    let s = c .before .before .before .before .before .before .before .before .before .before .before .before .before .before .before .before .before in
+    (s .pre .0 .small, slots-hold 4096 (s .args .disk .now) (s .args .sectors) (taken 4096 (s .args .places)) (s .pre .0 .disk) (s .pre .0 .slots))
+
+failed-requires-5 : tie.Need-failed-requires-5
+failed-requires-5 c κs = search needs
+
+returns-5 : tie.Need-returns-5
+unfolding readOnlyMode placed
+returns-5 c =
+    let at-source-of = c .before .before .before in
+    let at-if4 = at-source-of .before .before .before in
+    let at-changes-nothing = at-if4 .before in
+    let at-if3 = at-changes-nothing .before .before in
+    let at-decoded = at-if3 .before .before in
+    let at-if2 = at-decoded .before in
+    let at-past-end = at-if2 .before in
+    let at-if1 = at-past-end .before .before in
+    let at-ill-formed = at-if1 .before in
+    let at-op-of = at-ill-formed .before in
+    let s = at-op-of .before .before .before .before in
+    let named = at-op-of .op-of .ensures in
+    let formed = sym (at-ill-formed .ill-formed .ensures) ∙ at-if1 .if1 .left in
+    let within = sym (at-past-end .past-end .ensures) ∙ at-if2 .if2 .left in
+    let heard = at-decoded .decoded .ensures ∙ ap (λ (o : Op). given o (inputsOf (s .args .i) (s .args .input .now)) (fromOf o (s .args .i))) named in
+    let told = sym (told-is _ _ _ _ heard) ∙ not-false _ (at-if3 .if3 .left) in
+    let mode = ap (λ (o : Op). both (changes o) (same (s .args .terms .head .contract) readOnly)) (sym named) ∙ sym (at-changes-nothing .changes-nothing .ensures) ∙ at-if4 .if4 .left in
+    let heard-args = args-are _ _ _ _ heard told in
+    let looked = ap₂ (λ (o : Op) (g : Args). sourceOf 4096 (setting 0 0 (s .args .places) (s .args .terms) (s .args .disk .now)) (s .args .p) o (g .key)) named heard-args
+    ∙ source-same 4096 (setting (s .args .sectors) (s .args .copies) (s .args .places) (s .args .terms) (s .args .disk .now)) (s .args .p) (opOf ((s .args .i) .name)) (argsOf (opOf ((s .args .i) .name)) (inputsOf (s .args .i) (s .args .input .now)) .key) in
+    let shown = shows-as _ _ _ looked (at-source-of .source-of .ensures) in
+    c .failed5 .ensures ∙ ap (λ (o : Op). failed o 25) named ∙ fails-25 4096 (setting (s .args .sectors) (s .args .copies) (s .args .places) (s .args .terms) (s .args .disk .now)) (s .args .p) (s .args .i) (s .args .input .now) formed within told mode (sym (shown .there) ∙ not-true _ (c .before .if5 .taken))
+
+weighed-requires : tie.Need-weighed-requires
+weighed-requires c κs =
+    let at-source-of = c .before .before .before in
+    let at-decoded = at-source-of .before .before .before .before .before .before .before .before in
+    let at-op-of = at-decoded .before .before .before .before .before .before in
+    let s = at-op-of .before .before .before .before in
+    let few = few-spots 4096 (setting 0 0 (s .args .places) (s .args .terms) (s .args .disk .now)) (s .args .p) (at-op-of .op-of .result) (at-decoded .decoded .result .args .key) (s .pre .0 .small)
+    (size-few (setting (s .args .sectors) (s .args .copies) (s .args .places) (s .args .terms) (s .args .disk .now)) (s .args .p) (s .pre .0) (s .pre .1 .0)) in
+    let many = sym (ap (λ (l : List Spot). length l) (at-source-of .source-of .ensures .sectors)) ∙ seen-count (at-source-of .source-of .result .seen) in
+    (s .pre .0 .lent .most, (omega (arith, few, many), (length-most 4096 (setting (s .args .sectors) (s .args .copies) (s .args .places) (s .args .terms) (s .args .disk .now)) (s .args .p) (s .pre .1 .0), room-most 4096 (setting (s .args .sectors) (s .args .copies) (s .args .places) (s .args .terms) (s .args .disk .now)) (s .args .p) (s .pre .1 .0))))
+
+failed-requires-6 : tie.Need-failed-requires-6
+failed-requires-6 c κs = search needs
+
+returns-6 : tie.Need-returns-6
+unfolding readOnlyMode placed
+returns-6 c =
+    let at-weighed = c .before .before .before in
+    let at-if5 = at-weighed .before .before in
+    let at-source-of = at-if5 .before .before in
+    let at-if4 = at-source-of .before .before .before in
+    let at-changes-nothing = at-if4 .before in
+    let at-if3 = at-changes-nothing .before .before in
+    let at-decoded = at-if3 .before .before in
+    let at-if2 = at-decoded .before in
+    let at-past-end = at-if2 .before in
+    let at-if1 = at-past-end .before .before in
+    let at-ill-formed = at-if1 .before in
+    let at-op-of = at-ill-formed .before in
+    let s = at-op-of .before .before .before .before in
+    let named = at-op-of .op-of .ensures in
+    let formed = sym (at-ill-formed .ill-formed .ensures) ∙ at-if1 .if1 .left in
+    let within = sym (at-past-end .past-end .ensures) ∙ at-if2 .if2 .left in
+    let heard = at-decoded .decoded .ensures ∙ ap (λ (o : Op). given o (inputsOf (s .args .i) (s .args .input .now)) (fromOf o (s .args .i))) named in
+    let told = sym (told-is _ _ _ _ heard) ∙ not-false _ (at-if3 .if3 .left) in
+    let mode = ap (λ (o : Op). both (changes o) (same (s .args .terms .head .contract) readOnly)) (sym named) ∙ sym (at-changes-nothing .changes-nothing .ensures) ∙ at-if4 .if4 .left in
+    let heard-args = args-are _ _ _ _ heard told in
+    let looked = ap₂ (λ (o : Op) (g : Args). sourceOf 4096 (setting 0 0 (s .args .places) (s .args .terms) (s .args .disk .now)) (s .args .p) o (g .key)) named heard-args
+    ∙ source-same 4096 (setting (s .args .sectors) (s .args .copies) (s .args .places) (s .args .terms) (s .args .disk .now)) (s .args .p) (opOf ((s .args .i) .name)) (argsOf (opOf ((s .args .i) .name)) (inputsOf (s .args .i) (s .args .input .now)) .key) in
+    let shown = shows-as _ _ _ looked (at-source-of .source-of .ensures) in
+    let there = sym (shown .there) ∙ not-false _ (at-if5 .if5 .left) in
+    let many = sym (ap (λ (l : List Spot). length l) (shown .sectors)) ∙ seen-count (at-source-of .source-of .result .seen) in
+    let valued = at-weighed .weighed .ensures
+    ∙ ap₂ (λ (o : Op) (g : Args). weighed 4096 (setting (s .args .sectors) (s .args .copies) (s .args .places) (s .args .terms) []) (s .args .p) ((s .args .i) .proof) (sectorsOf (at-source-of .source-of .result .seen .count)) o (numbers g)) named heard-args
+    ∙ weighed-same 4096 _ _ _ _ many (setting (s .args .sectors) (s .args .copies) (s .args .places) (s .args .terms) (s .args .disk .now)) (s .args .p) ((s .args .i) .proof) _ in
+    c .failed6 .ensures ∙ ap (λ (o : Op). failed o (at-weighed .weighed .result .number)) named ∙ fails-later 4096 (setting (s .args .sectors) (s .args .copies) (s .args .places) (s .args .terms) (s .args .disk .now)) (s .args .p) (s .args .i) (s .args .input .now) formed within told mode there _ valued (c .before .if6 .taken)
+
+returns-7 : tie.Need-returns-7
+unfolding readOnlyMode placed
+returns-7 c =
+    let at-weighed = c .before .before in
+    let at-if5 = at-weighed .before .before in
+    let at-source-of = at-if5 .before .before in
+    let at-if4 = at-source-of .before .before .before in
+    let at-changes-nothing = at-if4 .before in
+    let at-if3 = at-changes-nothing .before .before in
+    let at-decoded = at-if3 .before .before in
+    let at-if2 = at-decoded .before in
+    let at-past-end = at-if2 .before in
+    let at-if1 = at-past-end .before .before in
+    let at-ill-formed = at-if1 .before in
+    let at-op-of = at-ill-formed .before in
+    let s = at-op-of .before .before .before .before in
+    let named = at-op-of .op-of .ensures in
+    let formed = sym (at-ill-formed .ill-formed .ensures) ∙ at-if1 .if1 .left in
+    let within = sym (at-past-end .past-end .ensures) ∙ at-if2 .if2 .left in
+    let heard = at-decoded .decoded .ensures ∙ ap (λ (o : Op). given o (inputsOf (s .args .i) (s .args .input .now)) (fromOf o (s .args .i))) named in
+    let told = sym (told-is _ _ _ _ heard) ∙ not-false _ (at-if3 .if3 .left) in
+    let mode = ap (λ (o : Op). both (changes o) (same (s .args .terms .head .contract) readOnly)) (sym named) ∙ sym (at-changes-nothing .changes-nothing .ensures) ∙ at-if4 .if4 .left in
+    let heard-args = args-are _ _ _ _ heard told in
+    let looked = ap₂ (λ (o : Op) (g : Args). sourceOf 4096 (setting 0 0 (s .args .places) (s .args .terms) (s .args .disk .now)) (s .args .p) o (g .key)) named heard-args
+    ∙ source-same 4096 (setting (s .args .sectors) (s .args .copies) (s .args .places) (s .args .terms) (s .args .disk .now)) (s .args .p) (opOf ((s .args .i) .name)) (argsOf (opOf ((s .args .i) .name)) (inputsOf (s .args .i) (s .args .input .now)) .key) in
+    let shown = shows-as _ _ _ looked (at-source-of .source-of .ensures) in
+    let there = sym (shown .there) ∙ not-false _ (at-if5 .if5 .left) in
+    let many = sym (ap (λ (l : List Spot). length l) (shown .sectors)) ∙ seen-count (at-source-of .source-of .result .seen) in
+    let valued = at-weighed .weighed .ensures
+    ∙ ap₂ (λ (o : Op) (g : Args). weighed 4096 (setting (s .args .sectors) (s .args .copies) (s .args .places) (s .args .terms) []) (s .args .p) ((s .args .i) .proof) (sectorsOf (at-source-of .source-of .result .seen .count)) o (numbers g)) named heard-args
+    ∙ weighed-same 4096 _ _ _ _ many (setting (s .args .sectors) (s .args .copies) (s .args .places) (s .args .terms) (s .args .disk .now)) (s .args .p) ((s .args .i) .proof) _ in
+    plan-is 4096 (setting (s .args .sectors) (s .args .copies) (s .args .places) (s .args .terms) (s .args .disk .now)) (s .args .p) (s .args .i) (s .args .input .now) formed within told mode there _ valued (c .if6 .left) _ _ _ named heard-args (shown .sectors)
+
+pub planned-spec : {M : Type 1} → statement M
+planned-spec =
+    tie.close
+    (tie.spec
+    op-of-requires
+    ill-formed-requires
+    failed-requires
+    returns
+    past-end-requires
+    failed-requires-2
+    returns-2
+    decoded-requires
+    failed-requires-3
+    returns-3
+    changes-nothing-requires
+    failed-requires-4
+    returns-4
+    source-of-requires
+    failed-requires-5
+    returns-5
+    weighed-requires
+    failed-requires-6
+    returns-6
+    returns-7)

@@ -1,0 +1,14 @@
+-- `plan::lookup::no_sectors` meets its contract. Assumes nothing.
+use mathlib.Core.Path.{refl}
+use Prim.Native.Nat.{_-_}
+use Rattle.view.specs.Seen.{spotsOf}
+use Rattle.area.specs.Area.{tab}
+use Rattle.plan.proofs.lookup.no_sectors.Statement.{statement}
+use Rattle.plan.proofs.lookup.no_sectors.Tie as tie
+
+returns : tie.Need-returns
+unfolding spotsOf tab
+returns c = refl
+
+pub no-sectors-spec : {M : Type 1} → statement M
+no-sectors-spec = tie.close (tie.spec returns)

@@ -1,0 +1,66 @@
+-- The plan of an instruction: its number and, where it can run, all that its effect and its record start from. Assumes nothing.
+use mathlib.Core.List.{List, []}
+use Prim.Native.Nat.{ℕ}
+use lib.Dec.{eqb}
+use Rattle.area.specs.Pick.{pick}
+use Rattle.sia.specs.Names.{opOf}
+use Rattle.rules.specs.View.{Setting}
+use Rattle.rules.specs.Inputs.{inputsOf, argsOf}
+use Rattle.rules.specs.Plan.{spots, sourceOf, cost, newSize, proofCount, recordCount, judged}
+use Rattle.view.specs.Seen.{spotsOf}
+use Rattle.sia.specs.declared.Op.{Op}
+use Rattle.sia.specs.declared.Instruction.{Instruction}
+use Rattle.host.specs.declared.Progress.{Progress}
+use Rattle.rules.specs.declared.Spot.{Spot}
+use Rattle.plan.specs.Given.{placed, noArgs, fromOf}
+use Rattle.plan.specs.declared.Args.{Args}
+use Rattle.plan.specs.declared.Plan.{Plan}
+
+-- what a plan says: of what is read, the sectors
+pub record Said : Type 0 where
+  pub number : ℕ
+  pub op : Op
+  pub args : Args
+  pub sectors : List Spot
+  pub cost : ℕ
+  pub size : ℕ
+  pub hashes : ℕ
+  pub count : ℕ
+
+abbrev pub said : Plan → Said
+said r = record {
+  number = r .number;
+  op = r .op;
+  args = r .args;
+  sectors = spotsOf (r .seen);
+  cost = r .cost;
+  size = r .size;
+  hashes = r .hashes;
+  count = r .count;
+}
+
+-- a failure: its number, and nothing else
+unfoldable pub failed : Op → ℕ → Said
+failed op n = record { number = n; op = op; args = noArgs; sectors = []; cost = 0; size = 0; hashes = 0; count = 0 }
+
+-- an instruction that can run: its arguments, what it reads, its cost, the new size, its hashes, and the record's length
+unfoldable pub runs : ℕ → Setting → Progress → Instruction → List ℕ → Said
+runs z s p i area =
+    let op = opOf (i .name) in
+    let a = argsOf op (inputsOf i area) in
+    let from = sourceOf z s p op (a .key) in
+    record {
+      number = 0;
+      op = op;
+      args = placed a (fromOf op i);
+      sectors = spots from;
+      cost = cost (s .terms .head .length) (s .terms .prices) op (a .len);
+      size = newSize (p .size) op a;
+      hashes = proofCount z (i .proof) from a;
+      count = recordCount z (i .proof) from op a;
+    }
+
+unfoldable pub planOf : ℕ → Setting → Progress → Instruction → List ℕ → Said
+planOf z s p i area =
+    let n = judged z s p i (inputsOf i area) in
+    pick (eqb n 0) (runs z s p i area) (failed (opOf (i .name)) n)

@@ -1,0 +1,104 @@
+// Check 25: what is read.
+use crate::Source;
+use host::Place;
+use host::Progress;
+use host::Terms;
+use sia::Op;
+use view::Seen;
+ghost use mathlib.Core.Path.{_≡_};
+ghost use mathlib.Core.Bool.{true, false};
+ghost use mathlib.Core.List.{[]};
+ghost use Prim.Native.Nat.{_/_, _≤_};
+ghost use Rattle.sia.specs.Encode.{every};
+ghost use Rattle.host.specs.Places.{taken};
+ghost use Rattle.host.specs.Order.{placeInOrder};
+ghost use Rattle.rules.specs.View.{setting};
+ghost use Rattle.rules.specs.Plan.{contractSource, sectorSource, sourceOf, missing};
+ghost use Rattle.rules.specs.Plan as Says;
+ghost use Rattle.view.specs.Seen.{spotsOf, holds};
+ghost use Rattle.plan.specs.Source.{Shows};
+
+// No sectors.
+pub fn no_sectors() -> Seen
+    ensures { λ r. ⌜ spotsOf r ≡ [] ⌝ }
+{
+    let slots = [0u8; 64];
+    let staged = [255u8; 64];
+    Seen {
+        count: 0,
+        slots,
+        staged,
+    }
+}
+
+impl Source {
+    // What is not found.
+    fn missing() -> Source
+        ensures { λ r. ⌜ Shows r missing ⌝ }
+    {
+        let seen = no_sectors();
+        Source { there: false, seen }
+    }
+
+    // What looks nothing up.
+    fn nothing() -> Source
+        ensures { λ r. ⌜ Shows r (Says.seen []) ⌝ }
+    {
+        let seen = no_sectors();
+        Source { there: true, seen }
+    }
+}
+
+// Read: the parent as it is now, another contract as committed.
+fn contract_source(places: [Place; 8], terms: Terms, p: Progress, key: [u8; 32]) -> Source
+    requires { ⌜ every (placeInOrder 4096) places ≡ true ⌝ }
+    ensures { λ r. ⌜ Shows r (contractSource 4096 (setting 0 0 places terms []) p key) ⌝ }
+{
+    let other = host::place_of(places, key);
+    if !other.held {
+        return Source::missing();
+    }
+    let head = terms.head;
+    let id = head.contract;
+    if sia::same_id(key, id) {
+        let staged = p.staged;
+        let seen = view::parent_seen(other, staged, p.size);
+        return Source { there: true, seen };
+    }
+    let seen = view::committed_seen(other);
+    Source { there: true, seen }
+}
+
+// ReadSector: the first committed sector with that root.
+fn sector_source(disk: &[u8], places: [Place; 8], terms: Terms, key: [u8; 32]) -> Source
+    requires { ⌜ every (holds 4096 (now disk)) (taken 4096 places) ≡ true ⌝ }
+    ensures { λ r. ⌜ Shows r (sectorSource 4096 (setting 0 0 places terms (now (disk .entry))) key) ⌝ }
+{
+    let seen = view::find_root(disk, places, key);
+    let there = seen.count != 0;
+    Source { there, seen }
+}
+
+// What an instruction reads. Where nothing is found it is not there.
+pub fn source_of(
+    disk: &[u8],
+    places: [Place; 8],
+    terms: Terms,
+    p: Progress,
+    op: Op,
+    key: [u8; 32],
+) -> Source
+    requires { ⌜ every (placeInOrder 4096) places ≡ true ⌝ }
+    requires { ⌜ every (holds 4096 (now disk)) (taken 4096 places) ≡ true ⌝ }
+    ensures { λ r. ⌜ Shows r (sourceOf 4096 (setting 0 0 places terms (now (disk .entry))) p op key) ⌝ }
+{
+    match op {
+        Op::Read => contract_source(places, terms, p, key),
+        Op::ReadSector => sector_source(disk, places, terms, key),
+        Op::Write => Source::nothing(),
+        Op::Copy => Source::nothing(),
+        Op::Swap => Source::nothing(),
+        Op::Truncate => Source::nothing(),
+        Op::Unknown => Source::nothing(),
+    }
+}
