@@ -22,11 +22,8 @@ use sia::Head;
 pub use slots::Slots;
 pub use slots::free_copy;
 pub use slots::free_slot;
-<<<<<<< HEAD
 pub use slots::slots_taken;
-=======
 pub use slots::staged_in;
->>>>>>> 5025ba9 (plan: checks 26 to 42 with cost, new size, hashes and the record's length)
 
 // A place for a contract. Of the slots, those below its size in sectors: `slots[p]` is the disk slot of position p.
 pub struct Place {

@@ -7,16 +7,11 @@ use lib.ListN.{length}
 use lib.Dec.{leb, ltb, eqb}
 use borrow.Author.Tests.{leb-true, leb-false, le-ltb, lt-ltb, eqb-true, eq-eqb, ne-eqb}
 use Rattle.area.specs.Pick.{both}
-<<<<<<< HEAD
-use Rattle.area.proofs.Laws.Pick.{yes, no, by, never, picks, skips, either-left, either-right}
-use Rattle.rules.specs.View.{Setting}
-=======
 use Rattle.area.proofs.Laws.Pick.{yes, no, by, never, picks, skips, either-left}
 use Rattle.host.specs.Places.{others}
 use Rattle.rules.specs.View.{Setting, freeCopies}
->>>>>>> 9d21203 (plan: what is read, and checks 21 to 42 of one instruction with its plan)
 use Rattle.rules.specs.Inputs as Says
-use Rattle.rules.specs.Plan.{Source, spots, badSpan, badSpans, reads, badProof, judgedSource}
+use Rattle.rules.specs.Plan.{Source, spots, badSpan, badSpans, reads, badProof, cost, wanted, newSize, recordCount, judgedSource}
 use Rattle.sia.specs.declared.Op.{Op}
 use Rattle.sia.specs.declared.Op.the-variants.{Read, ReadSector, Write, Copy, Swap, Truncate, Unknown}
 use Rattle.host.specs.declared.Progress.{Progress}
@@ -35,14 +30,57 @@ not-leb a b = by (leb a b)
 
 module _ (z : ℕ) (s : Setting) (p : Progress) (asked : Bool) (from : Source) (op : Op) (a : Says.Args) where
   -- a failure
-  pub fails : (n : ℕ) → 0 < n → n ≡ judgedSource z s p asked from op a → refused n ≡ weighed z s p asked from op a
+  fails : (n : ℕ) → 0 < n → n ≡ judgedSource z s p asked from op a → refused n ≡ weighed z s p asked from op a
   unfolding weighed
   fails n h e = no _ _ _ (ne-eqb _ _ (λ q. let n-zero : n ≡ 0 = e ∙ q in omega arith)) (ap refused e)
 
   -- all checks passed
-  pub passes : (w : Weighed) → 0 ≡ judgedSource z s p asked from op a → w ≡ fine z s p asked from op a → w ≡ weighed z s p asked from op a
+  passes : (w : Weighed) → 0 ≡ judgedSource z s p asked from op a → w ≡ fine z s p asked from op a → w ≡ weighed z s p asked from op a
   unfolding weighed
   passes w e q = yes _ _ _ (eq-eqb _ _ (sym e)) q
+
+  -- ---- the first check that applies
+
+  module _ (spans : badSpans z (p .size) from op a ≡ true) where
+    pub fails-26 : refused 26 ≡ weighed z s p asked from op a
+    unfolding judgedSource
+    fails-26 = fails 26 (omega arith) (yes _ _ _ spans refl)
+
+  module _ (spans : badSpans z (p .size) from op a ≡ false) where
+    pub fails-27 : both asked (badProof op a) ≡ true → refused 27 ≡ weighed z s p asked from op a
+    unfolding judgedSource
+    fails-27 proof = fails 27 (omega arith) (no _ _ _ spans (yes _ _ _ proof refl))
+
+    module _ (proof : both asked (badProof op a) ≡ false) where
+      pub fails-28 : ltb (s .terms .budget) (p .tally + cost (s .terms .head .length) (s .terms .prices) op (a .len)) ≡ true
+          → refused 28 ≡ weighed z s p asked from op a
+      unfolding judgedSource
+      fails-28 budget = fails 28 (omega arith) (no _ _ _ spans (no _ _ _ proof (yes _ _ _ budget refl)))
+
+      module _ (budget : ltb (s .terms .budget) (p .tally + cost (s .terms .head .length) (s .terms .prices) op (a .len)) ≡ false) where
+        pub fails-40 : ltb (freeCopies s p) (wanted z p op a) ≡ true → refused 40 ≡ weighed z s p asked from op a
+        unfolding judgedSource
+        fails-40 slots = fails 40 (omega arith) (no _ _ _ spans (no _ _ _ proof (no _ _ _ budget (yes _ _ _ slots refl))))
+
+        module _ (slots : ltb (freeCopies s p) (wanted z p op a) ≡ false) where
+          pub fails-41 : ltb (s .sectors * z) (newSize (p .size) op a + others (s .terms .head .contract) (s .places)) ≡ true
+              → refused 41 ≡ weighed z s p asked from op a
+          unfolding judgedSource
+          fails-41 disk = fails 41 (omega arith) (no _ _ _ spans (no _ _ _ proof (no _ _ _ budget (no _ _ _ slots (yes _ _ _ disk refl)))))
+
+          module _ (disk : ltb (s .sectors * z) (newSize (p .size) op a + others (s .terms .head .contract) (s .places)) ≡ false) where
+            pub fails-42 : ltb (s .terms .room) (p .written + recordCount z asked from op a + 72) ≡ true
+                → refused 42 ≡ weighed z s p asked from op a
+            unfolding judgedSource
+            fails-42 room = fails 42 (omega arith)
+                (no _ _ _ spans (no _ _ _ proof (no _ _ _ budget (no _ _ _ slots (no _ _ _ disk (yes _ _ _ room refl))))))
+
+            -- none applies
+            pub can-run : ltb (s .terms .room) (p .written + recordCount z asked from op a + 72) ≡ false → (w : Weighed)
+                → w ≡ fine z s p asked from op a → w ≡ weighed z s p asked from op a
+            unfolding judgedSource
+            can-run room w = passes w
+                (no _ _ _ spans (no _ _ _ proof (no _ _ _ budget (no _ _ _ slots (no _ _ _ disk (no _ _ _ room refl))))))
 
   -- the number is the definition's
   pub number-judged : weighed z s p asked from op a .number ≡ judgedSource z s p asked from op a

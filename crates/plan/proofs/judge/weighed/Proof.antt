@@ -1,20 +1,19 @@
 -- `plan::judge::weighed` meets its contract: a walk down the definition. Assumes nothing.
-use mathlib.Core.Path.{refl, sym, ap, ap₂, _∙_}
+use mathlib.Core.Path.{sym, ap, ap₂, _∙_}
 use mathlib.Core.Bool.{not}
 use Prim.Native.Nat.{ℕ, _+_, _-_, _*_}
 use native.Mathlib.Omega.{arith}
 use lib.Dec.{ltb}
 use borrow.Author.Tests.{ltb-false, lt-ltb, le-ltb}
-use Rattle.area.proofs.Laws.Pick.{yes, no}
 use Rattle.sia.specs.Number.{number}
 use Rattle.host.specs.Lists.{count}
 use Rattle.host.specs.Places.{others}
 use Rattle.rules.specs.View.{freeCopies}
-use Rattle.rules.specs.Plan.{cost, recordCount, judgedSource}
+use Rattle.rules.specs.Plan.{cost, recordCount}
 use Rattle.plan.specs.Numbers.{sectorsOf, numbers}
 use Rattle.plan.specs.Weighed.{fine}
 use Rattle.plan.proofs.Laws.Numbers.{charged}
-use Rattle.plan.proofs.Laws.Weighed.{not-leb, fails, passes, provable}
+use Rattle.plan.proofs.Laws.Weighed.{not-leb, fails-26, fails-27, fails-28, fails-40, fails-41, fails-42, can-run, provable}
 use Rattle.tree.specs.Walk as Walk
 use borrow.Author.Needs.{needs}
 use Rattle.plan.proofs.judge.weighed.Statement.{statement}
@@ -27,11 +26,11 @@ refused-requires : tie.Need-refused-requires
 refused-requires c κs = search needs
 
 returns : tie.Need-returns
-unfolding judgedSource freeCopies recordCount numbers
+unfolding numbers
 returns c =
     let at-bad-spans = c .before .before in
-    c .refused .ensures ∙ fails _ _ _ _ _ _ _ 26 (omega arith)
-    (yes _ _ _ (sym (at-bad-spans .bad-spans .ensures) ∙ c .before .if1 .taken) refl)
+    c .refused .ensures ∙ fails-26 _ _ _ _ _ _ _
+    (sym (at-bad-spans .bad-spans .ensures) ∙ c .before .if1 .taken)
 
 asked-badly-requires : tie.Need-asked-badly-requires
 asked-badly-requires c κs = search needs
@@ -40,14 +39,14 @@ refused-requires-2 : tie.Need-refused-requires-2
 refused-requires-2 c κs = search needs
 
 returns-2 : tie.Need-returns-2
-unfolding judgedSource freeCopies recordCount numbers
+unfolding numbers
 returns-2 c =
     let at-asked-badly = c .before .before in
     let at-if1 = at-asked-badly .before in
     let at-bad-spans = at-if1 .before in
-    c .refused2 .ensures ∙ fails _ _ _ _ _ _ _ 27 (omega arith)
-    (no _ _ _ (sym (at-bad-spans .bad-spans .ensures) ∙ at-if1 .if1 .left)
-    (yes _ _ _ (sym (at-asked-badly .asked-badly .ensures) ∙ c .before .if2 .taken) refl))
+    c .refused2 .ensures ∙ fails-27 _ _ _ _ _ _ _
+    (sym (at-bad-spans .bad-spans .ensures) ∙ at-if1 .if1 .left)
+    (sym (at-asked-badly .asked-badly .ensures) ∙ c .before .if2 .taken)
 
 cost-requires : tie.Need-cost-requires
 unfolding numbers
@@ -64,7 +63,7 @@ refused-requires-3 : tie.Need-refused-requires-3
 refused-requires-3 c κs = search needs
 
 returns-3 : tie.Need-returns-3
-unfolding judgedSource freeCopies recordCount numbers
+unfolding numbers
 returns-3 c =
     let at-above = c .before .before in
     let at-cost = at-above .before in
@@ -73,10 +72,10 @@ returns-3 c =
     let at-if1 = at-asked-badly .before in
     let at-bad-spans = at-if1 .before in
     let s = at-bad-spans .before in
-    c .refused3 .ensures ∙ fails _ _ _ _ _ _ _ 28 (omega arith)
-    (no _ _ _ (sym (at-bad-spans .bad-spans .ensures) ∙ at-if1 .if1 .left)
-    (no _ _ _ (sym (at-asked-badly .asked-badly .ensures) ∙ at-if2 .if2 .left)
-    (yes _ _ _ (ap (λ (k : ℕ). ltb (s .args .terms .budget) (s .args .p .tally + k)) (sym (at-cost .cost .ensures)) ∙ sym (at-above .above .ensures) ∙ c .before .if3 .taken) refl)))
+    c .refused3 .ensures ∙ fails-28 _ _ _ _ _ _ _
+    (sym (at-bad-spans .bad-spans .ensures) ∙ at-if1 .if1 .left)
+    (sym (at-asked-badly .asked-badly .ensures) ∙ at-if2 .if2 .left)
+    (ap (λ (k : ℕ). ltb (s .args .terms .budget) (s .args .p .tally + k)) (sym (at-cost .cost .ensures)) ∙ sym (at-above .above .ensures) ∙ c .before .if3 .taken)
 
 free-copies-requires : tie.Need-free-copies-requires
 free-copies-requires c κs = search needs
@@ -88,7 +87,7 @@ refused-requires-4 : tie.Need-refused-requires-4
 refused-requires-4 c κs = search needs
 
 returns-4 : tie.Need-returns-4
-unfolding judgedSource freeCopies recordCount numbers
+unfolding freeCopies numbers
 returns-4 c =
     let at-wanted = c .before .before in
     let at-free-copies = at-wanted .before in
@@ -100,11 +99,11 @@ returns-4 c =
     let at-if1 = at-asked-badly .before in
     let at-bad-spans = at-if1 .before in
     let s = at-bad-spans .before in
-    c .refused4 .ensures ∙ fails _ _ _ _ _ _ _ 40 (omega arith)
-    (no _ _ _ (sym (at-bad-spans .bad-spans .ensures) ∙ at-if1 .if1 .left)
-    (no _ _ _ (sym (at-asked-badly .asked-badly .ensures) ∙ at-if2 .if2 .left)
-    (no _ _ _ (ap (λ (k : ℕ). ltb (s .args .terms .budget) (s .args .p .tally + k)) (sym (at-cost .cost .ensures)) ∙ sym (at-above .above .ensures) ∙ at-if3 .if3 .left)
-    (yes _ _ _ (ap₂ ltb (sym (at-free-copies .free-copies .ensures)) (sym (at-wanted .wanted .ensures)) ∙ lt-ltb _ _ (c .before .if4 .taken)) refl))))
+    c .refused4 .ensures ∙ fails-40 _ _ _ _ _ _ _
+    (sym (at-bad-spans .bad-spans .ensures) ∙ at-if1 .if1 .left)
+    (sym (at-asked-badly .asked-badly .ensures) ∙ at-if2 .if2 .left)
+    (ap (λ (k : ℕ). ltb (s .args .terms .budget) (s .args .p .tally + k)) (sym (at-cost .cost .ensures)) ∙ sym (at-above .above .ensures) ∙ at-if3 .if3 .left)
+    (ap₂ ltb (sym (at-free-copies .free-copies .ensures)) (sym (at-wanted .wanted .ensures)) ∙ lt-ltb _ _ (c .before .if4 .taken))
 
 new-size-requires : tie.Need-new-size-requires
 new-size-requires c κs = search needs
@@ -119,7 +118,7 @@ refused-requires-5 : tie.Need-refused-requires-5
 refused-requires-5 c κs = search needs
 
 returns-5 : tie.Need-returns-5
-unfolding judgedSource freeCopies recordCount numbers
+unfolding freeCopies numbers
 returns-5 c =
     let at-sizes-fit = c .before .before in
     let at-new-size = at-sizes-fit .before in
@@ -134,12 +133,12 @@ returns-5 c =
     let at-if1 = at-asked-badly .before in
     let at-bad-spans = at-if1 .before in
     let s = at-bad-spans .before in
-    c .refused5 .ensures ∙ fails _ _ _ _ _ _ _ 41 (omega arith)
-    (no _ _ _ (sym (at-bad-spans .bad-spans .ensures) ∙ at-if1 .if1 .left)
-    (no _ _ _ (sym (at-asked-badly .asked-badly .ensures) ∙ at-if2 .if2 .left)
-    (no _ _ _ (ap (λ (k : ℕ). ltb (s .args .terms .budget) (s .args .p .tally + k)) (sym (at-cost .cost .ensures)) ∙ sym (at-above .above .ensures) ∙ at-if3 .if3 .left)
-    (no _ _ _ (ap₂ ltb (sym (at-free-copies .free-copies .ensures)) (sym (at-wanted .wanted .ensures)) ∙ le-ltb _ _ (at-if4 .if4 .left))
-    (yes _ _ _ (ap (λ (k : ℕ). ltb (s .args .sectors * 4096) (k + others (s .args .terms .head .contract) (s .args .places))) (sym (at-new-size .new-size .ensures)) ∙ not-leb (at-new-size .new-size .result + others (s .args .terms .head .contract) (s .args .places)) (s .args .sectors * 4096) ∙ ap not (sym (at-sizes-fit .sizes-fit .ensures)) ∙ c .before .if5 .taken) refl)))))
+    c .refused5 .ensures ∙ fails-41 _ _ _ _ _ _ _
+    (sym (at-bad-spans .bad-spans .ensures) ∙ at-if1 .if1 .left)
+    (sym (at-asked-badly .asked-badly .ensures) ∙ at-if2 .if2 .left)
+    (ap (λ (k : ℕ). ltb (s .args .terms .budget) (s .args .p .tally + k)) (sym (at-cost .cost .ensures)) ∙ sym (at-above .above .ensures) ∙ at-if3 .if3 .left)
+    (ap₂ ltb (sym (at-free-copies .free-copies .ensures)) (sym (at-wanted .wanted .ensures)) ∙ le-ltb _ _ (at-if4 .if4 .left))
+    (ap (λ (k : ℕ). ltb (s .args .sectors * 4096) (k + others (s .args .terms .head .contract) (s .args .places))) (sym (at-new-size .new-size .ensures)) ∙ not-leb (at-new-size .new-size .result + others (s .args .terms .head .contract) (s .args .places)) (s .args .sectors * 4096) ∙ ap not (sym (at-sizes-fit .sizes-fit .ensures)) ∙ c .before .if5 .taken)
 
 proof-count-requires : tie.Need-proof-count-requires
 proof-count-requires c κs =
@@ -160,7 +159,7 @@ refused-requires-6 : tie.Need-refused-requires-6
 refused-requires-6 c κs = search needs
 
 returns-6 : tie.Need-returns-6
-unfolding judgedSource freeCopies recordCount numbers
+unfolding freeCopies recordCount numbers
 returns-6 c =
     let at-record-above = c .before .before in
     let at-output-count = at-record-above .before in
@@ -179,13 +178,13 @@ returns-6 c =
     let at-if1 = at-asked-badly .before in
     let at-bad-spans = at-if1 .before in
     let s = at-bad-spans .before in
-    c .refused6 .ensures ∙ fails _ _ _ _ _ _ _ 42 (omega arith)
-    (no _ _ _ (sym (at-bad-spans .bad-spans .ensures) ∙ at-if1 .if1 .left)
-    (no _ _ _ (sym (at-asked-badly .asked-badly .ensures) ∙ at-if2 .if2 .left)
-    (no _ _ _ (ap (λ (k : ℕ). ltb (s .args .terms .budget) (s .args .p .tally + k)) (sym (at-cost .cost .ensures)) ∙ sym (at-above .above .ensures) ∙ at-if3 .if3 .left)
-    (no _ _ _ (ap₂ ltb (sym (at-free-copies .free-copies .ensures)) (sym (at-wanted .wanted .ensures)) ∙ le-ltb _ _ (at-if4 .if4 .left))
-    (no _ _ _ (ap (λ (k : ℕ). ltb (s .args .sectors * 4096) (k + others (s .args .terms .head .contract) (s .args .places))) (sym (at-new-size .new-size .ensures)) ∙ not-leb (at-new-size .new-size .result + others (s .args .terms .head .contract) (s .args .places)) (s .args .sectors * 4096) ∙ ap not (sym (at-sizes-fit .sizes-fit .ensures)) ∙ at-if5 .if5 .left)
-    (yes _ _ _ (ap₂ (λ (h o : ℕ). ltb (s .args .terms .room) (s .args .p .written + (72 + 32 * h + o) + 72)) (sym (at-proof-count .proof-count .ensures)) (sym (at-output-count .output-count .ensures)) ∙ sym (at-record-above .record-above .ensures) ∙ c .before .if6 .taken) refl))))))
+    c .refused6 .ensures ∙ fails-42 _ _ _ _ _ _ _
+    (sym (at-bad-spans .bad-spans .ensures) ∙ at-if1 .if1 .left)
+    (sym (at-asked-badly .asked-badly .ensures) ∙ at-if2 .if2 .left)
+    (ap (λ (k : ℕ). ltb (s .args .terms .budget) (s .args .p .tally + k)) (sym (at-cost .cost .ensures)) ∙ sym (at-above .above .ensures) ∙ at-if3 .if3 .left)
+    (ap₂ ltb (sym (at-free-copies .free-copies .ensures)) (sym (at-wanted .wanted .ensures)) ∙ le-ltb _ _ (at-if4 .if4 .left))
+    (ap (λ (k : ℕ). ltb (s .args .sectors * 4096) (k + others (s .args .terms .head .contract) (s .args .places))) (sym (at-new-size .new-size .ensures)) ∙ not-leb (at-new-size .new-size .result + others (s .args .terms .head .contract) (s .args .places)) (s .args .sectors * 4096) ∙ ap not (sym (at-sizes-fit .sizes-fit .ensures)) ∙ at-if5 .if5 .left)
+    (ap₂ (λ (h o : ℕ). ltb (s .args .terms .room) (s .args .p .written + (72 + 32 * h + o) + 72)) (sym (at-proof-count .proof-count .ensures)) (sym (at-output-count .output-count .ensures)) ∙ sym (at-record-above .record-above .ensures) ∙ c .before .if6 .taken)
 
 mul-t22 : tie.Need-mul-t22
 mul-t22 c =
@@ -209,7 +208,7 @@ add-t26 c =
     omega (arith, ltb-false (s .args .terms .room) (s .args .p .written + (72 + 32 * at-proof-count .proof-count .result + at-output-count .output-count .result) + 72) (sym (c .before .record-above .ensures) ∙ c .if6 .left), s .pre .1 .1 .1)
 
 returns-7 : tie.Need-returns-7
-unfolding judgedSource freeCopies recordCount numbers fine
+unfolding freeCopies recordCount numbers fine
 returns-7 c =
     let at-output-count = c .before .before in
     let at-proof-count = at-output-count .before in
@@ -227,14 +226,13 @@ returns-7 c =
     let at-if1 = at-asked-badly .before in
     let at-bad-spans = at-if1 .before in
     let s = at-bad-spans .before in
-    passes _ _ _ _ _ _ _ _
-    (no _ _ _ (sym (at-bad-spans .bad-spans .ensures) ∙ at-if1 .if1 .left)
-    (no _ _ _ (sym (at-asked-badly .asked-badly .ensures) ∙ at-if2 .if2 .left)
-    (no _ _ _ (ap (λ (k : ℕ). ltb (s .args .terms .budget) (s .args .p .tally + k)) (sym (at-cost .cost .ensures)) ∙ sym (at-above .above .ensures) ∙ at-if3 .if3 .left)
-    (no _ _ _ (ap₂ ltb (sym (at-free-copies .free-copies .ensures)) (sym (at-wanted .wanted .ensures)) ∙ le-ltb _ _ (at-if4 .if4 .left))
-    (no _ _ _ (ap (λ (k : ℕ). ltb (s .args .sectors * 4096) (k + others (s .args .terms .head .contract) (s .args .places))) (sym (at-new-size .new-size .ensures)) ∙ not-leb (at-new-size .new-size .result + others (s .args .terms .head .contract) (s .args .places)) (s .args .sectors * 4096) ∙ ap not (sym (at-sizes-fit .sizes-fit .ensures)) ∙ at-if5 .if5 .left)
-    (no _ _ _ (ap₂ (λ (h o : ℕ). ltb (s .args .terms .room) (s .args .p .written + (72 + 32 * h + o) + 72)) (sym (at-proof-count .proof-count .ensures)) (sym (at-output-count .output-count .ensures)) ∙ sym (c .before .record-above .ensures) ∙ c .if6 .left)
-    refl))))))
+    can-run _ _ _ _ _ _ _
+    (sym (at-bad-spans .bad-spans .ensures) ∙ at-if1 .if1 .left)
+    (sym (at-asked-badly .asked-badly .ensures) ∙ at-if2 .if2 .left)
+    (ap (λ (k : ℕ). ltb (s .args .terms .budget) (s .args .p .tally + k)) (sym (at-cost .cost .ensures)) ∙ sym (at-above .above .ensures) ∙ at-if3 .if3 .left)
+    (ap₂ ltb (sym (at-free-copies .free-copies .ensures)) (sym (at-wanted .wanted .ensures)) ∙ le-ltb _ _ (at-if4 .if4 .left))
+    (ap (λ (k : ℕ). ltb (s .args .sectors * 4096) (k + others (s .args .terms .head .contract) (s .args .places))) (sym (at-new-size .new-size .ensures)) ∙ not-leb (at-new-size .new-size .result + others (s .args .terms .head .contract) (s .args .places)) (s .args .sectors * 4096) ∙ ap not (sym (at-sizes-fit .sizes-fit .ensures)) ∙ at-if5 .if5 .left)
+    (ap₂ (λ (h o : ℕ). ltb (s .args .terms .room) (s .args .p .written + (72 + 32 * h + o) + 72)) (sym (at-proof-count .proof-count .ensures)) (sym (at-output-count .output-count .ensures)) ∙ sym (c .before .record-above .ensures) ∙ c .if6 .left) _
     (λ i. record { number = 0; cost = at-cost .cost .ensures i; size = at-new-size .new-size .ensures i; hashes = at-proof-count .proof-count .ensures i; count = 72 + 32 * at-proof-count .proof-count .ensures i + at-output-count .output-count .ensures i })
 
 pub weighed-spec : {M : Type 1} → statement M
