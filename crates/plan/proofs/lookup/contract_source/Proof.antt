@@ -56,7 +56,7 @@ returns-3 c =
     let at-place-of = at-if1 .before .before in
     let s = at-place-of .before in
     shows-as _ _ _ (other-found 4096 (setting 0 0 (s .args .places) (s .args .terms) []) (s .args .p) (s .args .key) (ap (λ (q : Place). q .held) (sym (at-place-of .place-of .ensures)) ∙ not-false _ (at-if1 .if1 .left)) (sym (at-same-id .same-id .ensures) ∙ c .before .if2 .left))
-    (shows-seen _ _ (c .committed-seen .ensures ∙ ap (committedSpots 4096) (at-place-of .place-of .ensures)))
+    (shows-seen _ _ (c .committed-seen .ensures .0 ∙ ap (committedSpots 4096) (at-place-of .place-of .ensures)))
 
 pub contract-source-spec : {M : Type 1} → statement M
 contract-source-spec =

@@ -12,7 +12,7 @@ find-root-requires c κs = search needs
 
 returns : tie.Need-returns
 unfolding sectorSource allSpots
-returns c = shows-first _ _ (c .before .find-root .ensures)
+returns c = shows-first _ _ (c .before .find-root .ensures .0)
 
 pub sector-source-spec : {M : Type 1} → statement M
 sector-source-spec = tie.close (tie.spec find-root-requires returns)
