@@ -16,16 +16,6 @@ use Rattle.host.specs.declared.Progress.{Progress}
 use Rattle.host.specs.declared.Host.{Host}
 use Rattle.rules.specs.declared.Answer.{Answer}
 
--- a contract in order whose slots lie within the disk
-pub record Stands (disk : List ℕ) (p : Place) : Type 0 where
-  pub order : placeInOrder 4096 p ≡ true
-  pub slots : every (holds 4096 disk) (committed 4096 p) ≡ true
-
--- the parent's sectors up to its running size lie within the areas
-pub record Reads (disk stage : List ℕ) (p : Place) (g : Progress) : Type 0 where
-  pub few : g .size / 4096 ≤ 64
-  pub spots : every (lies 4096 disk stage) (tab 0 (g .size / 4096) (spotOf (p .slots) (g .staged))) ≡ true
-
 -- a host in order with an open program, and its areas as stated
 pub record Ready (disk : List ℕ) (h : Host) (stage : List ℕ) : Type 0 where
   pub order : inOrder 4096 h ≡ true

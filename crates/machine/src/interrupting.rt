@@ -13,7 +13,6 @@ ghost use Rattle.machine.specs.Asks.{Stops, interruptLeaves};
 use crate::areas;
 use crate::going;
 use crate::opening;
-use crate::pairs;
 use host::Host;
 use rules::Answer;
 
@@ -29,7 +28,7 @@ fn stop(host: Host, disk: &[u8], output: &mut [u8]) -> Answer
     let places = host.places;
     let parent = host::place_of(places, id);
     let progress = program.progress;
-    let failed = pairs::fail(20, disk, parent, progress, output);
+    let failed = step::fail(20, disk, parent, progress, output);
     program.progress = failed;
     let mut after = host;
     after.program = program;

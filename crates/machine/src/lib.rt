@@ -6,7 +6,6 @@ ghost use Rattle.rules.specs.Run as Says;
 mod areas; // areas.rt: whether areas are as long as stated
 mod interrupting; // interrupting.rt: interrupting a program
 mod opening; // opening.rt: opening a program
-mod pairs; // pairs.rt: the roots of the parent, and failures
 mod reaching; // reaching.rt: what a program has reached
 
 use host::Program;

@@ -4,7 +4,6 @@ ghost use Rattle.rules.specs.Calls as Says;
 ghost use Rattle.rules.specs.Calls.{reachedAt, reachedPair, noPair};
 ghost use Rattle.machine.specs.Asks.{Ready};
 use crate::areas;
-use crate::pairs;
 use host::Host;
 use rules::Reached;
 
@@ -32,14 +31,14 @@ fn reach<'a>(host: Host, disk: &'a [u8], stage: &'a [u8]) -> Reached
     let parent = host::place_of(places, id);
     let progress = program.progress;
     if progress.failed {
-        let root = pairs::committed_root(disk, parent);
+        let root = step::committed_root(disk, parent);
         return Reached {
             number: 0,
             size: parent.size,
             root,
         };
     }
-    let root = pairs::running_root(disk, stage, parent, progress);
+    let root = step::running_root(disk, stage, parent, progress);
     Reached {
         number: 0,
         size: progress.size,

@@ -22,7 +22,8 @@ use Rattle.rules.proofs.Laws.Spots.{whose-every, parent-valid}
 use Rattle.rules.proofs.Laws.Taking.{order-good, order-solid, areas-stage}
 use Rattle.view.specs.Seen.{holds}
 use Rattle.view.proofs.Callers.{slots-hold, every-lies}
-use Rattle.machine.specs.Asks.{Stands, Reads, Ready, Stops}
+use Rattle.step.specs.Asks.{Stands, Reads}
+use Rattle.machine.specs.Asks.{Ready, Stops}
 use Rattle.host.specs.declared.Place.{Place}
 use Rattle.host.specs.declared.Host.{Host}
 

@@ -8,7 +8,7 @@ ghost use Rattle.rules.specs.View.{spotOf, committedSpots};
 ghost use Rattle.rules.specs.Roots.{contractRoot};
 ghost use Rattle.rules.specs.Record.{pairOf, recordBytes};
 ghost use Rattle.rules.specs.Run.{failedProgress};
-ghost use Rattle.machine.specs.Asks.{Stands, Reads};
+ghost use Rattle.step.specs.Asks.{Stands, Reads};
 use host::Place;
 use host::Progress;
 

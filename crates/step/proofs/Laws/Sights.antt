@@ -16,7 +16,7 @@ use Rattle.rules.proofs.Laws.Sizes.{place-size}
 use Rattle.rules.proofs.Laws.Spots.{length-each}
 use Rattle.view.specs.Seen.{holds, lies, spotsOf, Lies}
 use Rattle.view.proofs.Laws.Roots.{seen-count}
-use Rattle.machine.specs.Asks.{Stands, Reads}
+use Rattle.step.specs.Asks.{Stands, Reads}
 use Rattle.host.specs.declared.Place.{Place}
 use Rattle.host.specs.declared.Progress.{Progress}
 use Rattle.view.specs.declared.Seen.{Seen}

@@ -1,4 +1,4 @@
--- `machine::pairs::fail` meets its contract: the record stands behind those written. Assumes nothing.
+-- `step::pairs::fail` meets its contract: the record stands behind those written. Assumes nothing.
 use mathlib.Core.Path.{refl, ap, _∙_}
 use mathlib.Core.List.{List, []}
 use Prim.Native.Nat.{ℕ}
@@ -8,8 +8,8 @@ use Rattle.rules.specs.Record.{pairOf, recordBytes}
 use Rattle.rules.specs.Run.{failedProgress}
 use Rattle.records.specs.Front.{pair}
 use borrow.Author.Needs.{needs}
-use Rattle.machine.proofs.pairs.fail.Statement.{statement}
-use Rattle.machine.proofs.pairs.fail.Tie as tie
+use Rattle.step.proofs.pairs.fail.Statement.{statement}
+use Rattle.step.proofs.pairs.fail.Tie as tie
 
 committed-root-requires : tie.Need-committed-root-requires
 committed-root-requires c κs = search needs

@@ -1,10 +1,10 @@
--- `machine::pairs::running_root` meets its contract. Assumes nothing.
+-- `step::pairs::running_root` meets its contract. Assumes nothing.
 use mathlib.Core.Path.{ap, _∙_}
 use Rattle.rules.specs.Roots.{contractRoot}
-use Rattle.machine.proofs.Laws.Sights.{running-lies}
+use Rattle.step.proofs.Laws.Sights.{running-lies}
 use borrow.Author.Needs.{needs}
-use Rattle.machine.proofs.pairs.running_root.Statement.{statement}
-use Rattle.machine.proofs.pairs.running_root.Tie as tie
+use Rattle.step.proofs.pairs.running_root.Statement.{statement}
+use Rattle.step.proofs.pairs.running_root.Tie as tie
 
 parent-seen-requires : tie.Need-parent-seen-requires
 parent-seen-requires c κs = search needs

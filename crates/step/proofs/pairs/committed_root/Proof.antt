@@ -1,10 +1,10 @@
--- `machine::pairs::committed_root` meets its contract. Assumes nothing.
+-- `step::pairs::committed_root` meets its contract. Assumes nothing.
 use mathlib.Core.Path.{ap, _∙_}
 use Rattle.rules.specs.Roots.{contractRoot}
-use Rattle.machine.proofs.Laws.Sights.{committed-lies}
+use Rattle.step.proofs.Laws.Sights.{committed-lies}
 use borrow.Author.Needs.{needs}
-use Rattle.machine.proofs.pairs.committed_root.Statement.{statement}
-use Rattle.machine.proofs.pairs.committed_root.Tie as tie
+use Rattle.step.proofs.pairs.committed_root.Statement.{statement}
+use Rattle.step.proofs.pairs.committed_root.Tie as tie
 
 committed-seen-requires : tie.Need-committed-seen-requires
 committed-seen-requires c κs = search needs

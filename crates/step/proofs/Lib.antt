@@ -1,0 +1,2 @@
+-- The laws that the proofs of a step share.
+pub mod Laws
