@@ -16,6 +16,7 @@ pub use inputs::ill_formed;
 pub use inputs::need;
 pub use inputs::past_end;
 use sia::Op;
+pub use spans::reads;
 use view::Seen;
 
 // What an instruction's inputs say: an id or root, zeros where there is none; two offsets, the first also Truncate's new size; a

@@ -3,18 +3,24 @@ use mathlib.Core.Path.{_≡_}
 use mathlib.Core.Bool.{Bool, true}
 use mathlib.Core.List.{List}
 use Prim.Native.Nat.{ℕ, _+_, _*_, _/_, _≤_, _<_, _^_}
-use lib.ListN.{length}
+use lib.ListN.{length, drop}
 use Rattle.area.specs.Area.{part, tab}
 use Rattle.sia.specs.Encode.{every}
 use Rattle.host.specs.Places.{committed}
 use Rattle.host.specs.Order.{placeInOrder}
 use Rattle.rules.specs.View.{Setting, Turn, spotOf}
-use Rattle.rules.specs.Effect.{Staging}
+use Rattle.rules.specs.Plan.{reads}
 use Rattle.rules.specs.Run.{going}
 use Rattle.rules.specs.Facts.{Solid, Good}
 use Rattle.view.specs.Seen.{holds, lies}
+use Rattle.effect.specs.Parts.{ground, staging, args}
+use Rattle.effect.specs.Asks as Effect
+use Rattle.records.specs.Shown.{Shows}
+use Rattle.step.specs.Ran.{stageAfter, progressAfter}
 use Rattle.host.specs.declared.Place.{Place}
+use Rattle.sia.specs.declared.Op.the-variants.{Write}
 use Rattle.host.specs.declared.Progress.{Progress}
+use Rattle.plan.specs.declared.Plan.{Plan}
 
 -- a contract in order whose slots lie within the disk
 pub record Stands (disk : List ℕ) (p : Place) : Type 0 where
@@ -34,3 +40,16 @@ pub record Steps (s : Setting) (t : Turn) (a : List ℕ) : Type 0 where
   pub input : length a ≡ s .terms .head .length
   pub stage : length (t .stage) ≡ s .copies * 4096
   pub output : length (t .output) ≡ s .terms .room
+
+-- an instruction that can run: what its effect asks, where Write's data lies, and, after the effect, the parent within the areas and
+-- room for the record; no sum passes 64 bits
+pub record Runs (copies : ℕ) (parent : Place) (disk input : List ℕ) (p : Plan) (asked : Bool) (t : Turn) : Type 0 where
+  pub stands : Effect.Stands 4096 (ground copies (parent .slots) disk) (t .progress .size) (p .op)
+      (args (p .args .first) (p .args .second) (p .args .len) (part input (p .args .from) (p .args .len))) (staging (t .progress .staged) (t .stage))
+  pub source : p .op ≡ Write → p .args .from + p .args .len ≤ length input
+  pub read : Reads disk (stageAfter copies parent disk input p (t .progress) (t .stage) .bytes) parent (progressAfter p (t .progress) (stageAfter copies parent disk input p (t .progress) (t .stage)))
+  pub shows : Shows disk (stageAfter copies parent disk input p (t .progress) (t .stage) .bytes) (p .seen) asked (reads (p .op)) (p .args .first) (p .args .len) (p .hashes)
+      (drop (t .progress .written) (t .output))
+  pub ran : t .progress .ran + 1 < 2 ^ 64
+  pub tally : t .progress .tally + p .cost < 2 ^ 64
+  pub written : t .progress .written + p .count ≤ length (t .output)

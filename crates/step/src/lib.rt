@@ -1,6 +1,5 @@
 // One instruction: its plan, its effect and its record, or its failure.
-ghost use mathlib.Core.Path.{_≡_};
-
+mod running; // running.rt: an instruction that can run
 mod pairs; // pairs.rt: the roots of the parent, and failures
 
 pub use pairs::committed_root;

@@ -1,0 +1,86 @@
+// An instruction that can run: its effect, and its record with the size and root after it.
+ghost use mathlib.Core.Path.{_≡_};
+ghost use Prim.Native.Nat.{_+_, _^_, _<_};
+ghost use Rattle.rules.specs.View.{turn};
+ghost use Rattle.rules.specs.Run.{ranProgress};
+ghost use Rattle.step.specs.Ran as Says;
+ghost use Rattle.step.specs.Asks.{Runs};
+use crate::pairs;
+use host::Place;
+use host::Progress;
+use plan::Plan;
+
+// The progress after it.
+fn advanced(progress: Progress, plan: Plan, staged: [u8; 64]) -> Progress
+    requires { ⌜ progress .ran + 1 < 2 ^ 64 ⌝ }
+    requires { ⌜ progress .tally + plan .cost < 2 ^ 64 ⌝ }
+    requires { ⌜ progress .written + plan .count < 2 ^ 64 ⌝ }
+    ensures { λ r. ⌜ r ≡ ranProgress progress (plan .cost) (plan .count) (plan .size) staged ⌝ }
+{
+    Progress {
+        ran: progress.ran + 1,
+        tally: progress.tally + plan.cost,
+        written: progress.written + plan.count,
+        size: plan.size,
+        failed: progress.failed,
+        staged,
+    }
+}
+
+// What it leaves.
+pub fn succeed(
+    copies: u64,
+    parent: Place,
+    disk: &[u8],
+    input: &[u8],
+    plan: Plan,
+    asked: bool,
+    progress: Progress,
+    stage: &mut [u8],
+    output: &mut [u8],
+) -> Progress
+    requires { ⌜ Runs copies parent (now disk) (now input) plan asked (turn progress (now stage) (now output)) ⌝ }
+    ensures { λ r. ⌜ turn r (now (stage .exit)) (now (output .exit)) ≡
+        Says.ran copies parent (now (disk .entry)) (now (input .entry)) plan asked (turn progress (now (stage .entry)) (now (output .entry))) ⌝ }
+{
+    let op = plan.op;
+    let args = plan.args;
+    let first = args.first as usize;
+    let len = args.len as usize;
+    let slots = parent.slots;
+    let before = progress.staged;
+    let staged = effect::effect(
+        op,
+        copies,
+        slots,
+        disk,
+        before,
+        stage,
+        progress.size as usize,
+        first,
+        args.second as usize,
+        len,
+        input,
+        args.from as usize,
+    );
+    let after = advanced(progress, plan, staged);
+    let root = pairs::running_root(disk, &*stage, parent, after);
+    let at = progress.written as usize;
+    let reads = plan::reads(op);
+    let seen = plan.seen;
+    records::put_success(
+        plan.cost,
+        plan.size,
+        root,
+        plan.hashes,
+        asked,
+        reads,
+        disk,
+        &*stage,
+        seen,
+        first,
+        len,
+        &mut output[at..],
+    );
+    after
+}
