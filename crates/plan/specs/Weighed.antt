@@ -1,6 +1,5 @@
 -- Checks 26 to 42 and, where an instruction can run, what its record and its effect start from. Assumes nothing.
 use mathlib.Core.Bool.{Bool}
-use mathlib.Core.List.{List}
 use Prim.Native.Nat.{ℕ}
 use lib.Dec.{eqb}
 use Rattle.area.specs.Pick.{pick}

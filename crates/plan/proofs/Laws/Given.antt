@@ -1,13 +1,12 @@
 -- What the decoders tell, and the inputs of an instruction by its operands. Assumes nothing.
 use mathlib.Core.Path.{_≡_, refl, sym, ap, _∙_}
-use mathlib.Core.Bool.{Bool, true, false, not}
+use mathlib.Core.Bool.{Bool, true, false}
 use mathlib.Core.List.{List, [], _∷_}
 use Prim.Native.Nat.{ℕ, zero, suc, _+_, _-_, _≤_, _<_}
 use native.Mathlib.Omega.{arith}
 use lib.ListN.{length, take, drop, getD, length-drop}
 use lib.Seq.{length-take-le, take-all}
 use borrow.Author.Tests.{not-false, ltb-false, leb-true, le-leb, eq-eqb, ne-eqb, eqb-true}
-use Rattle.area.specs.Pick.{pick}
 use Rattle.area.specs.Area.{part, zeros}
 use Rattle.area.specs.Little.{valueOf}
 use Rattle.area.proofs.Laws.Pick.{yes, no, by, picks, skips, both-join, both-left, both-right, both-not-right, either-left, either-right}
@@ -17,7 +16,6 @@ use Rattle.sia.specs.Number.{number}
 use Rattle.sia.specs.Empty.{noOperand}
 use Rattle.host.specs.Lists.{some, each}
 use Rattle.rules.specs.Inputs.{known, operandsOf, illFormed, pastEnd, inputsOf, nth, isTold, told, isNumber, isKey, isData, wellFormed, readArgs, spanArgs, argsOf}
-use Rattle.sia.specs.declared.Number.{Number}
 use Rattle.sia.specs.declared.Number.the-variants.{Is, Refused}
 use Rattle.sia.specs.declared.Operand.{Operand}
 use Rattle.sia.specs.declared.Instruction.{Instruction}
@@ -59,7 +57,8 @@ module _ (b : List ℕ) where
 
   pub data-refused : dataOf b ≡ Refused → isData b ≡ false
   unfolding dataOf
-  data-refused e = by (isData b) (λ u. let q : Is (length b - 8) ≡ Refused = sym (picks _ _ _ u) ∙ e in let z : _≡_ {A = ℕ} 0 1 = cc in absurd (omega arith)) (λ u. u)
+  data-refused e = by (isData b) (λ u. let q : Is (length b - 8) ≡ Refused = sym (picks _ _ _ u)
+      ∙ e in let z : _≡_ {A = ℕ} 0 1 = cc in absurd (omega arith)) (λ u. u)
 
   pub data-told : (n : ℕ) → dataOf b ≡ Is n → isData b ≡ true
   unfolding dataOf
@@ -229,7 +228,8 @@ unfolding operandsOf wellFormed two
 data-given area i long right g w =
     let o = getD (i .operands) 1 noOperand in
     let l : nth (inputsOf i area) 1 ≡ inputAt area (i .operands) 1 = ap (λ (x : List (List ℕ)). nth x 1) (sym (inputs-two area i long right)) in
-    let within : o .offset + o .len ≤ length area = ends-within (length area) (i .operands) 2 1 long (within-count (length area) i 2 right g) (omega arith) (omega arith) in
+    let within : o .offset + o .len ≤ length area = ends-within (length area) (i .operands) 2 1 long (within-count (length area) i 2 right g) (omega arith)
+    (omega arith) in
     let eight : 8 ≤ length (inputAt area (i .operands) 1) = rw l at (data-long (nth (inputsOf i area) 1) (both-right _ _ w)) in
     ap (λ (b : List ℕ). part area (o .offset + 8) (length b - 8)) l ∙ data-part area (o .offset) (o .len) within eight ∙ ap (drop 8) (sym l)
 

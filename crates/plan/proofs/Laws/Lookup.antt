@@ -75,7 +75,11 @@ parent-whose s id e = ap (λ (k : List ℕ). whose k (s .places)) (same-eq _ _ e
 
 pub shows-first : (v : Seen) (l : List Spot) → spotsOf v ≡ l → Shows (record { there = not (eqb (v .count) 0); seen = v }) (unlessNone l)
 unfolding unlessNone isThere spots
-shows-first v l e = record { there = ap (λ (n : ℕ). not (eqb n 0)) (sym (seen-count v) ∙ ap (λ (x : List Spot). length x) e) ∙ some l; sectors = e ∙ sym (all l) } where
+shows-first v l e = record {
+  there = ap (λ (n : ℕ). not (eqb n 0)) (sym (seen-count v) ∙ ap (λ (x : List Spot). length x) e) ∙ some l;
+  sectors = e
+      ∙ sym (all l);
+} where
   some : (x : List Spot) → not (eqb (length x) 0) ≡ isThere (unlessNone x)
   some [] = refl
   some (y ∷ ys) = ap not (ne-eqb (suc (length ys)) 0 (λ (q : suc (length ys) ≡ 0). omega arith))

@@ -2,30 +2,26 @@
 use mathlib.Core.Path.{_≡_, refl, sym, ap, _∙_}
 use mathlib.Core.Bool.{true, false, not}
 use mathlib.Core.List.{List}
-use Prim.Native.Nat.{ℕ, _+_, _*_, _/_, _≤_, _<_}
+use Prim.Native.Nat.{ℕ, _/_, _≤_, _<_}
 use native.Mathlib.Omega.{arith}
-use lib.ListN.{length}
-use lib.Dec.{eqb}
 use borrow.Author.Tests.{eq-eqb, ne-eqb}
-use Rattle.area.specs.Pick.{pick, both}
+use Rattle.area.specs.Pick.{both}
 use Rattle.area.proofs.Laws.Pick.{yes, no, by, picks, skips}
 use Rattle.sia.specs.Names.{opOf}
 use Rattle.sia.proofs.Laws.Limits.{within-is}
 use Rattle.host.proofs.Laws.Order.{terms-facts}
 use Rattle.rules.specs.View.{Setting, setting, readOnlyMode, parent, parentSpots, allSpots}
 use Rattle.rules.specs.Inputs.{Args, illFormed, pastEnd, inputsOf, wellFormed, argsOf}
-use Rattle.rules.specs.Plan.{changes, Source, isThere, spots, contractSource, sectorSource, sourceOf, judgedSource, judgedInputs, judged}
+use Rattle.rules.specs.Plan.{changes, Source, isThere, spots, contractSource, sectorSource, sourceOf, judgedInputs, judged}
 use Rattle.rules.specs.Facts.{Solid, Good}
 use Rattle.sia.specs.declared.Instruction.{Instruction}
 use Rattle.sia.specs.declared.Op.{Op}
 use Rattle.sia.specs.declared.Op.the-variants.{Read, ReadSector, Write, Copy, Swap, Truncate, Unknown}
-use Rattle.host.specs.declared.Place.{Place}
-use Rattle.host.specs.declared.Terms.{Terms}
 use Rattle.host.specs.declared.Progress.{Progress}
 use Rattle.rules.specs.declared.Spot.{Spot}
 use Rattle.plan.specs.Given.{placed, malformed, given, fromOf}
-use Rattle.plan.specs.Weighed.{refused, fine, weighed}
-use Rattle.plan.specs.Planned.{Said, failed, runs, planOf}
+use Rattle.plan.specs.Weighed.{fine, weighed}
+use Rattle.plan.specs.Planned.{failed, runs, planOf}
 use Rattle.plan.specs.declared.Args as code
 use Rattle.plan.specs.declared.Given.{Given}
 use Rattle.plan.specs.declared.Weighed.{Weighed}
@@ -114,7 +110,8 @@ module _ (z : ℕ) (s : Setting) (p : Progress) (i : Instruction) (area : List �
           module _ (there : isThere from ≡ true) (w : Weighed) (e : w ≡ weighed z s p (i .proof) from op args) where
             number-is : w .number ≡ judged z s p i (inputsOf i area)
             unfolding judgedInputs
-            number-is = inputs (no _ _ _ (ap not told) (no _ _ _ mode (no _ _ _ (ap not there) (ap (λ (x : Weighed). x .number) e ∙ number-judged z s p (i .proof) from op args))))
+            number-is = inputs (no _ _ _ (ap not told)
+                (no _ _ _ mode (no _ _ _ (ap not there) (ap (λ (x : Weighed). x .number) e ∙ number-judged z s p (i .proof) from op args))))
 
             pub fails-later : (w .number ≡ 0 → ⊥) → failed op (w .number) ≡ planOf z s p i area
             fails-later n = fails (w .number) (positive (w .number) n) number-is where
@@ -126,7 +123,8 @@ module _ (z : ℕ) (s : Setting) (p : Progress) (i : Instruction) (area : List �
             w-fine n = e ∙ picks _ _ _ (eq-eqb _ _ (sym (ap (λ (x : Weighed). x .number) e ∙ number-judged z s p (i .proof) from op args) ∙ n))
 
             pub plan-is : w .number ≡ 0 → (o : Op) (g : code.Args) (l : List Spot) → o ≡ op → g ≡ placed args (fromOf op i) → l ≡ spots from
-                → record { number = 0; op = o; args = g; sectors = l; cost = w .cost; size = w .size; hashes = w .hashes; count = w .count } ≡ planOf z s p i area
+                → record { number = 0; op = o; args = g; sectors = l; cost = w .cost; size = w .size; hashes = w .hashes; count = w .count }
+                ≡ planOf z s p i area
             unfolding planOf runs fine
             plan-is n o g l eo eg el =
                 let q = w-fine n in

@@ -36,11 +36,11 @@ module _ (room w h o : ℕ) where
   pub no-counts : w ≤ room → room - w < 144 → true ≡ ltb room (w + (72 + 32 * h + o) + 72)
   no-counts e g = sym (lt-ltb room (w + (72 + 32 * h + o) + 72) (omega arith))
 
-  pub no-output : w ≤ room → 144 ≤ room - w → room - w - 72 - 72 < o → true ≡ ltb room (w + (72 + 32 * h + o) + 72)
-  no-output e g f = sym (lt-ltb room (w + (72 + 32 * h + o) + 72) (omega arith))
+  -- with `rest` for hashes and output
+  pub no-output : (rest : ℕ) → rest < o → rest + 144 + w ≡ room → true ≡ ltb room (w + (72 + 32 * h + o) + 72)
+  no-output rest f e = sym (lt-ltb room (w + (72 + 32 * h + o) + 72) (omega arith))
 
-  pub hashes-left : w ≤ room → 144 ≤ room - w → o ≤ room - w - 72 - 72
-      → ltb ((room - w - 72 - 72 - o) / 32) h ≡ ltb room (w + (72 + 32 * h + o) + 72)
-  hashes-left e g f = by (ltb ((room - w - 72 - 72 - o) / 32) h)
-      (λ u. u ∙ sym (lt-ltb room (w + (72 + 32 * h + o) + 72) (omega (arith, ltb-true ((room - w - 72 - 72 - o) / 32) h u))))
-      (λ u. u ∙ sym (le-ltb room (w + (72 + 32 * h + o) + 72) (omega (arith, ltb-false ((room - w - 72 - 72 - o) / 32) h u))))
+  pub hashes-left : (rest : ℕ) → o ≤ rest → rest + 144 + w ≡ room → ltb ((rest - o) / 32) h ≡ ltb room (w + (72 + 32 * h + o) + 72)
+  hashes-left rest f e = by (ltb ((rest - o) / 32) h)
+      (λ u. u ∙ sym (lt-ltb room (w + (72 + 32 * h + o) + 72) (omega (arith, ltb-true ((rest - o) / 32) h u))))
+      (λ u. u ∙ sym (le-ltb room (w + (72 + 32 * h + o) + 72) (omega (arith, ltb-false ((rest - o) / 32) h u))))

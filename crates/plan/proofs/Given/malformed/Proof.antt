@@ -1,7 +1,6 @@
 -- `plan::Given::malformed` meets its contract. Assumes nothing.
 use mathlib.Core.Path.{ap}
 use mathlib.Core.Bool.{false}
-use Prim.Native.Nat.{_-_}
 use Rattle.rules.specs.Inputs.{told}
 use Rattle.plan.specs.Given.{malformed}
 use Rattle.plan.specs.declared.Args.{Args}

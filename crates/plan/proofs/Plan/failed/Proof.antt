@@ -1,5 +1,4 @@
 -- `plan::Plan::failed` meets its contract. Assumes nothing.
-use Prim.Native.Nat.{_-_}
 use Rattle.sia.specs.Number.{number}
 use Rattle.host.specs.Lists.{count}
 use Rattle.rules.specs.Plan.{cost}

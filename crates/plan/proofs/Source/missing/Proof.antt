@@ -1,5 +1,4 @@
 -- `plan::Source::missing` meets its contract. Assumes nothing.
-use Prim.Native.Nat.{_-_}
 use Rattle.plan.proofs.Laws.Lookup.{shows-missing}
 use borrow.Author.Needs.{needs}
 use Rattle.plan.proofs.Source.missing.Statement.{statement}

@@ -1,5 +1,4 @@
 -- `plan::Source::nothing` meets its contract. Assumes nothing.
-use Prim.Native.Nat.{_-_}
 use Rattle.plan.proofs.Laws.Lookup.{shows-seen}
 use borrow.Author.Needs.{needs}
 use Rattle.plan.proofs.Source.nothing.Statement.{statement}

@@ -1,8 +1,6 @@
 -- `plan::Weighed::refused` meets its contract. Assumes nothing.
 use mathlib.Core.Path.{refl}
-use Prim.Native.Nat.{_-_}
 use Rattle.plan.specs.Weighed.{refused}
-use Rattle.tree.specs.Walk as Walk
 use Rattle.plan.proofs.Weighed.refused.Statement.{statement}
 use Rattle.plan.proofs.Weighed.refused.Tie as tie
 

@@ -1,6 +1,5 @@
 -- `plan::chain::changes_nothing` meets its contract. Assumes nothing.
 use mathlib.Core.Path.{refl, sym, _∙_}
-use Prim.Native.Nat.{_-_}
 use borrow.Author.Tests.{not-true, not-false}
 use Rattle.area.proofs.Laws.Pick.{yes, no}
 use borrow.Author.Needs.{needs}

@@ -1,7 +1,8 @@
 -- `plan::chain::planned` meets its contract: a walk down the definition. Assumes nothing.
-use mathlib.Core.Path.{sym, ap, ap₂, _∙_}
+use mathlib.Core.Path.{_≡_, sym, ap, ap₂, _∙_}
+use mathlib.Core.Bool.{true}
 use mathlib.Core.List.{List, []}
-use Prim.Native.Nat.{ℕ, _-_}
+use Prim.Native.Nat.{ℕ}
 use native.Mathlib.Omega.{arith}
 use lib.ListN.{length}
 use borrow.Author.Tests.{not-true, not-false}
@@ -9,8 +10,8 @@ use Rattle.area.specs.Pick.{both}
 use Rattle.area.specs.Area.{same}
 use Rattle.sia.specs.Names.{opOf}
 use Rattle.rules.specs.View.{readOnlyMode, setting}
-use Rattle.rules.specs.Inputs.{pastEnd, inputsOf, told, argsOf}
-use Rattle.rules.specs.Plan.{changes}
+use Rattle.rules.specs.Inputs.{pastEnd, inputsOf, wellFormed, argsOf}
+use Rattle.rules.specs.Plan.{changes, Source, seen}
 use Rattle.plan.specs.Planned.{failed}
 use Rattle.sia.specs.declared.Op.{Op}
 use Rattle.plan.specs.declared.Args.{Args}
@@ -27,9 +28,94 @@ use Rattle.view.proofs.Callers.{slots-hold}
 use Rattle.host.specs.Places.{taken}
 use Rattle.rules.specs.Plan.{sourceOf}
 use Rattle.rules.proofs.Laws.Spots.{few-spots}
+use Rattle.rules.specs.View.{Setting}
+use Rattle.rules.specs.Inputs as Inputs
+use Rattle.rules.specs.Plan.{Source}
+use Rattle.plan.specs.Source.{Shows}
 use borrow.Author.Needs.{needs}
 use Rattle.plan.proofs.chain.planned.Statement.{statement}
 use Rattle.plan.proofs.chain.planned.Tie as tie
+
+-- ---- what the calls gave, in the definitions' words
+
+-- the setting, the operation and the inputs
+abbrev the-set : tie.Start → Setting
+the-set s = setting (s .args .sectors) (s .args .copies) (s .args .places) (s .args .terms) (s .args .disk .now)
+
+abbrev the-op : tie.Start → Op
+the-op s = opOf (s .args .i .name)
+
+abbrev the-inputs : tie.Start → List (List ℕ)
+the-inputs s = inputsOf (s .args .i) (s .args .input .now)
+
+abbrev the-args : tie.Start → Inputs.Args
+the-args s = argsOf (the-op s) (the-inputs s)
+
+abbrev the-source : tie.Start → Source
+the-source s = sourceOf 4096 (the-set s) (s .args .p) (the-op s) (the-args s .key)
+
+-- what the decoder told
+abbrev start-1 : tie.After-decoded → tie.Start
+start-1 c = c .before .before .before .before .before .before .before .before .before .before
+
+heard : (c : tie.After-decoded) → c .decoded .result ≡ given (the-op (start-1 c)) (the-inputs (start-1 c)) (fromOf (the-op (start-1 c)) (start-1 c .args .i))
+heard c = c .decoded .ensures ∙ ap (λ (o : Op). given o (the-inputs (start-1 c)) (fromOf o (start-1 c .args .i)))
+    (c .before .before .before .before .before .before .op-of .ensures)
+
+well-told : (c : tie.After-decoded) → c .decoded .result .told ≡ wellFormed (the-op (start-1 c)) (the-inputs (start-1 c))
+well-told c = told-is _ _ _ _ (heard c)
+
+-- 24
+abbrev start-2 : tie.After-changes-nothing → tie.Start
+start-2 c = start-1 (c .before .before .before .before)
+
+mode : (c : tie.After-changes-nothing) → both (changes (the-op (start-2 c))) (readOnlyMode (start-2 c .args .terms)) ≡ c .changes-nothing .result
+unfolding readOnlyMode
+mode c =
+    ap (λ (o : Op). both (changes o) (same (start-2 c .args .terms .head .contract) readOnly))
+    (sym (c .before .before .before .before .before .before .before .before .before .before .op-of .ensures))
+    ∙ sym (c .changes-nothing .ensures)
+
+-- what is read
+abbrev start-3 : tie.After-source-of → tie.Start
+start-3 c = start-2 (c .before .before .before .before)
+
+abbrev right-3 : tie.After-source-of → Type 0
+right-3 c = wellFormed (the-op (start-3 c)) (the-inputs (start-3 c)) ≡ true
+
+heard-args : (c : tie.After-source-of) → right-3 c
+    → c .before .before .before .before .before .before .before .before .decoded .result .args ≡ placed (the-args (start-3 c))
+    (fromOf (the-op (start-3 c)) (start-3 c .args .i))
+heard-args c right = args-are _ _ _ _ (heard (c .before .before .before .before .before .before .before .before)) right
+
+shown : (c : tie.After-source-of) → right-3 c → Shows (c .source-of .result) (the-source (start-3 c))
+unfolding placed
+shown c right =
+    let s = start-3 c in
+    shows-as _ _ _
+    (ap₂ (λ (o : Op) (g : Args). sourceOf 4096 (setting 0 0 (s .args .places) (s .args .terms) (s .args .disk .now)) (s .args .p) o (g .key))
+    (c .before .before .before .before .before .before .before .before .before .before .before .before .before .before .op-of .ensures) (heard-args c right)
+    ∙ source-same 4096 (the-set s) (s .args .p) (the-op s) (the-args s .key))
+    (c .source-of .ensures)
+
+-- 26 to 42
+abbrev start-4 : tie.After-weighed → tie.Start
+start-4 c = start-3 (c .before .before .before .before)
+
+valued : (c : tie.After-weighed) → right-3 (c .before .before .before .before)
+    → c .weighed .result ≡ weighed 4096 (the-set (start-4 c)) (start-4 c .args .p) (start-4 c .args .i .proof) (the-source (start-4 c)) (the-op (start-4 c))
+    (the-args (start-4 c))
+valued c right =
+    let at-source-of = c .before .before .before .before in
+    let s = start-4 c in
+    let seen = at-source-of .source-of .result .seen in
+    let many = sym (ap (λ (l : List Spot). length l) (shown at-source-of right .sectors)) ∙ seen-count seen in
+    c .weighed .ensures
+    ∙ ap₂ (λ (o : Op) (g : Args). weighed 4096 (setting (s .args .sectors) (s .args .copies) (s .args .places) (s .args .terms) []) (s .args .p)
+    (s .args .i .proof) (sectorsOf (seen .count)) o (numbers g))
+    (at-source-of .before .before .before .before .before .before .before .before .before .before .before .before .before .before .op-of .ensures)
+    (heard-args at-source-of right)
+    ∙ weighed-same 4096 _ _ _ _ many (the-set s) (s .args .p) (s .args .i .proof) _
 
 op-of-requires : tie.Need-op-of-requires
 op-of-requires c κs = search needs
@@ -45,8 +131,8 @@ returns c =
     let at-ill-formed = c .before .before in
     let at-op-of = at-ill-formed .before in
     let s = at-op-of .before .before .before .before in
-    let named = at-op-of .op-of .ensures in
-    c .failed .ensures ∙ ap (λ (o : Op). failed o 21) named ∙ fails-21 4096 (setting (s .args .sectors) (s .args .copies) (s .args .places) (s .args .terms) (s .args .disk .now)) (s .args .p) (s .args .i) (s .args .input .now) (sym (at-ill-formed .ill-formed .ensures) ∙ c .before .if1 .taken)
+    c .failed .ensures ∙ ap (λ (o : Op). failed o _) (at-op-of .op-of .ensures)
+    ∙ fails-21 4096 (the-set s) (s .args .p) (s .args .i) (s .args .input .now) (sym (at-ill-formed .ill-formed .ensures) ∙ c .before .if1 .taken)
 
 past-end-requires : tie.Need-past-end-requires
 past-end-requires c κs = search needs
@@ -61,17 +147,23 @@ returns-2 c =
     let at-ill-formed = at-if1 .before in
     let at-op-of = at-ill-formed .before in
     let s = at-op-of .before .before .before .before in
-    let named = at-op-of .op-of .ensures in
-    let formed = sym (at-ill-formed .ill-formed .ensures) ∙ at-if1 .if1 .left in
-    c .failed2 .ensures ∙ ap (λ (o : Op). failed o 22) named ∙ fails-22 4096 (setting (s .args .sectors) (s .args .copies) (s .args .places) (s .args .terms) (s .args .disk .now)) (s .args .p) (s .args .i) (s .args .input .now) formed (sym (at-past-end .past-end .ensures) ∙ c .before .if2 .taken)
+    c .failed2 .ensures ∙ ap (λ (o : Op). failed o _) (at-op-of .op-of .ensures)
+    ∙ fails-22 4096 (the-set s) (s .args .p) (s .args .i) (s .args .input .now) (sym (at-ill-formed .ill-formed .ensures) ∙ at-if1 .if1 .left)
+    (sym (at-past-end .past-end .ensures) ∙ c .before .if2 .taken)
 
 decoded-requires : tie.Need-decoded-requires
 decoded-requires c κs =
     let at-if1 = c .before .before .before in
     let at-ill-formed = at-if1 .before in
     let at-op-of = at-ill-formed .before in
-    let s = at-op-of .before .before .before .before in
-    (at-op-of .op-of .ensures, (sym (at-ill-formed .ill-formed .ensures) ∙ at-if1 .if1 .left, ap (λ (n : ℕ). pastEnd n (s .args .i)) (s .pre .1 .1) ∙ sym (c .before .past-end .ensures) ∙ c .if2 .left))
+    let s = at-op-of .before .before .before .before in (
+      at-op-of .op-of .ensures,
+      (
+        sym (at-ill-formed .ill-formed .ensures) ∙ at-if1 .if1 .left,
+        ap (λ (n : ℕ). pastEnd n (s .args .i)) (s .pre .1 .1)
+            ∙ sym (c .before .past-end .ensures) ∙ c .if2 .left,
+      ),
+    )
 
 failed-requires-3 : tie.Need-failed-requires-3
 failed-requires-3 c κs = search needs
@@ -85,11 +177,9 @@ returns-3 c =
     let at-ill-formed = at-if1 .before in
     let at-op-of = at-ill-formed .before in
     let s = at-op-of .before .before .before .before in
-    let named = at-op-of .op-of .ensures in
-    let formed = sym (at-ill-formed .ill-formed .ensures) ∙ at-if1 .if1 .left in
-    let within = sym (at-past-end .past-end .ensures) ∙ at-if2 .if2 .left in
-    let heard = at-decoded .decoded .ensures ∙ ap (λ (o : Op). given o (inputsOf (s .args .i) (s .args .input .now)) (fromOf o (s .args .i))) named in
-    c .failed3 .ensures ∙ ap (λ (o : Op). failed o 23) named ∙ fails-23 4096 (setting (s .args .sectors) (s .args .copies) (s .args .places) (s .args .terms) (s .args .disk .now)) (s .args .p) (s .args .i) (s .args .input .now) formed within (sym (told-is _ _ _ _ heard) ∙ not-true _ (c .before .if3 .taken))
+    c .failed3 .ensures ∙ ap (λ (o : Op). failed o _) (at-op-of .op-of .ensures)
+    ∙ fails-23 4096 (the-set s) (s .args .p) (s .args .i) (s .args .input .now) (sym (at-ill-formed .ill-formed .ensures) ∙ at-if1 .if1 .left)
+    (sym (at-past-end .past-end .ensures) ∙ at-if2 .if2 .left) (sym (well-told at-decoded) ∙ not-true _ (c .before .if3 .taken))
 
 changes-nothing-requires : tie.Need-changes-nothing-requires
 changes-nothing-requires c κs = search needs
@@ -98,7 +188,6 @@ failed-requires-4 : tie.Need-failed-requires-4
 failed-requires-4 c κs = search needs
 
 returns-4 : tie.Need-returns-4
-unfolding readOnlyMode
 returns-4 c =
     let at-changes-nothing = c .before .before in
     let at-if3 = at-changes-nothing .before .before in
@@ -109,12 +198,10 @@ returns-4 c =
     let at-ill-formed = at-if1 .before in
     let at-op-of = at-ill-formed .before in
     let s = at-op-of .before .before .before .before in
-    let named = at-op-of .op-of .ensures in
-    let formed = sym (at-ill-formed .ill-formed .ensures) ∙ at-if1 .if1 .left in
-    let within = sym (at-past-end .past-end .ensures) ∙ at-if2 .if2 .left in
-    let heard = at-decoded .decoded .ensures ∙ ap (λ (o : Op). given o (inputsOf (s .args .i) (s .args .input .now)) (fromOf o (s .args .i))) named in
-    let told = sym (told-is _ _ _ _ heard) ∙ not-false _ (at-if3 .if3 .left) in
-    c .failed4 .ensures ∙ ap (λ (o : Op). failed o 24) named ∙ fails-24 4096 (setting (s .args .sectors) (s .args .copies) (s .args .places) (s .args .terms) (s .args .disk .now)) (s .args .p) (s .args .i) (s .args .input .now) formed within told (ap (λ (o : Op). both (changes o) (same (s .args .terms .head .contract) readOnly)) (sym named) ∙ sym (at-changes-nothing .changes-nothing .ensures) ∙ c .before .if4 .taken)
+    let right = sym (well-told at-decoded) ∙ not-false _ (at-if3 .if3 .left) in
+    c .failed4 .ensures ∙ ap (λ (o : Op). failed o _) (at-op-of .op-of .ensures)
+    ∙ fails-24 4096 (the-set s) (s .args .p) (s .args .i) (s .args .input .now) (sym (at-ill-formed .ill-formed .ensures) ∙ at-if1 .if1 .left)
+    (sym (at-past-end .past-end .ensures) ∙ at-if2 .if2 .left) right (mode at-changes-nothing ∙ c .before .if4 .taken)
 
 source-of-requires : tie.Need-source-of-requires
 source-of-requires c κs =
@@ -125,7 +212,6 @@ failed-requires-5 : tie.Need-failed-requires-5
 failed-requires-5 c κs = search needs
 
 returns-5 : tie.Need-returns-5
-unfolding readOnlyMode placed
 returns-5 c =
     let at-source-of = c .before .before .before in
     let at-if4 = at-source-of .before .before .before in
@@ -138,17 +224,11 @@ returns-5 c =
     let at-ill-formed = at-if1 .before in
     let at-op-of = at-ill-formed .before in
     let s = at-op-of .before .before .before .before in
-    let named = at-op-of .op-of .ensures in
-    let formed = sym (at-ill-formed .ill-formed .ensures) ∙ at-if1 .if1 .left in
-    let within = sym (at-past-end .past-end .ensures) ∙ at-if2 .if2 .left in
-    let heard = at-decoded .decoded .ensures ∙ ap (λ (o : Op). given o (inputsOf (s .args .i) (s .args .input .now)) (fromOf o (s .args .i))) named in
-    let told = sym (told-is _ _ _ _ heard) ∙ not-false _ (at-if3 .if3 .left) in
-    let mode = ap (λ (o : Op). both (changes o) (same (s .args .terms .head .contract) readOnly)) (sym named) ∙ sym (at-changes-nothing .changes-nothing .ensures) ∙ at-if4 .if4 .left in
-    let heard-args = args-are _ _ _ _ heard told in
-    let looked = ap₂ (λ (o : Op) (g : Args). sourceOf 4096 (setting 0 0 (s .args .places) (s .args .terms) (s .args .disk .now)) (s .args .p) o (g .key)) named heard-args
-    ∙ source-same 4096 (setting (s .args .sectors) (s .args .copies) (s .args .places) (s .args .terms) (s .args .disk .now)) (s .args .p) (opOf ((s .args .i) .name)) (argsOf (opOf ((s .args .i) .name)) (inputsOf (s .args .i) (s .args .input .now)) .key) in
-    let shown = shows-as _ _ _ looked (at-source-of .source-of .ensures) in
-    c .failed5 .ensures ∙ ap (λ (o : Op). failed o 25) named ∙ fails-25 4096 (setting (s .args .sectors) (s .args .copies) (s .args .places) (s .args .terms) (s .args .disk .now)) (s .args .p) (s .args .i) (s .args .input .now) formed within told mode (sym (shown .there) ∙ not-true _ (c .before .if5 .taken))
+    let right = sym (well-told at-decoded) ∙ not-false _ (at-if3 .if3 .left) in
+    c .failed5 .ensures ∙ ap (λ (o : Op). failed o _) (at-op-of .op-of .ensures)
+    ∙ fails-25 4096 (the-set s) (s .args .p) (s .args .i) (s .args .input .now) (sym (at-ill-formed .ill-formed .ensures) ∙ at-if1 .if1 .left)
+    (sym (at-past-end .past-end .ensures) ∙ at-if2 .if2 .left) right (mode at-changes-nothing ∙ at-if4 .if4 .left)
+    (sym (shown at-source-of right .there) ∙ not-true _ (c .before .if5 .taken))
 
 weighed-requires : tie.Need-weighed-requires
 weighed-requires c κs =
@@ -156,16 +236,21 @@ weighed-requires c κs =
     let at-decoded = at-source-of .before .before .before .before .before .before .before .before in
     let at-op-of = at-decoded .before .before .before .before .before .before in
     let s = at-op-of .before .before .before .before in
-    let few = few-spots 4096 (setting 0 0 (s .args .places) (s .args .terms) (s .args .disk .now)) (s .args .p) (at-op-of .op-of .result) (at-decoded .decoded .result .args .key) (s .pre .0 .small)
-    (size-few (setting (s .args .sectors) (s .args .copies) (s .args .places) (s .args .terms) (s .args .disk .now)) (s .args .p) (s .pre .0) (s .pre .1 .0)) in
-    let many = sym (ap (λ (l : List Spot). length l) (at-source-of .source-of .ensures .sectors)) ∙ seen-count (at-source-of .source-of .result .seen) in
-    (s .pre .0 .lent .most, (omega (arith, few, many), (length-most 4096 (setting (s .args .sectors) (s .args .copies) (s .args .places) (s .args .terms) (s .args .disk .now)) (s .args .p) (s .pre .1 .0), room-most 4096 (setting (s .args .sectors) (s .args .copies) (s .args .places) (s .args .terms) (s .args .disk .now)) (s .args .p) (s .pre .1 .0))))
+    let few = few-spots 4096 (setting 0 0 (s .args .places) (s .args .terms) (s .args .disk .now)) (s .args .p) (at-op-of .op-of .result)
+    (at-decoded .decoded .result .args .key) (s .pre .0 .small)
+    (size-few (the-set s) (s .args .p) (s .pre .0) (s .pre .1 .0)) in
+    let many = sym (ap (λ (l : List Spot). length l) (at-source-of .source-of .ensures .sectors)) ∙ seen-count (at-source-of .source-of .result .seen) in (
+      s .pre .0 .lent .most,
+      (
+        omega (arith, few, many),
+        (length-most 4096 (the-set s) (s .args .p) (s .pre .1 .0), room-most 4096 (the-set s) (s .args .p) (s .pre .1 .0)),
+      ),
+    )
 
 failed-requires-6 : tie.Need-failed-requires-6
 failed-requires-6 c κs = search needs
 
 returns-6 : tie.Need-returns-6
-unfolding readOnlyMode placed
 returns-6 c =
     let at-weighed = c .before .before .before in
     let at-if5 = at-weighed .before .before in
@@ -180,25 +265,13 @@ returns-6 c =
     let at-ill-formed = at-if1 .before in
     let at-op-of = at-ill-formed .before in
     let s = at-op-of .before .before .before .before in
-    let named = at-op-of .op-of .ensures in
-    let formed = sym (at-ill-formed .ill-formed .ensures) ∙ at-if1 .if1 .left in
-    let within = sym (at-past-end .past-end .ensures) ∙ at-if2 .if2 .left in
-    let heard = at-decoded .decoded .ensures ∙ ap (λ (o : Op). given o (inputsOf (s .args .i) (s .args .input .now)) (fromOf o (s .args .i))) named in
-    let told = sym (told-is _ _ _ _ heard) ∙ not-false _ (at-if3 .if3 .left) in
-    let mode = ap (λ (o : Op). both (changes o) (same (s .args .terms .head .contract) readOnly)) (sym named) ∙ sym (at-changes-nothing .changes-nothing .ensures) ∙ at-if4 .if4 .left in
-    let heard-args = args-are _ _ _ _ heard told in
-    let looked = ap₂ (λ (o : Op) (g : Args). sourceOf 4096 (setting 0 0 (s .args .places) (s .args .terms) (s .args .disk .now)) (s .args .p) o (g .key)) named heard-args
-    ∙ source-same 4096 (setting (s .args .sectors) (s .args .copies) (s .args .places) (s .args .terms) (s .args .disk .now)) (s .args .p) (opOf ((s .args .i) .name)) (argsOf (opOf ((s .args .i) .name)) (inputsOf (s .args .i) (s .args .input .now)) .key) in
-    let shown = shows-as _ _ _ looked (at-source-of .source-of .ensures) in
-    let there = sym (shown .there) ∙ not-false _ (at-if5 .if5 .left) in
-    let many = sym (ap (λ (l : List Spot). length l) (shown .sectors)) ∙ seen-count (at-source-of .source-of .result .seen) in
-    let valued = at-weighed .weighed .ensures
-    ∙ ap₂ (λ (o : Op) (g : Args). weighed 4096 (setting (s .args .sectors) (s .args .copies) (s .args .places) (s .args .terms) []) (s .args .p) ((s .args .i) .proof) (sectorsOf (at-source-of .source-of .result .seen .count)) o (numbers g)) named heard-args
-    ∙ weighed-same 4096 _ _ _ _ many (setting (s .args .sectors) (s .args .copies) (s .args .places) (s .args .terms) (s .args .disk .now)) (s .args .p) ((s .args .i) .proof) _ in
-    c .failed6 .ensures ∙ ap (λ (o : Op). failed o (at-weighed .weighed .result .number)) named ∙ fails-later 4096 (setting (s .args .sectors) (s .args .copies) (s .args .places) (s .args .terms) (s .args .disk .now)) (s .args .p) (s .args .i) (s .args .input .now) formed within told mode there _ valued (c .before .if6 .taken)
+    let right = sym (well-told at-decoded) ∙ not-false _ (at-if3 .if3 .left) in
+    c .failed6 .ensures ∙ ap (λ (o : Op). failed o (at-weighed .weighed .result .number)) (at-op-of .op-of .ensures)
+    ∙ fails-later 4096 (the-set s) (s .args .p) (s .args .i) (s .args .input .now) (sym (at-ill-formed .ill-formed .ensures) ∙ at-if1 .if1 .left)
+    (sym (at-past-end .past-end .ensures) ∙ at-if2 .if2 .left) right (mode at-changes-nothing ∙ at-if4 .if4 .left)
+    (sym (shown at-source-of right .there) ∙ not-false _ (at-if5 .if5 .left)) _ (valued at-weighed right) (c .before .if6 .taken)
 
 returns-7 : tie.Need-returns-7
-unfolding readOnlyMode placed
 returns-7 c =
     let at-weighed = c .before .before in
     let at-if5 = at-weighed .before .before in
@@ -213,44 +286,16 @@ returns-7 c =
     let at-ill-formed = at-if1 .before in
     let at-op-of = at-ill-formed .before in
     let s = at-op-of .before .before .before .before in
-    let named = at-op-of .op-of .ensures in
-    let formed = sym (at-ill-formed .ill-formed .ensures) ∙ at-if1 .if1 .left in
-    let within = sym (at-past-end .past-end .ensures) ∙ at-if2 .if2 .left in
-    let heard = at-decoded .decoded .ensures ∙ ap (λ (o : Op). given o (inputsOf (s .args .i) (s .args .input .now)) (fromOf o (s .args .i))) named in
-    let told = sym (told-is _ _ _ _ heard) ∙ not-false _ (at-if3 .if3 .left) in
-    let mode = ap (λ (o : Op). both (changes o) (same (s .args .terms .head .contract) readOnly)) (sym named) ∙ sym (at-changes-nothing .changes-nothing .ensures) ∙ at-if4 .if4 .left in
-    let heard-args = args-are _ _ _ _ heard told in
-    let looked = ap₂ (λ (o : Op) (g : Args). sourceOf 4096 (setting 0 0 (s .args .places) (s .args .terms) (s .args .disk .now)) (s .args .p) o (g .key)) named heard-args
-    ∙ source-same 4096 (setting (s .args .sectors) (s .args .copies) (s .args .places) (s .args .terms) (s .args .disk .now)) (s .args .p) (opOf ((s .args .i) .name)) (argsOf (opOf ((s .args .i) .name)) (inputsOf (s .args .i) (s .args .input .now)) .key) in
-    let shown = shows-as _ _ _ looked (at-source-of .source-of .ensures) in
-    let there = sym (shown .there) ∙ not-false _ (at-if5 .if5 .left) in
-    let many = sym (ap (λ (l : List Spot). length l) (shown .sectors)) ∙ seen-count (at-source-of .source-of .result .seen) in
-    let valued = at-weighed .weighed .ensures
-    ∙ ap₂ (λ (o : Op) (g : Args). weighed 4096 (setting (s .args .sectors) (s .args .copies) (s .args .places) (s .args .terms) []) (s .args .p) ((s .args .i) .proof) (sectorsOf (at-source-of .source-of .result .seen .count)) o (numbers g)) named heard-args
-    ∙ weighed-same 4096 _ _ _ _ many (setting (s .args .sectors) (s .args .copies) (s .args .places) (s .args .terms) (s .args .disk .now)) (s .args .p) ((s .args .i) .proof) _ in
-    plan-is 4096 (setting (s .args .sectors) (s .args .copies) (s .args .places) (s .args .terms) (s .args .disk .now)) (s .args .p) (s .args .i) (s .args .input .now) formed within told mode there _ valued (c .if6 .left) _ _ _ named heard-args (shown .sectors)
+    let right = sym (well-told at-decoded) ∙ not-false _ (at-if3 .if3 .left) in
+    plan-is 4096 (the-set s) (s .args .p) (s .args .i) (s .args .input .now) (sym (at-ill-formed .ill-formed .ensures) ∙ at-if1 .if1 .left)
+    (sym (at-past-end .past-end .ensures) ∙ at-if2 .if2 .left) right (mode at-changes-nothing ∙ at-if4 .if4 .left)
+    (sym (shown at-source-of right .there) ∙ not-false _ (at-if5 .if5 .left)) _ (valued at-weighed right) (c .if6 .left) _ _ _ (at-op-of .op-of .ensures)
+    (heard-args at-source-of right) (shown at-source-of right .sectors)
 
 pub planned-spec : {M : Type 1} → statement M
 planned-spec =
     tie.close
     (tie.spec
-    op-of-requires
-    ill-formed-requires
-    failed-requires
-    returns
-    past-end-requires
-    failed-requires-2
-    returns-2
-    decoded-requires
-    failed-requires-3
-    returns-3
-    changes-nothing-requires
-    failed-requires-4
-    returns-4
-    source-of-requires
-    failed-requires-5
-    returns-5
-    weighed-requires
-    failed-requires-6
-    returns-6
-    returns-7)
+    op-of-requires ill-formed-requires failed-requires returns past-end-requires failed-requires-2 returns-2 decoded-requires failed-requires-3
+    returns-3 changes-nothing-requires failed-requires-4 returns-4 source-of-requires failed-requires-5 returns-5 weighed-requires
+    failed-requires-6 returns-6 returns-7)

@@ -1,6 +1,6 @@
 -- `plan::cost::cost` meets its contract. Assumes nothing.
 use mathlib.Core.Path.{ap₂}
-use Prim.Native.Nat.{ℕ, _+_, _-_, _*_}
+use Prim.Native.Nat.{ℕ, _+_, _*_}
 use native.Mathlib.Omega.{arith}
 use Rattle.rules.specs.Plan.{cost}
 use Rattle.plan.proofs.Laws.Costs.{timed, charged-memory}
@@ -28,12 +28,21 @@ mul-result c =
 mul-result-2 : tie.Need-mul-result-2
 mul-result-2 c =
     let s = c .before .before .before in
-    omega (arith, charged-memory ((1048576 + s .args .declared) * c .before .time .result) (s .args .prices .memory) (timed (1048576 + s .args .declared) (c .before .time .result) (omega arith) (c .before .time .ensures .1)) (omega arith))
+    omega (
+      arith,
+      charged-memory ((1048576 + s .args .declared) * c .before .time .result) (s .args .prices .memory)
+          (timed (1048576 + s .args .declared) (c .before .time .result) (omega arith) (c .before .time .ensures .1)) (omega arith),
+    )
 
 add-result-2 : tie.Need-add-result-2
 add-result-2 c =
     let s = c .before .before .before in
-    omega (arith, charged-memory ((1048576 + s .args .declared) * c .before .time .result) (s .args .prices .memory) (timed (1048576 + s .args .declared) (c .before .time .result) (omega arith) (c .before .time .ensures .1)) (omega arith), c .own .ensures .1)
+    omega (
+      arith,
+      charged-memory ((1048576 + s .args .declared) * c .before .time .result) (s .args .prices .memory)
+          (timed (1048576 + s .args .declared) (c .before .time .result) (omega arith) (c .before .time .ensures .1)) (omega arith),
+      c .own .ensures .1,
+    )
 
 returns : tie.Need-returns
 unfolding cost

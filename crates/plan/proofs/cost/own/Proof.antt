@@ -1,8 +1,8 @@
 -- `plan::cost::own` meets its contract, arm by arm. Assumes nothing.
-use mathlib.Core.Path.{sym, ap, ap₂, _∙_}
-use Prim.Native.Nat.{ℕ, _+_, _-_, _*_}
+use mathlib.Core.Path.{_≡_, sym, ap, ap₂, _∙_}
+use Prim.Native.Nat.{ℕ, _+_, _*_}
 use native.Mathlib.Omega.{arith}
-use Rattle.rules.specs.Plan.{own}
+use Rattle.rules.specs.Plan.{readPrice, writePrice, own}
 use Rattle.plan.specs.Numbers.{Small}
 use Rattle.plan.proofs.Laws.Costs.{small-as}
 use Rattle.sia.specs.declared.Op.{Op}
@@ -88,34 +88,51 @@ enum-told-7 c = search needs
 returns : tie.Need-returns
 unfolding own
 returns c =
-    let s = c .before .before .before in
-    (c .read-price .ensures .0 ∙ sym (ap (λ (o : Op). own (s .args .prices) o (s .args .n)) (c .before .enum-told .given .1)), omega (arith, c .read-price .ensures .1))
+    let s = c .before .before .before in (
+      c .read-price .ensures .0 ∙ sym (ap (λ (o : Op). own (s .args .prices) o (s .args .n)) (c .before .enum-told .given .1)),
+      omega
+          (arith, c .read-price .ensures .1),
+    )
 
 returns-2 : tie.Need-returns-2
 unfolding own
 returns-2 c =
-    let s = c .before .before .before in
-    (c .read-price2 .ensures .0 ∙ sym (ap (λ (o : Op). own (s .args .prices) o (s .args .n)) (c .before .enum-told2 .given .1)), omega (arith, c .read-price2 .ensures .1))
+    let s = c .before .before .before in (
+      c .read-price2 .ensures .0 ∙ sym (ap (λ (o : Op). own (s .args .prices) o (s .args .n)) (c .before .enum-told2 .given .1)),
+      omega
+          (arith, c .read-price2 .ensures .1),
+    )
 
 returns-3 : tie.Need-returns-3
 unfolding own
 returns-3 c =
-    let s = c .before .before .before in
-    (c .write-price .ensures .0 ∙ sym (ap (λ (o : Op). own (s .args .prices) o (s .args .n)) (c .before .enum-told3 .given .1)), omega (arith, c .write-price .ensures .1))
+    let s = c .before .before .before in (
+      c .write-price .ensures .0 ∙ sym (ap (λ (o : Op). own (s .args .prices) o (s .args .n)) (c .before .enum-told3 .given .1)),
+      omega
+          (arith, c .write-price .ensures .1),
+    )
 
 returns-4 : tie.Need-returns-4
 unfolding own
 returns-4 c =
     let at-enum-told4 = c .before .before in
-    let s = at-enum-told4 .before .before in
-    (ap₂ (λ (r w : ℕ). r + w) (c .before .read-price3 .ensures .0) (c .write-price2 .ensures .0) ∙ sym (ap (λ (o : Op). own (s .args .prices) o (s .args .n)) (at-enum-told4 .enum-told4 .given .1)), omega (arith, c .before .read-price3 .ensures .1, c .write-price2 .ensures .1))
+    let s = at-enum-told4 .before .before in (
+      ap₂ (λ (r w : ℕ). r + w) (c .before .read-price3 .ensures .0) (c .write-price2 .ensures .0)
+          ∙ sym (ap (λ (o : Op). own (s .args .prices) o (s .args .n)) (at-enum-told4 .enum-told4 .given .1)),
+      omega
+          (arith, c .before .read-price3 .ensures .1, c .write-price2 .ensures .1),
+    )
 
 returns-5 : tie.Need-returns-5
 unfolding own
 returns-5 c =
     let at-enum-told5 = c .before .before in
-    let s = at-enum-told5 .before .before in
-    (ap₂ (λ (r w : ℕ). 2 * (r + w)) (c .before .read-price4 .ensures .0) (c .write-price3 .ensures .0) ∙ sym (ap (λ (o : Op). own (s .args .prices) o (s .args .n)) (at-enum-told5 .enum-told5 .given .1)), omega (arith, c .before .read-price4 .ensures .1, c .write-price3 .ensures .1))
+    let a = at-enum-told5 .before .before .args in
+    let swaps : own (a .prices) (a .op) (a .n) ≡ 2 * (readPrice (a .prices) (a .n) + writePrice (a .prices) (a .n)) =
+    ap (λ (o : Op). own (a .prices) o (a .n)) (at-enum-told5 .enum-told5 .given .1) in
+    let read = c .before .read-price4 .ensures in
+    let write = c .write-price3 .ensures in
+    (omega (arith, swaps, read .0, write .0), omega (arith, read .1, write .1))
 
 returns-6 : tie.Need-returns-6
 unfolding own

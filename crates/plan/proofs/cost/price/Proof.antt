@@ -1,6 +1,5 @@
 -- `plan::cost::price` meets its contract. Assumes nothing.
 use mathlib.Core.Path.{refl}
-use Prim.Native.Nat.{_-_}
 use native.Mathlib.Omega.{arith}
 use Rattle.plan.proofs.Laws.Costs.{priced}
 use Rattle.plan.proofs.cost.price.Statement.{statement}

@@ -1,6 +1,5 @@
 -- `plan::cost::time` meets its contract, arm by arm. Assumes nothing.
 use mathlib.Core.Path.{sym, ap}
-use Prim.Native.Nat.{_-_}
 use native.Mathlib.Omega.{arith}
 use Rattle.rules.specs.Plan.{time}
 use borrow.Author.Needs.{needs}

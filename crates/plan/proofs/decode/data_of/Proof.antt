@@ -1,6 +1,5 @@
 -- `plan::decode::data_of` meets its contract: fewer than 8 bytes, another count, or the length of the rest. Assumes nothing.
 use mathlib.Core.Path.{refl}
-use Prim.Native.Nat.{_-_}
 use borrow.Author.Tests.{lt-leb}
 use Rattle.area.proofs.Laws.Pick.{no, both-not-left}
 use Rattle.rules.specs.Inputs.{isData}

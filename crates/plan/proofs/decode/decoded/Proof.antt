@@ -1,7 +1,7 @@
 -- `plan::decode::decoded` meets its contract, arm by arm. Assumes nothing.
 use mathlib.Core.Path.{sym, ap, _∙_}
 use mathlib.Core.List.{List}
-use Prim.Native.Nat.{ℕ, _-_}
+use Prim.Native.Nat.{ℕ}
 use Rattle.area.proofs.Laws.Pick.{never}
 use Rattle.rules.specs.Inputs.{known, operandsOf, inputsOf}
 use Rattle.plan.specs.Given.{given, fromOf, dataFrom}
@@ -97,7 +97,8 @@ returns-3 c =
     let s = c .before .before .before .before .before in
     let long = known-instruction (s .args .i) _ (s .good .1 .0) .1 in
     let right = count-right (s .args .i) _ (s .pre .0) (s .pre .1 .0) ∙ ap operandsOf (c .before .enum-told3 .given .1) in
-    c .write-args .ensures ∙ ap (λ (l : List (List ℕ)). given Write l (dataFrom (s .args .i .operands))) (inputs-two (s .args .input .now) (s .args .i) long right)
+    c .write-args .ensures ∙ ap (λ (l : List (List ℕ)). given Write l (dataFrom (s .args .i .operands)))
+    (inputs-two (s .args .input .now) (s .args .i) long right)
     ∙ ap (λ (o : Op). given o (inputsOf (s .args .i) (s .args .input .now)) (fromOf o (s .args .i))) (sym (c .before .enum-told3 .given .1))
 
 returns-4 : tie.Need-returns-4

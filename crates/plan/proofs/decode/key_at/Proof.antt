@@ -1,6 +1,5 @@
 -- `plan::decode::key_at` meets its contract. Assumes nothing.
 use mathlib.Core.Path.{refl, ap, _∙_}
-use Prim.Native.Nat.{_-_}
 use Rattle.area.proofs.Laws.Parts.{part-is}
 use Rattle.plan.specs.Given.{keyOf}
 use borrow.Author.Needs.{needs}

@@ -2,7 +2,7 @@
 use mathlib.Core.Path.{refl, sym, ap, _∙_}
 use mathlib.Core.Bool.{true}
 use mathlib.Core.List.{List}
-use Prim.Native.Nat.{ℕ, _-_}
+use Prim.Native.Nat.{ℕ}
 use native.Mathlib.Omega.{arith}
 use borrow.Author.Tests.{eq-eqb, ne-eqb}
 use Rattle.area.proofs.Laws.Pick.{yes, no}
@@ -29,7 +29,8 @@ unfolding keyOf isKey
 returns-2 c =
     let at-if1 = c .before .before .before in
     let long = at-if1 .if1 .left in
-    yes _ _ _ (eq-eqb _ _ long) (ap (λ (b : List ℕ). record { told = true; bytes = b }) (put-part _ _ 0 32 refl (omega arith) (c .before .copy-between .ensures) ∙ part-whole _ 32 (sym long)))
+    yes _ _ _ (eq-eqb _ _ long) (ap (λ (b : List ℕ). record { told = true; bytes = b })
+    (put-part _ _ 0 32 refl (omega arith) (c .before .copy-between .ensures) ∙ part-whole _ 32 (sym long)))
 
 pub key-of-spec : {M : Type 1} → statement M
 key-of-spec =

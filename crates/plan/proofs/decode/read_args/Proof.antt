@@ -1,6 +1,5 @@
 -- `plan::decode::read_args` meets its contract: the three inputs in turn. Assumes nothing.
 use mathlib.Core.Path.{sym, _∙_}
-use Prim.Native.Nat.{_-_}
 use native.Mathlib.Omega.{arith}
 use borrow.Author.Tests.{not-true, not-false}
 use Rattle.area.proofs.Laws.Pick.{both-not-left, both-not-right}
@@ -34,7 +33,8 @@ unfolding wellFormed three
 returns c =
     let at-key-at = c .before .before .before in
     let s = at-key-at .before .before .before .before .before in
-    c .malformed .ensures ∙ refused Read (three (s .args .input .now) (s .args .t2)) 0 (both-not-left _ _ (sym (key-told _ _ (at-key-at .key-at .ensures)) ∙ not-true _ (c .before .if1 .taken)))
+    c .malformed .ensures ∙ refused Read (three (s .args .input .now) (s .args .t2)) 0
+    (both-not-left _ _ (sym (key-told _ _ (at-key-at .key-at .ensures)) ∙ not-true _ (c .before .if1 .taken)))
 
 number-at-requires : tie.Need-number-at-requires
 number-at-requires c κs =
@@ -55,7 +55,9 @@ unfolding wellFormed three
 returns-2 c =
     let at-number-at = c .before .before .before in
     let s = at-number-at .before .before .before .before .before .before .before .before in
-    c .malformed2 .ensures ∙ refused Read (three (s .args .input .now) (s .args .t2)) 0 (both-not-right _ _ (both-not-left _ _ (number-refused (inputAt (s .args .input .now) (s .args .t2) 1) (sym (at-number-at .number-at .ensures) ∙ c .before .enum-told .given .1))))
+    c .malformed2 .ensures ∙ refused Read (three (s .args .input .now) (s .args .t2)) 0
+    (both-not-right _ _ (both-not-left _ _ (number-refused (inputAt (s .args .input .now) (s .args .t2) 1)
+    (sym (at-number-at .number-at .ensures) ∙ c .before .enum-told .given .1))))
 
 number-at-requires-2 : tie.Need-number-at-requires-2
 number-at-requires-2 c κs =
@@ -76,7 +78,9 @@ unfolding wellFormed three
 returns-3 c =
     let at-number-at2 = c .before .before .before in
     let s = at-number-at2 .before .before .before .before .before .before .before .before .before .before .before .before in
-    c .malformed3 .ensures ∙ refused Read (three (s .args .input .now) (s .args .t2)) 0 (both-not-right _ _ (both-not-right _ _ (number-refused (inputAt (s .args .input .now) (s .args .t2) 2) (sym (at-number-at2 .number-at2 .ensures) ∙ c .before .enum-told2 .given .1))))
+    c .malformed3 .ensures ∙ refused Read (three (s .args .input .now) (s .args .t2)) 0
+    (both-not-right _ _ (both-not-right _ _ (number-refused (inputAt (s .args .input .now) (s .args .t2) 2)
+    (sym (at-number-at2 .number-at2 .ensures) ∙ c .before .enum-told2 .given .1))))
 
 returns-4 : tie.Need-returns-4
 returns-4 c =
@@ -87,7 +91,8 @@ returns-4 c =
     let at-if1 = at-number-at .before in
     let at-key-at = at-if1 .before .before in
     let s = at-key-at .before .before .before .before .before in
-    read-accepted (s .args .input .now) (s .args .t2) _ _ _ (at-key-at .key-at .ensures) (not-false _ (at-if1 .if1 .left)) (sym (at-number-at .number-at .ensures) ∙ at-first .first .given .1)
+    read-accepted (s .args .input .now) (s .args .t2) _ _ _ (at-key-at .key-at .ensures) (not-false _ (at-if1 .if1 .left))
+    (sym (at-number-at .number-at .ensures) ∙ at-first .first .given .1)
     (sym (at-number-at2 .number-at2 .ensures) ∙ at-len .len .given .1)
 
 pub read-args-spec : {M : Type 1} → statement M

@@ -1,6 +1,5 @@
 -- `plan::decode::size_args` meets its contract. Assumes nothing.
 use mathlib.Core.Path.{sym, _∙_}
-use Prim.Native.Nat.{_-_}
 use native.Mathlib.Omega.{arith}
 use Rattle.rules.specs.Inputs.{wellFormed}
 use Rattle.plan.specs.Given.{inputAt, one}
@@ -32,7 +31,8 @@ unfolding wellFormed one
 returns c =
     let at-number-at = c .before .before .before in
     let s = at-number-at .before .before .before in
-    c .malformed .ensures ∙ refused Truncate (one (s .args .input .now) (s .args .t2)) 0 (number-refused (inputAt (s .args .input .now) (s .args .t2) 0) (sym (at-number-at .number-at .ensures) ∙ c .before .enum-told .given .1))
+    c .malformed .ensures ∙ refused Truncate (one (s .args .input .now) (s .args .t2)) 0
+    (number-refused (inputAt (s .args .input .now) (s .args .t2) 0) (sym (at-number-at .number-at .ensures) ∙ c .before .enum-told .given .1))
 
 returns-2 : tie.Need-returns-2
 returns-2 c =

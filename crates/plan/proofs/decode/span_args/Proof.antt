@@ -1,6 +1,5 @@
 -- `plan::decode::span_args` meets its contract: the three inputs in turn. Assumes nothing.
 use mathlib.Core.Path.{sym, _∙_}
-use Prim.Native.Nat.{_-_}
 use native.Mathlib.Omega.{arith}
 use Rattle.area.proofs.Laws.Pick.{both-not-left, both-not-right}
 use Rattle.rules.specs.Inputs.{wellFormed}
@@ -39,7 +38,9 @@ unfolding wellFormed three
 returns c =
     let at-number-at = c .before .before .before in
     let s = at-number-at .before .before .before .before .before in
-    c .malformed .ensures ∙ refused Copy (three (s .args .input .now) (s .args .t2)) 0 (both-not-left _ _ (number-refused (inputAt (s .args .input .now) (s .args .t2) 0) (sym (at-number-at .number-at .ensures) ∙ c .before .enum-told .given .1)))
+    c .malformed .ensures ∙ refused Copy (three (s .args .input .now) (s .args .t2)) 0
+    (both-not-left _ _ (number-refused (inputAt (s .args .input .now) (s .args .t2) 0)
+    (sym (at-number-at .number-at .ensures) ∙ c .before .enum-told .given .1)))
 
 number-at-requires-2 : tie.Need-number-at-requires-2
 number-at-requires-2 c κs =
@@ -60,7 +61,9 @@ unfolding wellFormed three
 returns-2 c =
     let at-number-at2 = c .before .before .before in
     let s = at-number-at2 .before .before .before .before .before .before .before .before .before in
-    c .malformed2 .ensures ∙ refused Copy (three (s .args .input .now) (s .args .t2)) 0 (both-not-right _ _ (both-not-left _ _ (number-refused (inputAt (s .args .input .now) (s .args .t2) 1) (sym (at-number-at2 .number-at2 .ensures) ∙ c .before .enum-told2 .given .1))))
+    c .malformed2 .ensures ∙ refused Copy (three (s .args .input .now) (s .args .t2)) 0
+    (both-not-right _ _ (both-not-left _ _ (number-refused (inputAt (s .args .input .now) (s .args .t2) 1)
+    (sym (at-number-at2 .number-at2 .ensures) ∙ c .before .enum-told2 .given .1))))
 
 number-at-requires-3 : tie.Need-number-at-requires-3
 number-at-requires-3 c κs =
@@ -81,7 +84,9 @@ unfolding wellFormed three
 returns-3 c =
     let at-number-at3 = c .before .before .before in
     let s = at-number-at3 .before .before .before .before .before .before .before .before .before .before .before .before .before in
-    c .malformed3 .ensures ∙ refused Copy (three (s .args .input .now) (s .args .t2)) 0 (both-not-right _ _ (both-not-right _ _ (number-refused (inputAt (s .args .input .now) (s .args .t2) 2) (sym (at-number-at3 .number-at3 .ensures) ∙ c .before .enum-told3 .given .1))))
+    c .malformed3 .ensures ∙ refused Copy (three (s .args .input .now) (s .args .t2)) 0
+    (both-not-right _ _ (both-not-right _ _ (number-refused (inputAt (s .args .input .now) (s .args .t2) 2)
+    (sym (at-number-at3 .number-at3 .ensures) ∙ c .before .enum-told3 .given .1))))
 
 returns-4 : tie.Need-returns-4
 returns-4 c =
@@ -91,7 +96,8 @@ returns-4 c =
     let at-first = at-number-at2 .before .before in
     let at-number-at = at-first .before .before in
     let s = at-number-at .before .before .before .before .before in
-    span-accepted (s .args .input .now) (s .args .t2) _ _ _ (sym (at-number-at .number-at .ensures) ∙ at-first .first .given .1) (sym (at-number-at2 .number-at2 .ensures) ∙ at-second .second .given .1)
+    span-accepted (s .args .input .now) (s .args .t2) _ _ _ (sym (at-number-at .number-at .ensures) ∙ at-first .first .given .1)
+    (sym (at-number-at2 .number-at2 .ensures) ∙ at-second .second .given .1)
     (sym (at-number-at3 .number-at3 .ensures) ∙ c .before .len .given .1)
 
 pub span-args-spec : {M : Type 1} → statement M

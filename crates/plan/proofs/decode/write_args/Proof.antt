@@ -1,6 +1,5 @@
 -- `plan::decode::write_args` meets its contract: the two inputs in turn. Assumes nothing.
 use mathlib.Core.Path.{sym, _∙_}
-use Prim.Native.Nat.{_-_}
 use native.Mathlib.Omega.{arith}
 use lib.ListN.{getD}
 use Rattle.area.proofs.Laws.Pick.{both-not-left, both-not-right}
@@ -39,7 +38,9 @@ unfolding wellFormed two
 returns c =
     let at-number-at = c .before .before .before in
     let s = at-number-at .before .before .before .before in
-    c .malformed .ensures ∙ refused Write (two (s .args .input .now) (s .args .t2)) _ (both-not-left _ _ (number-refused (inputAt (s .args .input .now) (s .args .t2) 0) (sym (at-number-at .number-at .ensures) ∙ c .before .enum-told .given .1)))
+    c .malformed .ensures ∙ refused Write (two (s .args .input .now) (s .args .t2)) _
+    (both-not-left _ _ (number-refused (inputAt (s .args .input .now) (s .args .t2) 0)
+    (sym (at-number-at .number-at .ensures) ∙ c .before .enum-told .given .1)))
 
 data-at-requires : tie.Need-data-at-requires
 data-at-requires c κs =
@@ -60,7 +61,9 @@ unfolding wellFormed two
 returns-2 c =
     let at-data-at = c .before .before .before in
     let s = at-data-at .before .before .before .before .before .before .before .before in
-    c .malformed2 .ensures ∙ refused Write (two (s .args .input .now) (s .args .t2)) _ (both-not-right _ _ (data-refused (inputAt (s .args .input .now) (s .args .t2) 1) (sym (at-data-at .data-at .ensures) ∙ c .before .enum-told2 .given .1)))
+    c .malformed2 .ensures ∙ refused Write (two (s .args .input .now) (s .args .t2)) _
+    (both-not-right _ _ (data-refused (inputAt (s .args .input .now) (s .args .t2) 1)
+    (sym (at-data-at .data-at .ensures) ∙ c .before .enum-told2 .given .1)))
 
 add-from : tie.Need-add-from
 add-from c =
@@ -70,7 +73,14 @@ add-from c =
     let o = getD (s .args .t2) 1 noOperand in
     let within = ends-within _ (s .args .t2) 2 1 (s .good .1 .0 .1 .0 .1) (s .pre) (omega arith) (omega arith) in
     let long = length-part (s .args .input .now) (o .offset) (o .len) within in
-    omega (arith, s .good .0 .0, within, long, data-long _ (data-told (inputAt (s .args .input .now) (s .args .t2) 1) _ (sym (at-data-at .data-at .ensures) ∙ at-len .len .given .1)))
+    omega (
+      arith,
+      s .good .0 .0,
+      within,
+      long,
+      data-long _
+          (data-told (inputAt (s .args .input .now) (s .args .t2) 1) _ (sym (at-data-at .data-at .ensures) ∙ at-len .len .given .1)),
+    )
 
 returns-3 : tie.Need-returns-3
 returns-3 c =
@@ -79,7 +89,8 @@ returns-3 c =
     let at-first = at-data-at .before .before in
     let at-number-at = at-first .before .before in
     let s = at-number-at .before .before .before .before in
-    write-accepted (s .args .input .now) (s .args .t2) _ _ (sym (at-number-at .number-at .ensures) ∙ at-first .first .given .1) (sym (at-data-at .data-at .ensures) ∙ at-len .len .given .1)
+    write-accepted (s .args .input .now) (s .args .t2) _ _ (sym (at-number-at .number-at .ensures) ∙ at-first .first .given .1)
+    (sym (at-data-at .data-at .ensures) ∙ at-len .len .given .1)
 
 pub write-args-spec : {M : Type 1} → statement M
 write-args-spec =

@@ -1,6 +1,5 @@
 -- `plan::inputs::end_of` meets its contract. Assumes nothing.
 use mathlib.Core.Path.{refl}
-use Prim.Native.Nat.{_-_}
 use borrow.Author.Tests.{eq-eqb, ne-eqb}
 use Rattle.area.proofs.Laws.Pick.{yes, no}
 use borrow.Author.Needs.{needs}

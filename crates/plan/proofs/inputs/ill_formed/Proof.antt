@@ -1,7 +1,7 @@
 -- `plan::inputs::ill_formed` meets its contract: a walk down the definition. Assumes nothing.
 use mathlib.Core.Path.{refl, sym, ap, _∙_}
 use mathlib.Core.Bool.{not}
-use Prim.Native.Nat.{ℕ, _-_}
+use Prim.Native.Nat.{ℕ}
 use lib.Dec.{eqb}
 use Rattle.area.proofs.Laws.Pick.{yes, no}
 use Rattle.rules.specs.Inputs.{known, operandsOf, illFormed}

@@ -1,6 +1,5 @@
 -- `plan::inputs::known` meets its contract, arm by arm. Assumes nothing.
 use mathlib.Core.Path.{sym, ap}
-use Prim.Native.Nat.{_-_}
 use Rattle.rules.specs.Inputs.{known}
 use borrow.Author.Needs.{needs}
 use Rattle.plan.proofs.inputs.known.Statement.{statement}

@@ -15,7 +15,8 @@ use Rattle.plan.proofs.inputs.largest_end.Statement.{statement}
 use Rattle.plan.proofs.inputs.largest_end.Tie as tie
 
 abbrev Inv-loop : tie.InvT-loop
-Inv-loop declared n list most₀ i₀ most i = (i ≤ n) × (some (endsPast declared) (slice i n list) ≡ false) × (max most (largest (slice i n list)) ≡ largest (take n list))
+Inv-loop declared n list most₀ i₀ most i = (i ≤ n) × (some (endsPast declared) (slice i n list) ≡ false) ×
+    (max most (largest (slice i n list)) ≡ largest (take n list))
 
 abbrev μ-loop : tie.MeasureT-loop
 μ-loop declared n list most₀ i₀ most i = n - i
@@ -33,7 +34,12 @@ end-of-requires : tie.Need-end-of-requires Inv-loop μ-loop
 end-of-requires c κs =
     let at-loop = c .before .before in
     let s = at-loop .before in
-    omega (arith, past-not (s .args .t2) (at-loop .loop .i) (s .args .n) (s .good .1 .0 .1 .0 .1) (s .args .declared) (c .before .loop-test .taken) (s .pre .0) (at-loop .loop .inv .1), s .fits .declared)
+    omega (
+      arith,
+      past-not (s .args .t2) (at-loop .loop .i) (s .args .n) (s .good .1 .0 .1 .0 .1) (s .args .declared) (c .before .loop-test .taken) (s .pre .0)
+          (at-loop .loop .inv .1),
+      s .fits .declared,
+    )
 
 greater-requires : tie.Need-greater-requires Inv-loop μ-loop
 greater-requires c κs = tt
@@ -52,8 +58,10 @@ loop-again c =
     let long = s .good .1 .0 .1 .0 .1 in (
       omega arith,
       past-further (s .args .t2) (at-loop .loop .i) (s .args .n) long _ (at-loop-test .loop-test .taken) (s .pre .0) (at-loop .loop .inv .1),
-      ap (λ (m : ℕ). max m (largest (slice (at-loop .loop .i + 1) (s .args .n) (s .args .t2)))) (c .greater .ensures ∙ ap (max (at-loop .loop .most)) (c .before .end-of .ensures))
-          ∙ largest-further (s .args .t2) (at-loop .loop .i) (s .args .n) long (at-loop .loop .most) _ (at-loop-test .loop-test .taken) (s .pre .0) (at-loop .loop .inv .2),
+      ap (λ (m : ℕ). max m (largest (slice (at-loop .loop .i + 1) (s .args .n) (s .args .t2))))
+          (c .greater .ensures ∙ ap (max (at-loop .loop .most)) (c .before .end-of .ensures))
+          ∙ largest-further (s .args .t2) (at-loop .loop .i) (s .args .n) long (at-loop .loop .most) _ (at-loop-test .loop-test .taken) (s .pre .0)
+          (at-loop .loop .inv .2),
     )
 
 returns : tie.Need-returns Inv-loop μ-loop

@@ -1,6 +1,5 @@
 -- `plan::inputs::need` meets its contract: a walk down the definition. Assumes nothing.
 use mathlib.Core.Path.{refl, sym, ap, _∙_}
-use Prim.Native.Nat.{_-_}
 use Rattle.area.proofs.Laws.Pick.{yes, no}
 use Rattle.host.specs.Lists.{some}
 use Rattle.rules.specs.Inputs.{pastEnd, largest, need}
@@ -38,7 +37,8 @@ largest-end-requires c κs =
     let at-past-end = at-if2 .before in
     let s = at-past-end .before .before .before in (
       c .listed .ensures .1,
-      ap (some (endsPast (s .args .declared))) (listed-all (s .args .i .count) (s .args .i .operands) (known-instruction (s .args .i) _ (s .good .1 .0) .1) _ (c .listed .ensures .0))
+      ap (some (endsPast (s .args .declared))) (listed-all (s .args .i .count) (s .args .i .operands) (known-instruction (s .args .i) _ (s .good .1 .0) .1) _
+          (c .listed .ensures .0))
           ∙ sym (at-past-end .past-end .ensures) ∙ at-if2 .if2 .left,
     )
 
@@ -52,7 +52,8 @@ returns-3 c =
     let s = at-ill-formed .before in
     no _ _ _ (sym (at-ill-formed .ill-formed .ensures) ∙ at-if1 .if1 .left)
     (no _ _ _ (sym (at-past-end .past-end .ensures) ∙ at-if2 .if2 .left)
-    (c .largest-end .ensures ∙ ap largest (listed-all (s .args .i .count) (s .args .i .operands) (known-instruction (s .args .i) _ (s .good .1 .0) .1) _ (c .before .listed .ensures .0))))
+    (c .largest-end .ensures ∙ ap largest (listed-all (s .args .i .count) (s .args .i .operands) (known-instruction (s .args .i) _ (s .good .1 .0) .1) _
+    (c .before .listed .ensures .0))))
 
 pub need-spec : {M : Type 1} → statement M
 need-spec =

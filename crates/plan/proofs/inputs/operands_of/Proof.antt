@@ -1,6 +1,5 @@
 -- `plan::inputs::operands_of` meets its contract, arm by arm. Assumes nothing.
 use mathlib.Core.Path.{sym, ap}
-use Prim.Native.Nat.{_-_}
 use Rattle.rules.specs.Inputs.{operandsOf}
 use borrow.Author.Needs.{needs}
 use Rattle.plan.proofs.inputs.operands_of.Statement.{statement}

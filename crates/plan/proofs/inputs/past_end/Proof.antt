@@ -1,6 +1,5 @@
 -- `plan::inputs::past_end` meets its contract. Assumes nothing.
 use mathlib.Core.Path.{ap, _∙_}
-use Prim.Native.Nat.{_-_}
 use Rattle.host.specs.Lists.{some}
 use Rattle.rules.specs.Inputs.{pastEnd}
 use Rattle.sia.proofs.Laws.Known.{known-instruction}
@@ -20,7 +19,8 @@ returns : tie.Need-returns
 unfolding pastEnd
 returns c =
     let s = c .before .before .before in
-    c .some-past .ensures ∙ ap (some (endsPast (s .args .declared))) (listed-all (s .args .i .count) (s .args .i .operands) (known-instruction (s .args .i) _ (s .good .1 .0) .1) _ (c .before .listed .ensures .0))
+    c .some-past .ensures ∙ ap (some (endsPast (s .args .declared)))
+    (listed-all (s .args .i .count) (s .args .i .operands) (known-instruction (s .args .i) _ (s .good .1 .0) .1) _ (c .before .listed .ensures .0))
 
 pub past-end-spec : {M : Type 1} → statement M
 past-end-spec = tie.close (tie.spec listed-requires some-past-requires returns)

@@ -35,7 +35,8 @@ returns c =
     let at-loop-test = c .before .before .before in
     let at-loop = at-loop-test .before in
     let s = at-loop .before in
-    some-here (endsPast _) (s .args .t2) (at-loop .loop .i) _ noOperand (s .good .1 .0 .1 .0 .1) (at-loop-test .loop-test .taken) (s .pre) (sym (c .before .ends-past .ensures) ∙ c .if1 .taken) ∙ sym (at-loop .loop .inv .1)
+    some-here (endsPast _) (s .args .t2) (at-loop .loop .i) _ noOperand (s .good .1 .0 .1 .0 .1) (at-loop-test .loop-test .taken) (s .pre)
+    (sym (c .before .ends-past .ensures) ∙ c .if1 .taken) ∙ sym (at-loop .loop .inv .1)
 
 add-i : tie.Need-add-i Inv-loop μ-loop
 add-i c = search needs
@@ -47,8 +48,11 @@ loop-again : tie.Need-loop-again Inv-loop μ-loop
 loop-again c =
     let at-loop-test = c .before .before .before in
     let at-loop = at-loop-test .before in
-    let s = at-loop .before in
-    (omega arith, at-loop .loop .inv .1 ∙ some-further (endsPast _) (s .args .t2) (at-loop .loop .i) _ noOperand (s .good .1 .0 .1 .0 .1) (at-loop-test .loop-test .taken) (s .pre) (sym (c .before .ends-past .ensures) ∙ c .if1 .left))
+    let s = at-loop .before in (
+      omega arith,
+      at-loop .loop .inv .1 ∙ some-further (endsPast _) (s .args .t2) (at-loop .loop .i) _ noOperand (s .good .1 .0 .1 .0 .1)
+          (at-loop-test .loop-test .taken) (s .pre) (sym (c .before .ends-past .ensures) ∙ c .if1 .left),
+    )
 
 returns-2 : tie.Need-returns-2 Inv-loop μ-loop
 returns-2 c =

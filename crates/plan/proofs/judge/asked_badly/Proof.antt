@@ -1,9 +1,7 @@
 -- `plan::judge::asked_badly` meets its contract. Assumes nothing.
 use mathlib.Core.Path.{refl}
-use Prim.Native.Nat.{_-_}
 use borrow.Author.Tests.{not-true, not-false}
 use Rattle.area.proofs.Laws.Pick.{yes, no}
-use Rattle.tree.specs.Walk as Walk
 use borrow.Author.Needs.{needs}
 use Rattle.plan.proofs.judge.asked_badly.Statement.{statement}
 use Rattle.plan.proofs.judge.asked_badly.Tie as tie

@@ -1,6 +1,5 @@
 -- `plan::lookup::no_sectors` meets its contract. Assumes nothing.
 use mathlib.Core.Path.{refl}
-use Prim.Native.Nat.{_-_}
 use Rattle.view.specs.Seen.{spotsOf}
 use Rattle.area.specs.Area.{tab}
 use Rattle.plan.proofs.lookup.no_sectors.Statement.{statement}

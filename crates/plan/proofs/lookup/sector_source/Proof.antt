@@ -1,5 +1,4 @@
 -- `plan::lookup::sector_source` meets its contract. Assumes nothing.
-use Prim.Native.Nat.{_-_}
 use Rattle.plan.proofs.Laws.Lookup.{shows-first}
 use Rattle.rules.specs.View.{allSpots}
 use Rattle.rules.specs.Plan.{sectorSource}

@@ -1,6 +1,5 @@
 -- `plan::lookup::source_of` meets its contract, arm by arm. Assumes nothing.
 use mathlib.Core.Path.{sym, ap}
-use Prim.Native.Nat.{_-_}
 use Rattle.rules.specs.View.{setting}
 use Rattle.plan.proofs.Laws.Lookup.{shows-as}
 use Rattle.rules.specs.View.{parent, parentSpots}
@@ -60,43 +59,50 @@ returns : tie.Need-returns
 unfolding sourceOf contractSource parentSpots parent
 returns c =
     let s = c .before .before .before .before in
-    shows-as _ _ _ (sym (ap (λ (o : Op). sourceOf 4096 (setting 0 0 (s .args .places) (s .args .terms) (s .args .disk .now)) (s .args .p) o (s .args .key)) (c .before .enum-told .given .1))) (c .contract-source .ensures)
+    shows-as _ _ _ (sym (ap (λ (o : Op). sourceOf 4096 (setting 0 0 (s .args .places) (s .args .terms) (s .args .disk .now)) (s .args .p) o (s .args .key))
+    (c .before .enum-told .given .1))) (c .contract-source .ensures)
 
 returns-2 : tie.Need-returns-2
 unfolding sourceOf
 returns-2 c =
     let s = c .before .before .before .before in
-    shows-as _ _ _ (sym (ap (λ (o : Op). sourceOf 4096 (setting 0 0 (s .args .places) (s .args .terms) (s .args .disk .now)) (s .args .p) o (s .args .key)) (c .before .enum-told2 .given .1))) (c .sector-source .ensures)
+    shows-as _ _ _ (sym (ap (λ (o : Op). sourceOf 4096 (setting 0 0 (s .args .places) (s .args .terms) (s .args .disk .now)) (s .args .p) o (s .args .key))
+    (c .before .enum-told2 .given .1))) (c .sector-source .ensures)
 
 returns-3 : tie.Need-returns-3
 unfolding sourceOf
 returns-3 c =
     let s = c .before .before .before .before in
-    shows-as _ _ _ (sym (ap (λ (o : Op). sourceOf 4096 (setting 0 0 (s .args .places) (s .args .terms) (s .args .disk .now)) (s .args .p) o (s .args .key)) (c .before .enum-told3 .given .1))) (c .nothing .ensures)
+    shows-as _ _ _ (sym (ap (λ (o : Op). sourceOf 4096 (setting 0 0 (s .args .places) (s .args .terms) (s .args .disk .now)) (s .args .p) o (s .args .key))
+    (c .before .enum-told3 .given .1))) (c .nothing .ensures)
 
 returns-4 : tie.Need-returns-4
 unfolding sourceOf
 returns-4 c =
     let s = c .before .before .before .before in
-    shows-as _ _ _ (sym (ap (λ (o : Op). sourceOf 4096 (setting 0 0 (s .args .places) (s .args .terms) (s .args .disk .now)) (s .args .p) o (s .args .key)) (c .before .enum-told4 .given .1))) (c .nothing2 .ensures)
+    shows-as _ _ _ (sym (ap (λ (o : Op). sourceOf 4096 (setting 0 0 (s .args .places) (s .args .terms) (s .args .disk .now)) (s .args .p) o (s .args .key))
+    (c .before .enum-told4 .given .1))) (c .nothing2 .ensures)
 
 returns-5 : tie.Need-returns-5
 unfolding sourceOf
 returns-5 c =
     let s = c .before .before .before .before in
-    shows-as _ _ _ (sym (ap (λ (o : Op). sourceOf 4096 (setting 0 0 (s .args .places) (s .args .terms) (s .args .disk .now)) (s .args .p) o (s .args .key)) (c .before .enum-told5 .given .1))) (c .nothing3 .ensures)
+    shows-as _ _ _ (sym (ap (λ (o : Op). sourceOf 4096 (setting 0 0 (s .args .places) (s .args .terms) (s .args .disk .now)) (s .args .p) o (s .args .key))
+    (c .before .enum-told5 .given .1))) (c .nothing3 .ensures)
 
 returns-6 : tie.Need-returns-6
 unfolding sourceOf
 returns-6 c =
     let s = c .before .before .before .before in
-    shows-as _ _ _ (sym (ap (λ (o : Op). sourceOf 4096 (setting 0 0 (s .args .places) (s .args .terms) (s .args .disk .now)) (s .args .p) o (s .args .key)) (c .before .enum-told6 .given .1))) (c .nothing4 .ensures)
+    shows-as _ _ _ (sym (ap (λ (o : Op). sourceOf 4096 (setting 0 0 (s .args .places) (s .args .terms) (s .args .disk .now)) (s .args .p) o (s .args .key))
+    (c .before .enum-told6 .given .1))) (c .nothing4 .ensures)
 
 returns-7 : tie.Need-returns-7
 unfolding sourceOf
 returns-7 c =
     let s = c .before .before .before .before in
-    shows-as _ _ _ (sym (ap (λ (o : Op). sourceOf 4096 (setting 0 0 (s .args .places) (s .args .terms) (s .args .disk .now)) (s .args .p) o (s .args .key)) (c .before .enum-told7 .given .1))) (c .nothing5 .ensures)
+    shows-as _ _ _ (sym (ap (λ (o : Op). sourceOf 4096 (setting 0 0 (s .args .places) (s .args .terms) (s .args .disk .now)) (s .args .p) o (s .args .key))
+    (c .before .enum-told7 .given .1))) (c .nothing5 .ensures)
 
 pub source-of-spec : {M : Type 1} → statement M
 source-of-spec =

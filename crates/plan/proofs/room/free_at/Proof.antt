@@ -1,7 +1,6 @@
 -- `plan::room::free_at` meets its contract. Assumes nothing.
 use mathlib.Core.Path.{refl, sym, ap, _∙_}
 use mathlib.Core.Bool.{not}
-use Prim.Native.Nat.{_-_}
 use native.Mathlib.Omega.{arith}
 use Rattle.area.proofs.Laws.Pick.{yes, no}
 use borrow.Author.Needs.{needs}

@@ -36,7 +36,8 @@ loop-again c =
     let s = at-loop .before in (
       omega (arith, c .free-at .ensures .1),
       omega arith,
-      count-one (unused (s .args .staged)) (at-loop .loop .i) (s .args .copies) (at-loop .loop .free) (c .free-at .result) _ (c .before .loop-test .taken) (c .free-at .ensures .0) (at-loop .loop .inv .2),
+      count-one (unused (s .args .staged)) (at-loop .loop .i) (s .args .copies) (at-loop .loop .free) (c .free-at .result) _ (c .before .loop-test .taken)
+          (c .free-at .ensures .0) (at-loop .loop .inv .2),
     )
 
 returns : tie.Need-returns Inv-loop μ-loop

@@ -1,5 +1,4 @@
 -- `plan::room::lacks` meets its contract. Assumes nothing.
-use Prim.Native.Nat.{_-_}
 use native.Mathlib.Omega.{arith}
 use Rattle.plan.proofs.Laws.Room.{past-lacks, none-lacks, has-one}
 use borrow.Author.Needs.{needs}

@@ -1,6 +1,5 @@
 -- `plan::room::new_size` meets its contract, arm by arm. Assumes nothing.
 use mathlib.Core.Path.{sym, ap}
-use Prim.Native.Nat.{_-_}
 use Rattle.rules.specs.Plan.{newSize}
 use Rattle.plan.specs.Numbers.{numbers}
 use Rattle.sia.specs.declared.Op.{Op}

@@ -1,6 +1,5 @@
 -- `plan::room::output_count` meets its contract. Assumes nothing.
 use mathlib.Core.Path.{refl, sym, _∙_}
-use Prim.Native.Nat.{_-_}
 use Rattle.area.proofs.Laws.Pick.{yes, no}
 use Rattle.rules.specs.Plan.{outputCount}
 use Rattle.plan.specs.Numbers.{numbers}

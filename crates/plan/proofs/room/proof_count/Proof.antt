@@ -1,13 +1,11 @@
 -- `plan::room::proof_count` meets its contract. Assumes nothing.
 use mathlib.Core.Path.{refl, sym, _∙_}
-use Prim.Native.Nat.{_-_}
 use borrow.Author.Tests.{not-true, not-false}
 use Rattle.area.proofs.Laws.Pick.{yes, no}
 use Rattle.rules.specs.Plan.{spots, proofCount}
 use Rattle.plan.specs.Numbers.{sectorsOf, numbers}
 use Rattle.view.proofs.Callers.{count-range}
 use Rattle.plan.proofs.Laws.Numbers.{sectors-many}
-use Rattle.tree.specs.Walk as Walk
 use Rattle.plan.proofs.room.proof_count.Statement.{statement}
 use Rattle.plan.proofs.room.proof_count.Tie as tie
 
@@ -23,7 +21,8 @@ unfolding proofCount numbers
 returns-2 c =
     let s = c .before .before in
     yes _ _ _ (not-false _ (c .before .if1 .left))
-    (c .range-count .ensures ∙ count-range (spots (sectorsOf (s .args .seen))) _ (s .args .args .first) (s .args .args .len) (sym (sectors-many (s .args .seen))))
+    (c .range-count .ensures ∙ count-range (spots (sectorsOf (s .args .seen))) _ (s .args .args .first) (s .args .args .len)
+    (sym (sectors-many (s .args .seen))))
 
 pub proof-count-spec : {M : Type 1} → statement M
 proof-count-spec = tie.close (tie.spec returns range-count-requires returns-2)

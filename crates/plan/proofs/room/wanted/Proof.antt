@@ -1,6 +1,5 @@
 -- `plan::room::wanted` meets its contract, arm by arm. Assumes nothing.
 use mathlib.Core.Path.{sym, ap, _∙_}
-use Prim.Native.Nat.{_-_}
 use lib.ListN.{getD}
 use lib.Dec.{eqb}
 use Rattle.host.specs.Empty.{none}
@@ -49,27 +48,31 @@ returns : tie.Need-returns
 unfolding wanted touched numbers
 returns c =
     let s = c .before .before .before in
-    none-those (λ at. eqb (getD (s .args .p .staged) at none) none) ∙ sym (ap (λ (o : Op). wanted 4096 (s .args .p) o (numbers (s .args .args))) (c .enum-told .given .1))
+    none-those (λ at. eqb (getD (s .args .p .staged) at none) none)
+    ∙ sym (ap (λ (o : Op). wanted 4096 (s .args .p) o (numbers (s .args .args))) (c .enum-told .given .1))
 
 returns-2 : tie.Need-returns-2
 unfolding wanted touched numbers
 returns-2 c =
     let s = c .before .before .before in
-    none-those (λ at. eqb (getD (s .args .p .staged) at none) none) ∙ sym (ap (λ (o : Op). wanted 4096 (s .args .p) o (numbers (s .args .args))) (c .enum-told2 .given .1))
+    none-those (λ at. eqb (getD (s .args .p .staged) at none) none)
+    ∙ sym (ap (λ (o : Op). wanted 4096 (s .args .p) o (numbers (s .args .args))) (c .enum-told2 .given .1))
 
 returns-3 : tie.Need-returns-3
 unfolding wanted touched numbers
 returns-3 c =
     let at-enum-told3 = c .before .before in
     let s = at-enum-told3 .before .before .before in
-    c .lacks .ensures .0 ∙ one-those (λ at. eqb (getD (s .args .p .staged) at none) none) _ ∙ sym (ap (λ (o : Op). wanted 4096 (s .args .p) o (numbers (s .args .args))) (at-enum-told3 .enum-told3 .given .1))
+    c .lacks .ensures .0 ∙ one-those (λ at. eqb (getD (s .args .p .staged) at none) none) _
+    ∙ sym (ap (λ (o : Op). wanted 4096 (s .args .p) o (numbers (s .args .args))) (at-enum-told3 .enum-told3 .given .1))
 
 returns-4 : tie.Need-returns-4
 unfolding wanted touched numbers
 returns-4 c =
     let at-enum-told4 = c .before .before in
     let s = at-enum-told4 .before .before .before in
-    c .lacks2 .ensures .0 ∙ one-those (λ at. eqb (getD (s .args .p .staged) at none) none) _ ∙ sym (ap (λ (o : Op). wanted 4096 (s .args .p) o (numbers (s .args .args))) (at-enum-told4 .enum-told4 .given .1))
+    c .lacks2 .ensures .0 ∙ one-those (λ at. eqb (getD (s .args .p .staged) at none) none) _
+    ∙ sym (ap (λ (o : Op). wanted 4096 (s .args .p) o (numbers (s .args .args))) (at-enum-told4 .enum-told4 .given .1))
 
 returns-5 : tie.Need-returns-5
 unfolding wanted touched numbers
@@ -87,7 +90,8 @@ returns-7 : tie.Need-returns-7
 unfolding wanted touched numbers
 returns-7 c =
     let s = c .before .before .before in
-    none-those (λ at. eqb (getD (s .args .p .staged) at none) none) ∙ sym (ap (λ (o : Op). wanted 4096 (s .args .p) o (numbers (s .args .args))) (c .enum-told7 .given .1))
+    none-those (λ at. eqb (getD (s .args .p .staged) at none) none)
+    ∙ sym (ap (λ (o : Op). wanted 4096 (s .args .p) o (numbers (s .args .args))) (c .enum-told7 .given .1))
 
 pub wanted-spec : {M : Type 1} → statement M
 wanted-spec =

@@ -1,7 +1,7 @@
 -- `plan::room::wanted_swap` meets its contract. Assumes nothing.
 use mathlib.Core.Path.{refl, ap, ap₂, _∙_}
 use mathlib.Core.List.{List}
-use Prim.Native.Nat.{ℕ, _+_, _-_}
+use Prim.Native.Nat.{ℕ, _+_}
 use native.Mathlib.Omega.{arith}
 use lib.ListN.{length, getD}
 use lib.Dec.{eqb}
@@ -23,7 +23,8 @@ returns : tie.Need-returns
 unfolding wanted touched numbers
 returns c =
     let s = c .before .before .before .before .before in
-    c .lacks .ensures .0 ∙ one-those (λ at. eqb (getD (s .args .p .staged) at none) none) _ ∙ ap (λ (l : List ℕ). length (those (λ at. eqb (getD (s .args .p .staged) at none) none) l)) (yes _ _ _ (eq-eqb _ _ (c .before .if1 .taken)) refl)
+    c .lacks .ensures .0 ∙ one-those (λ at. eqb (getD (s .args .p .staged) at none) none) _
+    ∙ ap (λ (l : List ℕ). length (those (λ at. eqb (getD (s .args .p .staged) at none) none) l)) (yes _ _ _ (eq-eqb _ _ (c .before .if1 .taken)) refl)
 
 lacks-requires-2 : tie.Need-lacks-requires-2
 lacks-requires-2 c κs = search needs

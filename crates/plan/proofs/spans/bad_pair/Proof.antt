@@ -1,6 +1,5 @@
 -- `plan::spans::bad_pair` meets its contract. Assumes nothing.
 use mathlib.Core.Path.{refl, sym, _∙_}
-use Prim.Native.Nat.{_-_}
 use Rattle.area.proofs.Laws.Pick.{yes, no}
 use borrow.Author.Needs.{needs}
 use Rattle.plan.proofs.spans.bad_pair.Statement.{statement}

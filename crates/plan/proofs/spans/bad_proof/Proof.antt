@@ -1,7 +1,6 @@
 -- `plan::spans::bad_proof` meets its contract: a walk down the definition. Assumes nothing.
 use mathlib.Core.Path.{refl, sym, ap, _∙_}
 use mathlib.Core.Bool.{not}
-use Prim.Native.Nat.{_-_}
 use borrow.Author.Tests.{eq-eqb, ne-eqb}
 use Rattle.area.proofs.Laws.Pick.{yes, no}
 use Rattle.rules.specs.Plan.{badProof}

@@ -1,6 +1,6 @@
 -- `plan::spans::bad_span` meets its contract: a walk down the definition. Assumes nothing.
 use mathlib.Core.Path.{refl, sym, _∙_}
-use Prim.Native.Nat.{_+_, _-_}
+use Prim.Native.Nat.{_+_}
 use native.Mathlib.Omega.{arith}
 use borrow.Author.Tests.{ltb-false, eq-eqb, ne-eqb}
 use Rattle.area.proofs.Laws.Pick.{yes, no}

@@ -1,6 +1,5 @@
 -- `plan::spans::bad_spans` meets its contract, arm by arm. Assumes nothing.
 use mathlib.Core.Path.{sym, ap, _∙_}
-use Prim.Native.Nat.{_-_}
 use Rattle.rules.specs.Plan.{badSpans}
 use Rattle.plan.specs.Numbers.{sectorsOf, numbers}
 use Rattle.plan.proofs.Laws.Numbers.{spans-read}
@@ -58,37 +57,43 @@ returns : tie.Need-returns
 unfolding badSpans numbers
 returns c =
     let s = c .before .before .before in
-    c .bad-span .ensures ∙ spans-read (s .args .size) (s .args .seen) (s .args .args) ∙ sym (ap (λ (o : Op). badSpans 4096 (s .args .size) (sectorsOf (s .args .seen)) o (numbers (s .args .args))) (c .before .enum-told .given .1))
+    c .bad-span .ensures ∙ spans-read (s .args .size) (s .args .seen) (s .args .args)
+    ∙ sym (ap (λ (o : Op). badSpans 4096 (s .args .size) (sectorsOf (s .args .seen)) o (numbers (s .args .args))) (c .before .enum-told .given .1))
 
 returns-2 : tie.Need-returns-2
 unfolding badSpans numbers
 returns-2 c =
     let s = c .before .before .before in
-    c .bad-span2 .ensures ∙ spans-read (s .args .size) (s .args .seen) (s .args .args) ∙ sym (ap (λ (o : Op). badSpans 4096 (s .args .size) (sectorsOf (s .args .seen)) o (numbers (s .args .args))) (c .before .enum-told2 .given .1))
+    c .bad-span2 .ensures ∙ spans-read (s .args .size) (s .args .seen) (s .args .args)
+    ∙ sym (ap (λ (o : Op). badSpans 4096 (s .args .size) (sectorsOf (s .args .seen)) o (numbers (s .args .args))) (c .before .enum-told2 .given .1))
 
 returns-3 : tie.Need-returns-3
 unfolding badSpans numbers
 returns-3 c =
     let s = c .before .before .before in
-    c .bad-span3 .ensures ∙ sym (ap (λ (o : Op). badSpans 4096 (s .args .size) (sectorsOf (s .args .seen)) o (numbers (s .args .args))) (c .before .enum-told3 .given .1))
+    c .bad-span3 .ensures ∙ sym (ap (λ (o : Op). badSpans 4096 (s .args .size) (sectorsOf (s .args .seen)) o (numbers (s .args .args)))
+    (c .before .enum-told3 .given .1))
 
 returns-4 : tie.Need-returns-4
 unfolding badSpans numbers
 returns-4 c =
     let s = c .before .before .before in
-    c .bad-pair .ensures ∙ sym (ap (λ (o : Op). badSpans 4096 (s .args .size) (sectorsOf (s .args .seen)) o (numbers (s .args .args))) (c .before .enum-told4 .given .1))
+    c .bad-pair .ensures ∙ sym (ap (λ (o : Op). badSpans 4096 (s .args .size) (sectorsOf (s .args .seen)) o (numbers (s .args .args)))
+    (c .before .enum-told4 .given .1))
 
 returns-5 : tie.Need-returns-5
 unfolding badSpans numbers
 returns-5 c =
     let s = c .before .before .before in
-    c .bad-pair2 .ensures ∙ sym (ap (λ (o : Op). badSpans 4096 (s .args .size) (sectorsOf (s .args .seen)) o (numbers (s .args .args))) (c .before .enum-told5 .given .1))
+    c .bad-pair2 .ensures ∙ sym (ap (λ (o : Op). badSpans 4096 (s .args .size) (sectorsOf (s .args .seen)) o (numbers (s .args .args)))
+    (c .before .enum-told5 .given .1))
 
 returns-6 : tie.Need-returns-6
 unfolding badSpans numbers
 returns-6 c =
     let s = c .before .before .before in
-    c .bad-size .ensures ∙ sym (ap (λ (o : Op). badSpans 4096 (s .args .size) (sectorsOf (s .args .seen)) o (numbers (s .args .args))) (c .before .enum-told6 .given .1))
+    c .bad-size .ensures ∙ sym (ap (λ (o : Op). badSpans 4096 (s .args .size) (sectorsOf (s .args .seen)) o (numbers (s .args .args)))
+    (c .before .enum-told6 .given .1))
 
 returns-7 : tie.Need-returns-7
 unfolding badSpans numbers

@@ -1,6 +1,5 @@
 -- `plan::spans::reads` meets its contract, arm by arm. Assumes nothing.
 use mathlib.Core.Path.{sym, ap}
-use Prim.Native.Nat.{_-_}
 use Rattle.rules.specs.Plan.{reads}
 use borrow.Author.Needs.{needs}
 use Rattle.plan.proofs.spans.reads.Statement.{statement}

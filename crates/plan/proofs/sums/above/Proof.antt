@@ -1,5 +1,4 @@
 -- `plan::sums::above` meets its contract. Assumes nothing.
-use Prim.Native.Nat.{_-_}
 use Rattle.plan.proofs.Laws.Sums.{over-first, over}
 use Rattle.plan.proofs.sums.above.Statement.{statement}
 use Rattle.plan.proofs.sums.above.Tie as tie

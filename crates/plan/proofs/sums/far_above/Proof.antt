@@ -1,5 +1,4 @@
 -- `plan::sums::far_above` meets its contract. Assumes nothing.
-use Prim.Native.Nat.{_-_}
 use Rattle.plan.proofs.Laws.Sums.{not-far, far}
 use Rattle.plan.proofs.sums.far_above.Statement.{statement}
 use Rattle.plan.proofs.sums.far_above.Tie as tie

@@ -1,5 +1,5 @@
 -- `plan::sums::record_above` meets its contract: what is left of the room is counted down. Assumes nothing.
-use Prim.Native.Nat.{_-_}
+use native.Mathlib.Omega.{arith}
 use Rattle.plan.proofs.Laws.Sums.{all-written, no-counts, no-output, hashes-left}
 use borrow.Author.Needs.{needs}
 use Rattle.plan.proofs.sums.record_above.Statement.{statement}
@@ -21,14 +21,10 @@ sub-rest-2 : tie.Need-sub-rest-2
 sub-rest-2 c = search needs
 
 returns-3 : tie.Need-returns-3
-returns-3 c =
-    let at-if1 = c .before .before in
-    no-output _ _ _ _ (at-if1 .if1 .left) (c .before .if2 .left) (c .if3 .taken)
+returns-3 c = no-output _ _ _ _ _ (c .if3 .taken) (omega arith)
 
 returns-4 : tie.Need-returns-4
-returns-4 c =
-    let at-if1 = c .before .before in
-    hashes-left _ _ _ _ (at-if1 .if1 .left) (c .before .if2 .left) (c .if3 .left)
+returns-4 c = hashes-left _ _ _ _ _ (c .if3 .left) (omega arith)
 
 pub record-above-spec : {M : Type 1} → statement M
 record-above-spec =
