@@ -1,3 +1,6 @@
 -- The laws, a file for each subject.
+pub mod Known
 pub mod Sights
 pub mod Running
+pub mod Planned
+pub mod Taking

@@ -85,7 +85,7 @@ failed-good z s p e g =
       entries = g .entries;
     }
 
-ran-good : (z : ℕ) (s : Setting) (p : Progress) (op : Op) (a : Args) (n : ℕ) (bytes : List ℕ) → Lent z s → p .failed ≡ false → p .ran < s .terms .head .count → Passed z s p op a n → Good z s p
+pub ran-good : (z : ℕ) (s : Setting) (p : Progress) (op : Op) (a : Args) (n : ℕ) (bytes : List ℕ) → Lent z s → p .failed ≡ false → p .ran < s .terms .head .count → Passed z s p op a n → Good z s p
     → Good z s (ranProgress p (cost (s .terms .head .length) (s .terms .prices) op (a .len)) n (newSize (p .size) op a) (effect z (groundOf s) (p .size) op a (record { staged = p .staged; bytes = bytes }) .staged))
 unfolding ranProgress
 ran-good z s p op a n bytes L e lt q g =

@@ -19,7 +19,7 @@ use Rattle.sia.specs.Names.{opOf}
 use Rattle.sia.specs.Encode.{joined, every}
 use Rattle.rules.specs.View.{Setting, Turn, sector, parent, committedSpots, whole}
 use Rattle.rules.specs.Roots.{contractRoot, segments, rangeProof, rangeCount}
-use Rattle.rules.specs.Inputs.{Args, argsOf}
+use Rattle.rules.specs.Inputs.{Args, argsOf, illFormed, pastEnd, wellFormed}
 use Rattle.rules.specs.Plan.{Source, spots, sourceOf, reads, badSpan, badSpans, badProof, newSize, proofCount, outputCount, recordCount, judgedSource, judgedInputs, judged}
 use Rattle.rules.specs.Effect.{groundOf, effect}
 use Rattle.rules.specs.Record.{Pair, pairOf, startingPair, runningPair, recordBytes, failureBytes, outputOf, successBytes}
@@ -68,15 +68,15 @@ shown n l e = by (eqb n 0) (λ u. ap length (picks (eqb n 0) [] l u) ∙ sym (eq
 shown-none : (n : ℕ) (l : List ℕ) → n ≡ 0 → length (pick (eqb n 0) [] l) ≡ n
 shown-none n l e = ap length (picks (eqb n 0) [] l (eq-eqb n 0 e)) ∙ sym e
 
-count-read : (op : Op) (a : Args) → reads op ≡ true → outputCount op a ≡ a .len
+pub count-read : (op : Op) (a : Args) → reads op ≡ true → outputCount op a ≡ a .len
 unfolding outputCount
 count-read op a e = picks (reads op) (a .len) 0 e
 
-count-change : (op : Op) (a : Args) → reads op ≡ false → outputCount op a ≡ 0
+pub count-change : (op : Op) (a : Args) → reads op ≡ false → outputCount op a ≡ 0
 unfolding outputCount
 count-change op a e = skips (reads op) (a .len) 0 e
 
-read-span : (z size : ℕ) (from : Source) (op : Op) (a : Args) → reads op ≡ true → badSpans z size from op a ≡ false
+pub read-span : (z size : ℕ) (from : Source) (op : Op) (a : Args) → reads op ≡ true → badSpans z size from op a ≡ false
     → badSpan z (length (spots from) * z) (a .first) (a .len) ≡ false
 unfolding badSpans reads
 read-span z size from Read a e b = b
@@ -116,7 +116,7 @@ length-whole z s stage (x ∷ xs) d e v =
     )
 
 -- a span that passed lies in some sector
-some-spots : (z n at len : ℕ) → badSpan z (n * z) at len ≡ false → 0 < n
+pub some-spots : (z n at len : ℕ) → badSpan z (n * z) at len ≡ false → 0 < n
 unfolding badSpan
 some-spots z zero at len b =
     let x = neither (eqb len 0) _ b in
@@ -125,7 +125,7 @@ some-spots z zero at len b =
     never (sym (eq-eqb len 0 none) ∙ x .0)
 some-spots z (suc n) at len b = omega arith
 
-length-proof : (z : ℕ) (s : Setting) (stage : List ℕ) (from : Source) (a : Args) (asked : Bool) → Sectors z → Solid z s → length stage ≡ s .copies * z
+pub length-proof : (z : ℕ) (s : Setting) (stage : List ℕ) (from : Source) (a : Args) (asked : Bool) → Sectors z → Solid z s → length stage ≡ s .copies * z
     → every (valid s) (spots from) ≡ true → length (spots from) ≤ 64 → (asked ≡ true → 0 < length (spots from))
     → length (pick asked (rangeProof z (s .disk) stage (spots from) (a .first) (a .len)) []) ≡ 32 * proofCount z asked from a
 unfolding rangeProof rangeCount proofCount pick
@@ -156,12 +156,30 @@ unfolding failureBytes startingPair pairOf
 failure-length z s n = length-record n 0 _ 0 [] 0 [] (length-root z (s .disk) [] (committedSpots z (parent s))) refl refl
 
 -- a proof is asked of a read
-asked-reads : (z : ℕ) (s : Setting) (p : Progress) (i : Instruction) (l : List (List ℕ)) → judged z s p i l ≡ 0 → i .proof ≡ true → reads (opOf (i .name)) ≡ true
+pub asked-reads : (z : ℕ) (s : Setting) (p : Progress) (i : Instruction) (l : List (List ℕ)) → judged z s p i l ≡ 0 → i .proof ≡ true → reads (opOf (i .name)) ≡ true
 unfolding judged judgedInputs judgedSource badProof
 asked-reads z s p i l e h =
     let inputs = passes _ 21 _ (passes _ 20 _ e .1) .1 in
     let c = passes _ 26 _ (passes _ 25 _ (passes _ 24 _ (passes _ 23 _ (passes _ 22 _ inputs .1) .1) .1) .1) in
     not-false _ (either-left _ _ (sym (picks (i .proof) _ false h) ∙ c .0))
+
+-- and then 27 did not apply
+pub asked-right : (z : ℕ) (s : Setting) (p : Progress) (i : Instruction) (l : List (List ℕ)) → judged z s p i l ≡ 0 → i .proof ≡ true
+    → badProof (opOf (i .name)) (argsOf (opOf (i .name)) l) ≡ false
+unfolding judged judgedInputs judgedSource
+asked-right z s p i l e h =
+    let inputs = passes _ 21 _ (passes _ 20 _ e .1) .1 in
+    let c = passes _ 26 _ (passes _ 25 _ (passes _ 24 _ (passes _ 23 _ (passes _ 22 _ inputs .1) .1) .1) .1) in
+    sym (picks (i .proof) _ false h) ∙ c .0
+
+-- 21 to 23 did not apply to an instruction that runs
+pub well-formed : (z : ℕ) (s : Setting) (p : Progress) (i : Instruction) (l : List (List ℕ)) → judged z s p i l ≡ 0
+    → (illFormed i ≡ false) × (pastEnd (s .terms .head .length) i ≡ false) × (wellFormed (opOf (i .name)) l ≡ true)
+unfolding judged judgedInputs
+well-formed z s p i l e =
+    let c21 = passes _ 20 _ e in
+    let c22 = passes _ 21 _ (c21 .1) in
+    (c21 .0, c22 .0, not-false _ (passes _ 22 _ (c22 .1) .0))
 
 -- ---- a record is as long as its numbers say
 

@@ -1,10 +1,9 @@
 -- An instruction that can run, from what its functions left: x is the stage after its effect, g the progress, out the output area.
 -- Assumes nothing.
-use mathlib.Core.Path.{_≡_, refl, sym, ap, ap₂, _∙_, subst}
+use mathlib.Core.Path.{_≡_, sym, ap, ap₂, _∙_, subst}
 use mathlib.Core.Bool.{Bool}
 use mathlib.Core.List.{List}
 use Prim.Native.Nat.{ℕ, _-_, _/_}
-use native.Mathlib.Omega.{arith}
 use lib.ListN.{length, take, drop}
 use Rattle.area.specs.Pick.{pick}
 use Rattle.area.specs.Area.{put, tab}

@@ -15,7 +15,7 @@ advanced-requires c κs = search needs
 
 running-root-requires : tie.Need-running-root-requires
 unfolding stageAfter
-running-root-requires c κs = 
+running-root-requires c κs =
     let a = c .before .before .before .before .before .before .before .before .before .before .before .before .before .args in
     run-reads (a .copies) (a .parent) _ _ (a .plan) (a .asked) _ _ (c .before .before .before .before .effect .ensures) (c .before .before .before .before .before .before .before .before .before .before .before .before .before .pre) (c .before .advanced .ensures)
 
@@ -33,7 +33,7 @@ part-put-success-end c = search needs
 
 put-success-requires : tie.Need-put-success-requires
 unfolding stageAfter
-put-success-requires c κs = 
+put-success-requires c κs =
     let a = c .before .before .before .before .before .before .before .before .before .before .before .before .before .before .before .before .before .before .args in
     run-shows (a .copies) (a .parent) _ _ (a .plan) (a .asked) _ _ (c .before .before .before .before .before .before .before .before .before .effect .ensures) _ (c .before .before .before .before .before .before .before .before .before .before .before .before .before .before .before .before .before .before .pre) refl (c .before .before .before .reads .ensures)
 
@@ -45,7 +45,7 @@ same-length-2 c = search needs
 
 returns : tie.Need-returns
 unfolding stageAfter
-returns c = 
+returns c =
     let a = c .before .before .before .before .before .before .before .before .before .before .before .before .before .before .before .before .before .before .before .before .before .args in
     ran-is (a .copies) (a .parent) _ _ (a .plan) (a .asked) _ _ (c .before .before .before .before .before .before .before .before .before .before .before .before .effect .ensures) (c .before .before .before .before .before .before .before .before .before .advanced .ensures) (c .before .before .before .before .before .before .before .running-root .ensures) (c .before .before .before .before .before .before .reads .ensures)
     (lent _ _ _ (c .before .before .put-success .ensures))

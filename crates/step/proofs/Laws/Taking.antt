@@ -1,0 +1,58 @@
+-- What a program that is going on a host in order gives the functions that take its instruction, and how a step comes to its failure or its
+-- success. Assumes nothing.
+use mathlib.Core.Path.{_≡_, sym, ap₂, _∙_, subst}
+use mathlib.Core.List.{List, []}
+use Prim.Native.Nat.{ℕ, _+_, _≤_, _<_}
+use native.Mathlib.Omega.{arith}
+use lib.ListN.{length}
+use lib.Dec.{eqb}
+use borrow.Author.Tests.{eq-eqb, ne-eqb}
+use Rattle.area.specs.Area.{put}
+use Rattle.area.proofs.Laws.Pick.{picks, skips}
+use Rattle.sia.specs.Names.{opOf}
+use Rattle.host.specs.Places.{whose, taken}
+use Rattle.rules.specs.View.{Setting, Turn, turn, parent}
+use Rattle.rules.specs.Inputs.{argsOf}
+use Rattle.rules.specs.Plan.{judged}
+use Rattle.rules.specs.Record.{pairOf, startingPair, recordBytes, failureBytes}
+use Rattle.rules.specs.Run.{failedProgress, failing, succeeding, stepped}
+use Rattle.rules.proofs.Laws.Spots.{whose-every}
+use Rattle.rules.proofs.Laws.Steps.{not-failed, left-going}
+use Rattle.view.specs.Seen.{holds}
+use Rattle.view.proofs.Callers.{slots-hold}
+use Rattle.plan.proofs.Laws.Lookup.{whose-in-order}
+use Rattle.step.specs.Asks.{Stands, Steps}
+use Rattle.step.proofs.Laws.Planned.{within-count}
+use Rattle.sia.specs.declared.Instruction.{Instruction}
+use Rattle.host.specs.declared.Place.{Place}
+use Rattle.host.specs.declared.Progress.{Progress}
+
+module _ (s : Setting) (t : Turn) (input : List ℕ) (x : Steps s t input) where
+  -- the parent stands
+  pub parent-stands : {q : Place} → q ≡ whose (s .terms .head .contract) (s .places) → Stands (s .disk) q
+  parent-stands own =
+      subst (Stands (s .disk)) (sym own) (record {
+        order = whose-in-order 4096 (s .terms .head .contract) (s .places) (x .solid .small);
+        slots = whose-every (holds 4096 (s .disk)) 4096 (s .terms .head .contract) (s .places)
+            (slots-hold 4096 (s .disk) (s .sectors) (taken 4096 (s .places)) (x .solid .disk) (x .solid .slots));
+      })
+
+  -- there is room for a failure
+  pub failure-fits : t .progress .written + 72 ≤ length (t .output)
+  failure-fits = omega (arith, x .good .orderly .fits, x .output, skips {A = ℕ} (t .progress .failed) 0 72 (not-failed s t (x .going)))
+
+  pub ran-below : t .progress .ran < 32
+  ran-below = omega (arith, left-going s t (x .going) .1, within-count s t x)
+
+module _ (s : Setting) (t : Turn) (i : Instruction) (l : List (List ℕ)) {n : ℕ} (number : n ≡ judged 4096 s (t .progress) i l) where
+  pub step-fails : {q : Place} {g : Progress} {out : List ℕ} → (n ≡ 0 → ⊥) → q ≡ parent s → g ≡ failedProgress (t .progress)
+      → out ≡ put (t .output) (t .progress .written) (recordBytes n 0 (pairOf 4096 (s .disk) q) 0 [] 0 []) → turn g (t .stage) out ≡ stepped 4096 s i l t
+  unfolding stepped failing failureBytes startingPair
+  step-fails other own p o =
+      ap₂ (λ (g : Progress) (l : List ℕ). turn g (t .stage) l) p
+      (o ∙ ap₂ (λ (m : ℕ) (b : Place). put (t .output) (t .progress .written) (recordBytes m 0 (pairOf 4096 (s .disk) b) 0 [] 0 [])) number own)
+      ∙ sym (skips (eqb (judged 4096 s (t .progress) i l) 0) _ _ (ne-eqb _ 0 (λ e. other (number ∙ e))))
+
+  pub step-succeeds : {w : Turn} → n ≡ 0 → w ≡ succeeding 4096 s (i .proof) (opOf (i .name)) (argsOf (opOf (i .name)) l) t → w ≡ stepped 4096 s i l t
+  unfolding stepped
+  step-succeeds zero e = e ∙ sym (picks (eqb (judged 4096 s (t .progress) i l) 0) _ _ (eq-eqb _ 0 (sym number ∙ zero)))

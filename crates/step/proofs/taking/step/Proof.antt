@@ -1,0 +1,41 @@
+-- `step::taking::step` meets its contract. Assumes nothing.
+use mathlib.Core.Path.{ap, _∙_}
+use native.Mathlib.Omega.{arith}
+use Rattle.sia.specs.Empty.{noInstruction}
+use Rattle.rules.specs.View.{setting, turn}
+use Rattle.rules.specs.Inputs.{inputsOf}
+use Rattle.rules.specs.Run.{stepped, current, step}
+use Rattle.sia.specs.declared.Instruction.{Instruction}
+use Rattle.step.proofs.Laws.Known.{known-terms, entry}
+use Rattle.step.proofs.Laws.Taking.{ran-below}
+use borrow.Author.Needs.{needs}
+use Rattle.step.proofs.taking.step.Statement.{statement}
+use Rattle.step.proofs.taking.step.Tie as tie
+
+mul-i : tie.Need-mul-i
+mul-i c = let b = ran-below _ _ _ (c .before .before .before .before .before .before .pre) in omega arith
+
+array-copy-out-i : tie.Need-array-copy-out-i
+array-copy-out-i c = ran-below _ _ _ (c .before .before .before .before .before .before .pre)
+
+taken-requires : tie.Need-taken-requires
+taken-requires c κs = search needs
+
+same-length : tie.Need-same-length
+same-length c = search needs
+
+same-length-2 : tie.Need-same-length-2
+same-length-2 c = search needs
+
+returns : tie.Need-returns
+unfolding step current
+returns c =
+    let a = c .before .before .before .before .before .before .before .before .before .before .before .before .before .before .args in
+    let below = ran-below _ _ _ (c .before .before .before .before .before .before .before .before .before .before .before .before .before .before .pre) in
+    c .before .before .before .before .taken .ensures
+    ∙ ap (λ (i : Instruction). stepped 4096 (setting (a .sectors) (a .copies) (a .places) (a .terms) (a .disk .now)) i (inputsOf i (a .input .now)) (turn (a .progress) (a .stage .now) (a .output .now)))
+    (entry (a .terms .head .instructions) (a .progress .ran) _ noInstruction (omega (arith, known-terms (a .terms) _ (c .before .before .before .before .before .before .before .before .before .before .before .before .before .before .good .1 .1 .1 .0) .1)))
+
+pub step-spec : {M : Type 1} → statement M
+step-spec =
+    tie.close (tie.spec mul-i array-copy-out-i taken-requires same-length same-length-2 returns)
