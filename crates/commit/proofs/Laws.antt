@@ -1,0 +1,6 @@
+-- The laws, a file for each subject.
+pub mod Marks
+pub mod Padded
+pub mod Turns
+pub mod Bytes
+pub mod Growth

@@ -1,0 +1,63 @@
+-- `commit::marked` meets its contract. The loop's invariant: the first i slots that are listed have marks. Assumes nothing.
+use mathlib.Core.Path.{_≡_, refl, sym, _∙_}
+use Prim.Native.Nat.{_-_, _≤_}
+use native.Mathlib.Omega.{arith}
+use borrow.Author.Needs.{needs}
+use lib.ListN.{take}
+use lib.Seq.{slice}
+use Rattle.host.proofs.Laws.Lengths.{listing}
+use Rattle.commit.specs.Marks.{marks}
+use Rattle.commit.proofs.Laws.Turns.{mark-one, mark-done}
+use Rattle.commit.proofs.marked.Statement.{statement}
+use Rattle.commit.proofs.marked.Tie as tie
+
+abbrev Inv-loop : tie.InvT-loop
+Inv-loop items count flags₀ i₀ flags i = (i ≤ count) × (marks flags₀ (take count items) ≡ marks flags (slice i count items))
+
+abbrev μ-loop : tie.MeasureT-loop
+μ-loop items count flags₀ i₀ flags i = count - i
+
+loop-holds : tie.Need-loop-holds Inv-loop μ-loop
+loop-holds c = (omega arith, refl)
+
+array-read-mark : tie.Need-array-read-mark Inv-loop μ-loop
+array-read-mark c = omega arith
+
+cast-mark : tie.Need-cast-mark Inv-loop μ-loop
+cast-mark c = search needs
+
+mark-requires : tie.Need-mark-requires Inv-loop μ-loop
+mark-requires c κs = tt
+
+add-i : tie.Need-add-i Inv-loop μ-loop
+add-i c = omega arith
+
+loop-less : tie.Need-loop-less Inv-loop μ-loop
+loop-less c = omega arith
+
+loop-again : tie.Need-loop-again Inv-loop μ-loop
+loop-again c =
+    let l = c .before .before .loop in
+    let s = c .before .before .before .before in
+    (omega arith, l .inv .1 ∙ mark-one (l .flags) (s .args .all .items) (l .i) (s .args .all .count) (listing (s .args .all) _ (s .good .0)) (omega arith) (s .pre) (c .mark .ensures))
+
+returns : tie.Need-returns Inv-loop μ-loop
+returns c =
+    let l = c .before .loop in
+    let s = c .before .before .before in
+    sym (l .inv .1 ∙ mark-done (l .flags) (s .args .all .items) (l .i) (s .args .all .count) (omega arith))
+
+pub marked-spec : {M : Type 1} → statement M
+marked-spec =
+    tie.close
+    (tie.spec
+    Inv-loop
+    μ-loop
+    loop-holds
+    array-read-mark
+    cast-mark
+    mark-requires
+    add-i
+    loop-less
+    loop-again
+    returns)

@@ -1,0 +1,39 @@
+-- `commit::one_back` meets its contract: nothing where nothing is staged. Assumes nothing.
+use mathlib.Core.Path.{sym}
+use borrow.Author.Tests.{eq-eqb, ne-eqb}
+use Rattle.commit.proofs.Laws.Bytes.{laid-none, laid-some}
+use borrow.Author.Needs.{needs}
+use Rattle.commit.proofs.one_back.Statement.{statement}
+use Rattle.commit.proofs.one_back.Tie as tie
+
+returns : tie.Need-returns
+returns c = sym (laid-none 4096 _ _ _ _ (eq-eqb _ _ (c .if1 .taken)))
+
+mul-copy-between : tie.Need-mul-copy-between
+mul-copy-between c = search needs
+
+mul-copy-between-2 : tie.Need-mul-copy-between-2
+mul-copy-between-2 c = search needs
+
+copy-between-requires : tie.Need-copy-between-requires
+copy-between-requires c κs =
+    let s = c .before .before .before .before in
+    let e = ne-eqb (s .args .from) 255 (c .before .if1 .left) in
+    (s .pre .source e, s .pre .target e)
+
+same-length : tie.Need-same-length
+same-length c = search needs
+
+returns-2 : tie.Need-returns-2
+returns-2 c = laid-some 4096 _ _ _ _ (ne-eqb _ _ (c .before .before .before .before .if1 .left)) (c .before .before .copy-between .ensures)
+
+pub one-back-spec : {M : Type 1} → statement M
+one-back-spec =
+    tie.close
+    (tie.spec
+    returns
+    mul-copy-between
+    mul-copy-between-2
+    copy-between-requires
+    same-length
+    returns-2)

@@ -1,0 +1,3 @@
+-- What the code of a commit works with, and what it asks of its callers.
+pub mod Marks
+pub mod Asks
