@@ -4,3 +4,4 @@ pub mod Padded
 pub mod Turns
 pub mod Bytes
 pub mod Growth
+pub mod Shapes

@@ -1,0 +1,187 @@
+-- What callers use: what a host in order with an open program gives the functions of this crate, and that what they make together is the
+-- definition's commit. Assumes nothing.
+use mathlib.Core.Path.{_≡_, refl, sym, ap, ap₂, _∙_, subst}
+use mathlib.Core.Bool.{true, false}
+use mathlib.Core.List.{List, [], _∷_, _++_}
+use Prim.Native.Nat.{ℕ, zero, suc, _+_, _-_, _*_, _/_, _≤_, _<_}
+use native.Mathlib.Nat.{zero-div, suc-mul, mul-le-mul-right}
+use native.Mathlib.Omega.{arith}
+use lib.ListN.{length, getD}
+use lib.IntN.{ℤ, pos, _-ℤ_}
+use lib.Dec.{ltb, eqb}
+use borrow.Author.Tests.{ltb-true, eqb-true}
+use Rattle.area.specs.Pick.{pick}
+use Rattle.area.specs.Area.{same, part, put, zeros}
+use Rattle.area.proofs.Laws.Pick.{by, picks, skips, never, both-left, both-right}
+use Rattle.sia.specs.Names.{readOnly}
+use Rattle.sia.specs.Encode.{every}
+use Rattle.host.specs.Empty.{none, noPlace, noProgram}
+use Rattle.host.specs.With.{withPlaces, withProgram, withSize, withSlots}
+use Rattle.host.specs.Places.{hasId, whose, taken}
+use Rattle.host.specs.Order.{placeInOrder, inOrder, slotInOrder, parentInOrder, termsInOrder}
+use Rattle.host.specs.Calls.{replaced}
+use Rattle.rules.specs.View.{settingOf, parent, areasRight}
+use Rattle.rules.specs.Facts.{Good, Solid}
+use Rattle.rules.specs.Commit.{Closed, closed, finalSlots, copiedBack, finalPlace, commit}
+use Rattle.rules.specs.Demands.{Sound}
+use Rattle.rules.proofs.Committing.{Final, final, order-places, place-twins}
+use Rattle.rules.proofs.Laws.Effects.{whole-sectors}
+use Rattle.rules.proofs.Laws.Sizes.{place-size, whose-whole, whose-here, whose-on, has-held}
+use Rattle.rules.proofs.Laws.Slots.{every-fore, every-aft}
+use Rattle.rules.proofs.Laws.Split.{Split, split}
+use Rattle.rules.proofs.Laws.Spots.{every-at, every-get}
+use Rattle.rules.proofs.Laws.Taking.{order-good, order-solid, areas-stage}
+use Rattle.host.specs.declared.Place.{Place}
+use Rattle.host.specs.declared.Host.{Host}
+use Rattle.commit.specs.Marks.{padded}
+use Rattle.commit.specs.Asks.{Lies, Back}
+
+-- ---- zeros behind slots are read as nothing is
+
+getD-zeros : (k i : ℕ) → getD (zeros k) i 0 ≡ 0
+getD-zeros zero i = refl
+getD-zeros (suc k) zero = refl
+getD-zeros (suc k) (suc i) = getD-zeros k i
+
+getD-behind : (l : List ℕ) (k i : ℕ) → getD (l ++ zeros k) i 0 ≡ getD l i 0
+getD-behind [] k i = getD-zeros k i
+getD-behind (x ∷ l) k zero = refl
+getD-behind (x ∷ l) k (suc i) = getD-behind l k i
+
+pub slot-padded : (l : List ℕ) (i : ℕ) → getD (padded l) i 0 ≡ getD l i 0
+unfolding padded
+slot-padded l i = getD-behind l (64 - length l) i
+
+-- `copy_back` copies to the final slots
+pub back-padded : (z : ℕ) (stage staged l : List ℕ) (i n : ℕ) (disk : List ℕ) → copiedBack z stage staged (padded l) i n disk ≡ copiedBack z stage staged l i n disk
+unfolding copiedBack
+back-padded z stage staged l i zero disk = refl
+back-padded z stage staged l i (suc n) disk =
+    back-padded z stage staged l (suc i) n _
+    ∙ ap (λ (m : ℕ). copiedBack z stage staged l (suc i) n (pick (eqb (getD staged i none) none) disk (put disk (m * z) (part stage (getD staged i none * z) z)))) (slot-padded l i)
+
+-- `final_place` makes the final place
+pub place-padded : (p : Place) (size : ℕ) (l : List ℕ) → withSlots (withSize p size) (padded l) ≡ finalPlace p size l
+unfolding finalPlace padded
+place-padded p size l = refl
+
+-- ---- the sizes of contracts in order
+
+none-size : (z : ℕ) (id : List ℕ) → 0 < z → whose id [] .size / z ≤ 64
+unfolding whose noPlace
+none-size z id some = omega (arith, zero-div z)
+
+whose-small : (z : ℕ) (id : List ℕ) (ps : List Place) → 0 < z → every (placeInOrder z) ps ≡ true → whose id ps .size / z ≤ 64
+unfolding every
+whose-small z id [] some h = none-size z id some
+whose-small z id (p ∷ ps) some h =
+    by (hasId id p)
+    (λ e. omega (arith, ap (λ (q : Place). q .size / z) (whose-here id p ps e), place-size z p (both-left _ _ h) (has-held id p e) .1))
+    (λ e. omega (arith, ap (λ (q : Place). q .size / z) (whose-on id p ps e), whose-small z id ps some (both-right _ _ h)))
+
+-- slot n of an area of m whole sectors lies in it
+within : (z n m : ℕ) (a : List ℕ) → n < m → length a ≡ m * z → n * z + z ≤ length a
+within z n m a lt e = omega (arith, mul-le-mul-right {m = suc n} {n = m} z lt, suc-mul n z)
+
+-- ---- a host in order with an open program
+
+module _ (disk : List ℕ) (h : Host) (stage : List ℕ) (sound : Sound 4096 h) (o : inOrder 4096 h ≡ true) (areas : areasRight 4096 h disk stage ≡ true) (live : h .program .active ≡ true) where
+  abbrev id : List ℕ
+  id = h .program .terms .head .contract
+
+  abbrev size : ℕ
+  size = h .program .progress .size
+
+  abbrev staged : List ℕ
+  staged = h .program .progress .staged
+
+  good : Good 4096 (settingOf h disk) (h .program .progress)
+  good = order-good 4096 h disk o live (sound .staged)
+
+  solid : Solid 4096 (settingOf h disk)
+  solid = order-solid 4096 h disk stage (sound .some) o areas
+
+  -- what `final_slots` asks
+  pub few-slots : h .disk ≤ 64
+  few-slots = order-places 4096 h o .1
+
+  pub last-size : size ≤ 262144
+  unfolding settingOf
+  last-size = omega (arith, good .orderly .within, few-slots)
+
+  pub few-sectors : size / 4096 ≤ 64
+  few-sectors = omega (arith, last-size)
+
+  -- what `growth` asks
+  pub first-size : {p : Place} → p ≡ whose id (h .places) → p .size ≤ 262144
+  unfolding settingOf
+  first-size e =
+      let small = whose-small 4096 id (h .places) (omega arith) (solid .small) in
+      let whole = whose-whole 4096 id (h .places) (solid .small) in
+      omega (arith, ap (λ (p : Place). p .size) e, small, whole)
+
+  -- where there is no parent, nothing is committed
+  nobody : whose id (h .places) .held ≡ false → size ≡ 0
+  unfolding parentInOrder termsInOrder settingOf
+  nobody e =
+      let t = both-left _ _ (good .terms) in
+      by (same id readOnly)
+      (λ u. eqb-true _ _ (sym (picks (same id readOnly) _ _ u) ∙ t))
+      (λ u. never (sym t ∙ skips (same id readOnly) _ _ u ∙ e))
+
+  staged-below : (j : ℕ) → eqb (getD staged j none) none ≡ false → getD staged j none < h .stage
+  unfolding slotInOrder settingOf
+  staged-below j e =
+      ltb-true _ _ (sym (skips (eqb (getD staged j none) none) true _ e)
+      ∙ every-at (slotInOrder (h .stage)) staged j none (good .orderly .staged .slots) (picks (eqb none none) true _ refl))
+
+  -- the final slots are slots of the disk
+  pub final-below : (j : ℕ) → j < size / 4096 → getD (finalSlots 4096 (h .disk) (h .places) (whose id (h .places)) size) j 0 < h .disk
+  unfolding settingOf
+  final-below j lt =
+      by (whose id (h .places) .held)
+      (λ e. let q = order-places 4096 h o in
+      let s = split id (h .places) (place-twins 4096 (h .disk) (h .places) (q .0)) e in
+      let f = final 4096 (h .disk) size id (h .places) s (sound .some) (q .1) (q .0) (sound .places) (good .orderly .whole) (good .orderly .within) in
+      let is = ap (λ (x : Place). finalSlots 4096 (h .disk) (h .places) x size) (s .whose-is) ∙ f .is in
+      let all : every (λ n. ltb n (h .disk)) (f .slots) ≡ true = every-fore _ (f .slots) (taken 4096 (s .behind)) (every-aft _ (taken 4096 (s .before)) _ (f .below)) in
+      let b : getD (f .slots) j 0 < h .disk = ltb-true (getD (f .slots) j 0) (h .disk) (every-get (λ n. ltb n (h .disk)) (f .slots) j 0 (omega (arith, f .long)) all) in
+      omega (arith, b, ap (λ (l : List ℕ). getD l j 0) is))
+      (λ e. absurd (omega (arith, nobody e)))
+
+  -- what `copy_back` asks
+  pub backs : {p : Place} {slots : List ℕ} → p ≡ whose id (h .places) → slots ≡ padded (finalSlots 4096 (h .disk) (h .places) p size)
+      → Back 4096 stage staged slots (size / 4096) disk
+  unfolding settingOf
+  backs {p} {slots} e q =
+      let l = finalSlots 4096 (h .disk) (h .places) (whose id (h .places)) size in
+      let is : slots ≡ padded l = q ∙ ap (λ (x : Place). padded (finalSlots 4096 (h .disk) (h .places) x size)) e in
+      record {
+        few = few-sectors;
+        each = λ j lt. record {
+          source = λ u. within 4096 (getD staged j none) (h .stage) stage (staged-below j u) (areas-stage 4096 h disk stage areas);
+          target = λ u. within 4096 (getD slots j 0) (h .disk) disk
+              (omega (arith, final-below j lt, ap (λ (x : List ℕ). getD x j 0) is ∙ slot-padded l j)) (solid .disk);
+        };
+      }
+
+-- ---- a commit, from what the functions of this crate make
+
+pub commit-made : {p place : Place} {slots after : List ℕ} {places : List Place} {growth : ℤ} (disk : List ℕ) (h : Host) (stage : List ℕ)
+    → let id = h .program .terms .head .contract in let size = h .program .progress .size in
+    p ≡ whose id (h .places) → slots ≡ padded (finalSlots 4096 (h .disk) (h .places) p size)
+    → place ≡ withSlots (withSize p size) slots → places ≡ replaced id place (h .places) → growth ≡ pos size -ℤ pos (p .size)
+    → after ≡ copiedBack 4096 stage (h .program .progress .staged) slots 0 (size / 4096) disk
+    → closed 0 (h .program .progress .tally) growth (withProgram (withPlaces h places) noProgram) after ≡ commit 4096 disk h stage
+unfolding commit parent settingOf
+commit-made {p} {place} {slots} {after} {places} {growth} disk h stage e s q r g a =
+    let id = h .program .terms .head .contract in
+    let size = h .program .progress .size in
+    let l : Place → List ℕ = λ x. finalSlots 4096 (h .disk) (h .places) x size in
+    let left : ℤ → List Place → List ℕ → Closed = λ n ps d. closed 0 (h .program .progress .tally) n (withProgram (withPlaces h ps) noProgram) d in
+    let final : place ≡ finalPlace p size (l p) = q ∙ ap (withSlots (withSize p size)) s ∙ place-padded p size (l p) in
+    let back : after ≡ copiedBack 4096 stage (h .program .progress .staged) (l p) 0 (size / 4096) disk =
+    a ∙ ap (λ (x : List ℕ). copiedBack 4096 stage (h .program .progress .staged) x 0 (size / 4096) disk) s ∙ back-padded 4096 stage (h .program .progress .staged) (l p) 0 (size / 4096) disk in
+    (λ i. left (g i) ((r ∙ ap (λ (x : Place). replaced id x (h .places)) final) i) (back i))
+    ∙ ap (λ (x : Place). left (pos size -ℤ pos (x .size)) (replaced id (finalPlace x size (l x)) (h .places))
+    (copiedBack 4096 stage (h .program .progress .staged) (l x) 0 (size / 4096) disk)) e
