@@ -4,17 +4,18 @@ use mathlib.Core.List.{List, [], _∷_, _++_}
 use Prim.Native.Nat.{ℕ, zero, suc, _-_}
 use lib.ListN.{length, getD, set}
 use lib.Dec.{eqb}
-use Rattle.area.specs.Area.{zeros}
+use Rattle.area.specs.Pick.{pick}
+use Rattle.area.specs.Area.{zeros, tab}
 use Rattle.area.specs.Lowest.{lowest}
+use Rattle.host.specs.Lists.{some}
 
--- marks, and one more for each slot of a list; a slot that has no entry is passed by
-unfoldable pub marks : List ℕ → List ℕ → List ℕ
-marks flags [] = flags
-marks flags (x ∷ xs) = marks (set flags x 1) xs
+-- the mark of slot n where the slots of a list are used
+unfoldable pub flag : List ℕ → ℕ → ℕ
+flag l n = pick (some (eqb n) l) 1 0
 
--- the marks of the slots of a list
-abbrev pub marksOf : List ℕ → List ℕ
-marksOf l = marks (zeros 64) l
+-- the marks of all slots
+unfoldable pub marksOf : List ℕ → List ℕ
+marksOf l = tab 0 64 (flag l)
 
 -- slot n has no mark
 abbrev pub unmarked : List ℕ → ℕ → Bool

@@ -9,7 +9,8 @@ use Rattle.area.specs.Area.{put}
 use Rattle.area.specs.Lowest.{lowest}
 use Rattle.area.proofs.Laws.Puts.{set-put, put-append, put-nil}
 use Rattle.host.proofs.Laws.Slices.{slice-none, slice-one}
-use Rattle.commit.specs.Marks.{marks, unmarked, newFrom}
+use Rattle.commit.specs.Marks.{unmarked, newFrom}
+use Rattle.commit.proofs.Laws.Marks.{marks}
 
 -- ---- marks
 

@@ -6,7 +6,7 @@ use borrow.Author.Needs.{needs}
 use lib.ListN.{take}
 use lib.Seq.{slice}
 use Rattle.host.proofs.Laws.Lengths.{listing}
-use Rattle.commit.specs.Marks.{marks}
+use Rattle.commit.proofs.Laws.Marks.{marks, marks-are}
 use Rattle.commit.proofs.Laws.Turns.{mark-one, mark-done}
 use Rattle.commit.proofs.marked.Statement.{statement}
 use Rattle.commit.proofs.marked.Tie as tie
@@ -45,7 +45,7 @@ returns : tie.Need-returns Inv-loop μ-loop
 returns c =
     let l = c .before .loop in
     let s = c .before .before .before in
-    sym (l .inv .1 ∙ mark-done (l .flags) (s .args .all .items) (l .i) (s .args .all .count) (omega arith))
+    sym (l .inv .1 ∙ mark-done (l .flags) (s .args .all .items) (l .i) (s .args .all .count) (omega arith)) ∙ marks-are _
 
 pub marked-spec : {M : Type 1} → statement M
 marked-spec =
