@@ -1,6 +1,6 @@
 -- What callers use: what a host in order with an open program gives the functions of this crate, and that what they make together is the
 -- definition's commit. Assumes nothing.
-use mathlib.Core.Path.{_≡_, refl, sym, ap, ap₂, _∙_, subst}
+use mathlib.Core.Path.{_≡_, refl, sym, ap, _∙_}
 use mathlib.Core.Bool.{true, false}
 use mathlib.Core.List.{List, [], _∷_, _++_}
 use Prim.Native.Nat.{ℕ, zero, suc, _+_, _-_, _*_, _/_, _≤_, _<_}
@@ -24,17 +24,16 @@ use Rattle.rules.specs.View.{settingOf, parent, areasRight}
 use Rattle.rules.specs.Facts.{Good, Solid}
 use Rattle.rules.specs.Commit.{Closed, closed, finalSlots, copiedBack, finalPlace, commit}
 use Rattle.rules.specs.Demands.{Sound}
-use Rattle.rules.proofs.Committing.{Final, final, order-places, place-twins}
-use Rattle.rules.proofs.Laws.Effects.{whole-sectors}
+use Rattle.rules.proofs.Committing.{final, order-places, place-twins}
 use Rattle.rules.proofs.Laws.Sizes.{place-size, whose-whole, whose-here, whose-on, has-held}
 use Rattle.rules.proofs.Laws.Slots.{every-fore, every-aft}
-use Rattle.rules.proofs.Laws.Split.{Split, split}
+use Rattle.rules.proofs.Laws.Split.{split}
 use Rattle.rules.proofs.Laws.Spots.{every-at, every-get}
 use Rattle.rules.proofs.Laws.Taking.{order-good, order-solid, areas-stage}
 use Rattle.host.specs.declared.Place.{Place}
 use Rattle.host.specs.declared.Host.{Host}
 use Rattle.commit.specs.Marks.{padded}
-use Rattle.commit.specs.Asks.{Lies, Back}
+use Rattle.commit.specs.Asks.{Back}
 
 -- ---- zeros behind slots are read as nothing is
 
@@ -53,12 +52,14 @@ unfolding padded
 slot-padded l i = getD-behind l (64 - length l) i
 
 -- `copy_back` copies to the final slots
-pub back-padded : (z : ℕ) (stage staged l : List ℕ) (i n : ℕ) (disk : List ℕ) → copiedBack z stage staged (padded l) i n disk ≡ copiedBack z stage staged l i n disk
+pub back-padded : (z : ℕ) (stage staged l : List ℕ) (i n : ℕ) (disk : List ℕ)
+    → copiedBack z stage staged (padded l) i n disk ≡ copiedBack z stage staged l i n disk
 unfolding copiedBack
 back-padded z stage staged l i zero disk = refl
 back-padded z stage staged l i (suc n) disk =
     back-padded z stage staged l (suc i) n _
-    ∙ ap (λ (m : ℕ). copiedBack z stage staged l (suc i) n (pick (eqb (getD staged i none) none) disk (put disk (m * z) (part stage (getD staged i none * z) z)))) (slot-padded l i)
+    ∙ ap (λ (m : ℕ). copiedBack z stage staged l (suc i) n
+    (pick (eqb (getD staged i none) none) disk (put disk (m * z) (part stage (getD staged i none * z) z)))) (slot-padded l i)
 
 -- `final_place` makes the final place
 pub place-padded : (p : Place) (size : ℕ) (l : List ℕ) → withSlots (withSize p size) (padded l) ≡ finalPlace p size l
@@ -85,7 +86,8 @@ within z n m a lt e = omega (arith, mul-le-mul-right {m = suc n} {n = m} z lt, s
 
 -- ---- a host in order with an open program
 
-module _ (disk : List ℕ) (h : Host) (stage : List ℕ) (sound : Sound 4096 h) (o : inOrder 4096 h ≡ true) (areas : areasRight 4096 h disk stage ≡ true) (live : h .program .active ≡ true) where
+module _ (disk : List ℕ) (h : Host) (stage : List ℕ) (sound : Sound 4096 h) (o : inOrder 4096 h ≡ true)
+    (areas : areasRight 4096 h disk stage ≡ true) (live : h .program .active ≡ true) where
   abbrev id : List ℕ
   id = h .program .terms .head .contract
 
@@ -144,8 +146,10 @@ module _ (disk : List ℕ) (h : Host) (stage : List ℕ) (sound : Sound 4096 h) 
       let s = split id (h .places) (place-twins 4096 (h .disk) (h .places) (q .0)) e in
       let f = final 4096 (h .disk) size id (h .places) s (sound .some) (q .1) (q .0) (sound .places) (good .orderly .whole) (good .orderly .within) in
       let is = ap (λ (x : Place). finalSlots 4096 (h .disk) (h .places) x size) (s .whose-is) ∙ f .is in
-      let all : every (λ n. ltb n (h .disk)) (f .slots) ≡ true = every-fore _ (f .slots) (taken 4096 (s .behind)) (every-aft _ (taken 4096 (s .before)) _ (f .below)) in
-      let b : getD (f .slots) j 0 < h .disk = ltb-true (getD (f .slots) j 0) (h .disk) (every-get (λ n. ltb n (h .disk)) (f .slots) j 0 (omega (arith, f .long)) all) in
+      let all : every (λ n. ltb n (h .disk)) (f .slots) ≡ true =
+      every-fore _ (f .slots) (taken 4096 (s .behind)) (every-aft _ (taken 4096 (s .before)) _ (f .below)) in
+      let b : getD (f .slots) j 0 < h .disk =
+      ltb-true (getD (f .slots) j 0) (h .disk) (every-get (λ n. ltb n (h .disk)) (f .slots) j 0 (omega (arith, f .long)) all) in
       omega (arith, b, ap (λ (l : List ℕ). getD l j 0) is))
       (λ e. absurd (omega (arith, nobody e)))
 
@@ -181,7 +185,8 @@ commit-made {p} {place} {slots} {after} {places} {growth} disk h stage e s q r g
     let left : ℤ → List Place → List ℕ → Closed = λ n ps d. closed 0 (h .program .progress .tally) n (withProgram (withPlaces h ps) noProgram) d in
     let final : place ≡ finalPlace p size (l p) = q ∙ ap (withSlots (withSize p size)) s ∙ place-padded p size (l p) in
     let back : after ≡ copiedBack 4096 stage (h .program .progress .staged) (l p) 0 (size / 4096) disk =
-    a ∙ ap (λ (x : List ℕ). copiedBack 4096 stage (h .program .progress .staged) x 0 (size / 4096) disk) s ∙ back-padded 4096 stage (h .program .progress .staged) (l p) 0 (size / 4096) disk in
+    a ∙ ap (λ (x : List ℕ). copiedBack 4096 stage (h .program .progress .staged) x 0 (size / 4096) disk) s
+    ∙ back-padded 4096 stage (h .program .progress .staged) (l p) 0 (size / 4096) disk in
     (λ i. left (g i) ((r ∙ ap (λ (x : Place). replaced id x (h .places)) final) i) (back i))
     ∙ ap (λ (x : Place). left (pos size -ℤ pos (x .size)) (replaced id (finalPlace x size (l x)) (h .places))
     (copiedBack 4096 stage (h .program .progress .staged) (l x) 0 (size / 4096) disk)) e

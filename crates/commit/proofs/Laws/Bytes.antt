@@ -61,7 +61,8 @@ module _ (z : ℕ) (stage staged slots : List ℕ) (n i : ℕ) (known : length s
       ∙ ap (copiedBack z stage staged slots (suc i) (n - (i + 1))) (sym e)
       ∙ ap (λ (j : ℕ). copiedBack z stage staged slots j (n - (i + 1)) after) (sym (add-one i))
 
-pub back-length : {after : List ℕ} {n : ℕ} (z : ℕ) (stage : List ℕ) (from to : ℕ) (disk : List ℕ) → length disk ≡ n → after ≡ laid z stage from to disk → length after ≡ n
+pub back-length : {after : List ℕ} {n : ℕ} (z : ℕ) (stage : List ℕ) (from to : ℕ) (disk : List ℕ)
+    → length disk ≡ n → after ≡ laid z stage from to disk → length after ≡ n
 back-length z stage from to disk l e = ap length e ∙ length-laid z stage from to disk ∙ l
 
 pub back-done : (z : ℕ) (stage staged slots : List ℕ) (n i : ℕ) (disk : List ℕ) → n ≤ i → copiedBack z stage staged slots i (n - i) disk ≡ disk

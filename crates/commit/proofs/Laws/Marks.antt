@@ -53,7 +53,8 @@ tells-more flags used x t = record {
       (λ e. let q : j ≡ x = eqb-true j x e in
       ap (λ (k : ℕ). getD (set flags x 1) k 0) q ∙ getD-set-same flags x 1 0 (omega (arith, t .long))
       ∙ sym (picks {A = ℕ} (either (eqb j x) (some (eqb j) used)) 1 0 (picks (eqb j x) true (some (eqb j) used) e)))
-      (λ e. getD-set-other flags x j 1 0 (eqb-false j x e) ∙ t .same j h ∙ sym (ap (λ (b : Bool). pick {A = ℕ} b 1 0) (skips (eqb j x) true (some (eqb j) used) e)));
+      (λ e. getD-set-other flags x j 1 0 (eqb-false j x e) ∙ t .same j h
+      ∙ sym (ap (λ (b : Bool). pick {A = ℕ} b 1 0) (skips (eqb j x) true (some (eqb j) used) e)));
 }
 
 -- whichever of the used is told first
@@ -82,7 +83,8 @@ marks-more : (flags used l : List ℕ) → Tells flags used → Tells (marks fla
 unfolding marks
 marks-more flags used [] t = t
 marks-more flags used (x ∷ l) t =
-    tells-swap (marks (set flags x 1) l) (l ++ (x ∷ used)) (x ∷ (l ++ used)) (some-moved x l used) (marks-more (set flags x 1) (x ∷ used) l (tells-more flags used x t))
+    tells-swap (marks (set flags x 1) l) (l ++ (x ∷ used)) (x ∷ (l ++ used)) (some-moved x l used)
+    (marks-more (set flags x 1) (x ∷ used) l (tells-more flags used x t))
 
 -- over an array of zeros
 pub marks-are : (l : List ℕ) → marks (zeros 64) l ≡ marksOf l

@@ -24,7 +24,8 @@ unfolding put
 put-zeros zero [] h = refl
 put-zeros zero (x ∷ l) h = absurd (omega arith)
 put-zeros (suc n) [] h = ap zeros (let e : suc n ≡ suc n - 0 = omega arith in e)
-put-zeros (suc n) (x ∷ l) h = cons x (put-zeros n l (omega arith) ∙ ap (λ (k : ℕ). l ++ zeros k) (let e : n - length l ≡ suc n - suc (length l) = omega arith in e))
+put-zeros (suc n) (x ∷ l) h =
+    let e : n - length l ≡ suc n - suc (length l) = omega arith in cons x (put-zeros n l (omega arith) ∙ ap (λ (k : ℕ). l ++ zeros k) e)
 
 put-behind : (l new : List ℕ) (k : ℕ) → length new ≤ k → put (l ++ zeros k) (length l) new ≡ l ++ (new ++ zeros (k - length new))
 unfolding put

@@ -25,7 +25,8 @@ pub shaped : (n : ℕ) (ps : List Place) (vs : List Val) → Is (Array (row plac
 shaped n ps vs g = each-placed ps (g .0) (g .1 .1)
 
 -- the places of a host, which are a field of it
-field-placed : (ps : List Place) (us : List Val) → shadow (each (field place.the-type .row .Denot) (field place.the-type .row .own) (map (field place.the-type .into) ps) us) → Shaped ps
+field-placed : (ps : List Place) (us : List Val)
+    → shadow (each (field place.the-type .row .Denot) (field place.the-type .row .own) (map (field place.the-type .into) ps) us) → Shaped ps
 field-placed [] us g = tt
 field-placed (p ∷ ps) [] g = absurd g
 field-placed (p ∷ ps) (u ∷ us) g = (placed p (u ∷ []) (g .0), field-placed ps us (g .1))

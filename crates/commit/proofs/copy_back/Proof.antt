@@ -32,7 +32,8 @@ one-back-requires : tie.Need-one-back-requires Inv-loop μ-loop
 one-back-requires c κs =
     let l = c .before .before .loop in
     let s = c .before .before .before .before .before in
-    next-lies 4096 (s .args .stage .now) (s .args .t2) (s .args .t3) (s .args .n) (l .i) (s .good .1 .0 .1 .0 .1) (s .pre .few) _ _ (omega arith) (s .pre) (l .inv .1)
+    next-lies 4096 (s .args .stage .now) (s .args .t2) (s .args .t3) (s .args .n) (l .i)
+    (s .good .1 .0 .1 .0 .1) (s .pre .few) _ _ (omega arith) (s .pre) (l .inv .1)
 
 add-i : tie.Need-add-i Inv-loop μ-loop
 add-i c = omega arith
@@ -46,7 +47,9 @@ loop-again c =
     let s = c .before .before .before .before .before .before .before .before in (
       omega arith,
       back-length 4096 _ _ _ _ (l .inv .1) (c .before .before .one-back .ensures),
-      l .inv .2 ∙ back-one 4096 (s .args .stage .now) (s .args .t2) (s .args .t3) (s .args .n) (l .i) (s .good .1 .0 .1 .0 .1) (s .pre .few) (l .disk) (omega arith) (c .before .before .one-back .ensures),
+      l .inv .2
+          ∙ back-one 4096 (s .args .stage .now) (s .args .t2) (s .args .t3) (s .args .n) (l .i) (s .good .1 .0 .1 .0 .1) (s .pre .few) (l .disk)
+          (omega arith) (c .before .before .one-back .ensures),
     )
 
 same-length : tie.Need-same-length Inv-loop μ-loop

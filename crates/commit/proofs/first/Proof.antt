@@ -38,7 +38,11 @@ loop-again c =
     let l = c .before .loop in
     let s = c .before .before in
     let n = length-take-le (s .args .n) (s .args .t1) (omega (arith, s .good .0 .1 .0 .1)) in
-    (omega arith, ap (λ (k : ℕ). set (l .after) k (getD (s .args .t1) (l .i) 0)) (sym (zero-add _)) ∙ one-more _ 0 (take (s .args .n) (s .args .t1)) (l .i) n (omega arith) (sym (getD-take (s .args .n) (s .args .t1) (l .i) 0 (omega arith))) (l .inv .1))
+    let v = sym (getD-take (s .args .n) (s .args .t1) (l .i) 0 (omega arith)) in (
+      omega arith,
+      ap (λ (k : ℕ). set (l .after) k (getD (s .args .t1) (l .i) 0)) (sym (zero-add _))
+          ∙ one-more _ 0 (take (s .args .n) (s .args .t1)) (l .i) n (omega arith) v (l .inv .1),
+    )
 
 returns : tie.Need-returns Inv-loop μ-loop
 returns c =

@@ -4,7 +4,7 @@ use native.Mathlib.Omega.{arith}
 use mir.Syntax.{w64}
 use mir.Facts.{toZ-pos, toZ-ofZ}
 use borrow.Author.Needs.{needs}
-use Rattle.commit.proofs.Laws.Growth.{difference}
+use Rattle.commit.proofs.Laws.Growth.{difference, differs}
 use Rattle.commit.proofs.growth.Statement.{statement}
 use Rattle.commit.proofs.growth.Tie as tie
 
@@ -18,7 +18,7 @@ sub-result : tie.Need-sub-result
 sub-result c =
     let a : c .args .last < 2 ^ 63 = omega arith in
     let b : c .args .first < 2 ^ 63 = omega arith in
-    rw (toZ-pos w64 a, toZ-pos w64 b) (difference _ _ a b)
+    search (differs, a, b)
 
 returns : tie.Need-returns
 returns c =

@@ -39,7 +39,8 @@ loop-again : tie.Need-loop-again Inv-loop μ-loop
 loop-again c =
     let l = c .before .before .loop in
     let s = c .before .before .before .before in
-    (omega arith, l .inv .1 ∙ mark-one (l .flags) (s .args .all .items) (l .i) (s .args .all .count) (listing (s .args .all) _ (s .good .0)) (omega arith) (s .pre) (c .mark .ensures))
+    let n = listing (s .args .all) _ (s .good .0) in
+    (omega arith, l .inv .1 ∙ mark-one (l .flags) (s .args .all .items) (l .i) (s .args .all .count) n (omega arith) (s .pre) (c .mark .ensures))
 
 returns : tie.Need-returns Inv-loop μ-loop
 returns c =
