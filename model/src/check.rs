@@ -1,0 +1,686 @@
+//! Tests of the model itself: the vectors of RFC 7693, trees by hand, the figures of document 01's bench, and the rules that
+//! they do not touch.
+
+use crate::blake2b::{hash, hash32};
+use crate::calls::{self, Item};
+use crate::depot;
+use crate::head::{self, filled, Head, Instruction, Operand};
+use crate::host::{self, Host, NONE, SECTOR};
+use crate::program::Closed;
+use crate::tree;
+
+/// "Prices: Init 7, Memory 1, ReadBase 3, ReadLength 2, WriteBase 5, WriteLength 4, TruncateBase 6."
+const PRICES: [u16; 7] = [7, 1, 3, 2, 5, 4, 6];
+const BUDGET: u64 = 1_000_000_000;
+const A: [u8; 32] = [0xA1; 32];
+const B: [u8; 32] = [0xB2; 32];
+
+pub fn run() {
+    let tests: [(&str, fn()); 26] = [
+        ("RFC 7693: abc", abc),
+        ("RFC 7693: Appendix E self-test", self_test),
+        ("hash: lengths refused", hash_lengths),
+        ("tree: roots by hand", roots_by_hand),
+        ("tree: proof counts of the bench (P)", proof_counts),
+        ("tree: every proof is accepted, damaged ones are not", proofs_accepted),
+        ("head: written and read", heads),
+        ("head: faults in reading order", head_faults),
+        ("bench (P): Truncate alone, 89 bytes, 5,242,933", truncate_alone),
+        ("bench (P): budget one below", budget_below),
+        ("bench (P): Truncate then Write, by pieces", truncate_write),
+        ("bench (P): Truncate's input last", truncate_last),
+        ("bench (P): Copy and Swap of 1 2 3 4", copy_swap),
+        ("bench (P): Read at the sector's end", read_end),
+        ("bench (P): Truncate to 4,095 or 8,192", truncate_bad),
+        ("bench (P): ids that differ in byte 31", close_ids),
+        ("forming and dropping", forming),
+        ("bench: the depot program", depot_program),
+        ("interrupts", interrupts),
+        ("commits and slots", commits),
+        ("stage slots", stage_slots),
+        ("growing over a cut-off position", grow_over),
+        ("reads of roots and of others", reads),
+        ("agreements", agreements),
+        ("order of hosts", orders),
+        ("the script player", script),
+    ];
+    for (name, test) in tests {
+        test();
+        println!("passed: {name}");
+    }
+    println!("{} passed", tests.len());
+}
+
+// Hash
+
+fn hex(bytes: &[u8]) -> String {
+    bytes.iter().map(|byte| format!("{byte:02X}")).collect()
+}
+
+fn abc() {
+    let expected = "BA80A53F981C4D0D6A2797B69F12F6E94C212F14685AC4B74B12BB6FDBFFA2D1\
+                    7D87C5392AAB792DC252D5DE4533CC9518D38AA8DBF1925AB92386EDD4009923";
+    assert_eq!(hex(&hash(64, &[], b"abc").unwrap()), expected);
+}
+
+/// RFC 7693 Appendix E: a Fibonacci generator.
+fn sequence(length: usize) -> Vec<u8> {
+    let mut a = 0xDEAD4BADu32.wrapping_mul(length as u32);
+    let mut b = 1u32;
+    let mut bytes = Vec::new();
+    for _ in 0..length {
+        let t = a.wrapping_add(b);
+        a = b;
+        b = t;
+        bytes.push((t >> 24) as u8);
+    }
+    bytes
+}
+
+fn self_test() {
+    let mut all = Vec::new();
+    for digest_length in [20, 32, 48, 64] {
+        for length in [0, 3, 128, 129, 255, 1024] {
+            let message = sequence(length);
+            all.extend(hash(digest_length, &[], &message).unwrap());
+            all.extend(hash(digest_length, &sequence(digest_length), &message).unwrap());
+        }
+    }
+    assert_eq!(hex(&hash32(&all)), "C23A7800D98123BD10F506C61E29DA5603D763B8BBAD2E737F5E765A7BCCD475");
+}
+
+fn hash_lengths() {
+    assert_eq!(hash(0, &[], b""), Err(2));
+    assert_eq!(hash(65, &[], b""), Err(2));
+    assert_eq!(hash(64, &[0; 65], b""), Err(2));
+    assert_eq!(hash(1, &[0; 64], b"").unwrap().len(), 1);
+    assert_eq!(hash(32, &[], b"x").unwrap(), hash32(b"x"));
+}
+
+// Tree
+
+fn segments(count: usize) -> Vec<u8> {
+    (0..count * 64).map(|i| (i / 64 * 31 + i) as u8).collect()
+}
+
+fn roots_by_hand() {
+    let bytes = segments(5);
+    let leaf = |i: usize| hash32(&[&[0u8][..], &bytes[i * 64..i * 64 + 64]].concat());
+    let node = |l: [u8; 32], r: [u8; 32]| hash32(&[&[1u8][..], &l, &r].concat());
+    assert_eq!(tree::root(&[]), [0; 32]);
+    assert_eq!(tree::root(&bytes[..64]), leaf(0));
+    assert_eq!(tree::root(&bytes[..128]), node(leaf(0), leaf(1)));
+    assert_eq!(tree::root(&bytes[..192]), node(node(leaf(0), leaf(1)), leaf(2)));
+    let four = node(node(leaf(0), leaf(1)), node(leaf(2), leaf(3)));
+    assert_eq!(tree::root(&bytes[..256]), four);
+    assert_eq!(tree::root(&bytes), node(four, leaf(4)));
+}
+
+/// "64 segments, range 0..1, 6; 0..64, none; 128 segments, 63..65, 12; 192 segments, 128..129, 7, and 0..1, 8."
+fn proof_counts() {
+    for (count, first, end, hashes) in [(64, 0, 1, 6), (64, 0, 64, 0), (128, 63, 65, 12), (192, 128, 129, 7), (192, 0, 1, 8)] {
+        assert_eq!(tree::proof(&segments(count), first, end).len(), hashes);
+    }
+}
+
+fn proofs_accepted() {
+    for count in [1u64, 2, 3, 5, 7, 8, 64, 65] {
+        let bytes = segments(count as usize);
+        let root = tree::root(&bytes);
+        for (first, end) in (0..count).flat_map(|f| [(f, f + 1), (f, count), (0, f + 1)]) {
+            let part = &bytes[first as usize * 64..end as usize * 64];
+            let mut hashes = tree::proof(&bytes, first, end).concat();
+            assert!(tree::check(&root, count, first, end, part, &hashes));
+            assert!(!tree::check(&root, count, first, end, &part[1..], &hashes));
+            assert!(!tree::check(&root, count, end, first, part, &hashes));
+            assert!(!tree::check(&root[..31], count, first, end, part, &hashes));
+            assert!(!tree::check(&hash32(&root), count, first, end, part, &hashes));
+            hashes.push(0);
+            assert!(!tree::check(&root, count, first, end, part, &hashes));
+            hashes.truncate(hashes.len().saturating_sub(2));
+            assert!(hashes.is_empty() || !tree::check(&root, count, first, end, part, &hashes));
+        }
+    }
+    assert!(!tree::check(&[0; 32], 0, 0, 0, &[], &[]));
+    let most = segments(4097);
+    assert!(tree::check(&tree::root(&most[..4096 * 64]), 4096, 0, 4096, &most[..4096 * 64], &[]));
+    assert!(!tree::check(&tree::root(&most), 4097, 0, 4097, &most, &[]));
+}
+
+// Heads
+
+fn instruction(name: &str, operands: &[(u64, u64)]) -> Instruction {
+    let mut made = Instruction { name: filled(name.as_bytes()), operand_count: operands.len() as u64, ..Instruction::default() };
+    for (i, &(offset, length)) in operands.iter().enumerate() {
+        made.operands[i] = Operand { offset, length };
+    }
+    made
+}
+
+fn head(contract: [u8; 32], instructions: &[Instruction], declared: u64) -> Head {
+    let mut made = Head { contract, count: instructions.len() as u64, declared, ..Head::default() };
+    made.instructions[..instructions.len()].copy_from_slice(instructions);
+    made
+}
+
+fn heads() {
+    let mut proved = instruction("Read", &[(0, 32), (32, 8), (40, 8)]);
+    proved.proof = true;
+    let made = head(A, &[proved, instruction("Truncate", &[(48, 8)])], 56);
+    let bytes = head::encoded(&made);
+    assert_eq!(head::read(&bytes), Ok(made.clone()));
+    let mut area = vec![9u8; bytes.len() + 3];
+    assert_eq!(head::write(&made, &mut area), (0, bytes.len() as u64));
+    assert_eq!(area[..bytes.len()], bytes);
+    assert_eq!(area[bytes.len()..], [9, 9, 9]);
+    assert_eq!(head::write(&made, &mut area[..bytes.len() - 1]), (2, 0));
+    let mut over = made.clone();
+    over.declared = 65_537;
+    assert_eq!(head::write(&over, &mut []), (10, 0));
+    let mut over = made;
+    over.instructions[1].operand_count = 5;
+    assert_eq!(head::write(&over, &mut []), (10, 0));
+}
+
+fn head_faults() {
+    let bytes = head::encoded(&head(A, &[instruction("Truncate", &[(0, 8)])], 8));
+    assert_eq!(bytes.len(), 89);
+    for length in 0..89 {
+        assert_eq!(head::read(&bytes[..length]), Err(9));
+    }
+    assert_eq!(head::read(&[&bytes[..], &[0]].concat()), Err(9));
+    let changed = |at: usize, value: u8| {
+        let mut bytes = bytes.clone();
+        bytes[at] = value;
+        head::read(&bytes)
+    };
+    assert_eq!(changed(32, 33), Err(10));
+    assert_eq!(changed(32, 32), Err(9));
+    assert_eq!(changed(56, 5), Err(10));
+    assert_eq!(changed(80, 2), Err(9));
+    assert_eq!(changed(83, 1), Err(10));
+    assert_eq!(changed(45, 7).unwrap().instructions[0].name[5], 7);
+    // a count above its limit with nothing after it
+    assert_eq!(head::read(&[&[0u8; 32][..], &33u64.to_le_bytes()].concat()), Err(10));
+}
+
+// The bench
+
+/// A host with its areas.
+struct Bench {
+    host: Host,
+    disk: Vec<u8>,
+    stage: Vec<u8>,
+    input: Vec<u8>,
+    output: Vec<u8>,
+}
+
+/// Data being laid out, and the instructions that name its parts.
+#[derive(Default)]
+struct Layout {
+    data: Vec<u8>,
+    instructions: Vec<Instruction>,
+}
+
+impl Layout {
+    fn add(mut self, name: &str, inputs: &[Vec<u8>]) -> Layout {
+        let mut operands = Vec::new();
+        for input in inputs {
+            operands.push((self.data.len() as u64, input.len() as u64));
+            self.data.extend(input);
+        }
+        self.instructions.push(instruction(name, &operands));
+        self
+    }
+    fn proved(mut self) -> Layout {
+        self.instructions.last_mut().unwrap().proof = true;
+        self
+    }
+    fn numbers(self, name: &str, numbers: &[u64]) -> Layout {
+        let inputs: Vec<Vec<u8>> = numbers.iter().map(|n| n.to_le_bytes().to_vec()).collect();
+        self.add(name, &inputs)
+    }
+    fn write(self, offset: u64, data: &[u8]) -> Layout {
+        self.add("Write", &[offset.to_le_bytes().to_vec(), counted(data)])
+    }
+    fn read(self, contract: [u8; 32], offset: u64, length: u64) -> Layout {
+        self.add("Read", &[contract.to_vec(), offset.to_le_bytes().to_vec(), length.to_le_bytes().to_vec()])
+    }
+    fn read_sector(self, root: [u8; 32], offset: u64, length: u64) -> Layout {
+        self.add("ReadSector", &[root.to_vec(), offset.to_le_bytes().to_vec(), length.to_le_bytes().to_vec()])
+    }
+}
+
+fn counted(data: &[u8]) -> Vec<u8> {
+    [&(data.len() as u64).to_le_bytes()[..], data].concat()
+}
+
+fn bench(disk: u64, stage: u64, ids: &[[u8; 32]]) -> Bench {
+    let (answer, mut host) = host::fresh(disk * SECTOR, stage * SECTOR);
+    assert_eq!(answer, 0);
+    for id in ids {
+        assert_eq!(host.form(id), 0);
+    }
+    let area = |sectors: u64| vec![0u8; (sectors * SECTOR) as usize];
+    Bench { host, disk: area(disk), stage: area(stage), input: vec![], output: vec![0; 16_384] }
+}
+
+/// Number, cost, size, root, proof hashes, output.
+type Record = (u64, u64, u64, [u8; 32], Vec<u8>, Vec<u8>);
+
+impl Bench {
+    fn open(&mut self, contract: [u8; 32], layout: &Layout, budget: u64) -> u64 {
+        let bytes = head::encoded(&head(contract, &layout.instructions, layout.data.len() as u64));
+        self.input = vec![0; layout.data.len()];
+        self.host.open(16_384, budget, PRICES, &bytes)
+    }
+    fn piece(&mut self, piece: &[u8]) -> u64 {
+        self.host.piece(&self.disk, &mut self.stage, &mut self.input, &mut self.output, piece)
+    }
+    fn run(&mut self, contract: [u8; 32], layout: &Layout) -> Vec<Record> {
+        assert_eq!(self.open(contract, layout, BUDGET), 0);
+        assert_eq!(self.piece(&layout.data), 0);
+        self.records()
+    }
+    fn records(&self) -> Vec<Record> {
+        parse_records(&self.output[..self.host.program.written as usize])
+    }
+    fn numbers(&self) -> Vec<u64> {
+        self.records().iter().map(|record| record.0).collect()
+    }
+    fn agree(&mut self) -> Closed {
+        let (answer, size, root) = self.host.reached(&self.disk, &self.stage);
+        assert_eq!(answer, 0);
+        self.host.agree(&mut self.disk, &self.stage, size, &root)
+    }
+    fn run_and_commit(&mut self, contract: [u8; 32], layout: &Layout) -> Closed {
+        let records = self.run(contract, layout);
+        assert!(records.iter().all(|record| record.0 == 0), "{:?}", self.numbers());
+        self.agree()
+    }
+    fn give_up(&mut self) -> Closed {
+        self.host.give_up(&self.disk, &self.stage)
+    }
+    fn slots(&self, place: usize) -> Vec<u8> {
+        self.host.places[place].slots[..(self.host.places[place].size / SECTOR) as usize].to_vec()
+    }
+}
+
+fn parse_records(mut bytes: &[u8]) -> Vec<Record> {
+    let mut records = Vec::new();
+    while !bytes.is_empty() {
+        let mut reader = head::Reader { rest: bytes };
+        let (number, cost, size) = (reader.number().unwrap(), reader.number().unwrap(), reader.number().unwrap());
+        let root = reader.array().unwrap();
+        let hashes = reader.number().unwrap();
+        let proof = reader.bytes(32 * hashes).unwrap().to_vec();
+        let length = reader.number().unwrap();
+        let output = reader.bytes(length).unwrap().to_vec();
+        records.push((number, cost, size, root, proof, output));
+        bytes = reader.rest;
+    }
+    records
+}
+
+fn grow(sizes: &[u64]) -> Layout {
+    sizes.iter().fold(Layout::default(), |layout, &size| layout.numbers("Truncate", &[size * SECTOR]))
+}
+
+fn truncate_alone() {
+    let layout = grow(&[1]);
+    assert_eq!(head::encoded(&head(A, &layout.instructions, 8)).len(), 89);
+    let mut bench = bench(8, 4, &[A]);
+    assert_eq!(bench.open(A, &layout, 5_242_933), 0);
+    assert_eq!(bench.piece(&layout.data), 0);
+    assert_eq!(bench.host.program.tally, 5_242_933);
+    let records = bench.records();
+    assert_eq!((records[0].0, records[0].1, records[0].2), (0, 5_242_926, 4096));
+    assert_eq!(bench.agree(), Closed { answer: 0, tally: 5_242_933, growth: 4096 });
+}
+
+/// "Budget 5,242,932, empty contract: 28, tally 7. Whole record: 1C, then 71 zero bytes."
+fn budget_below() {
+    let layout = grow(&[1]);
+    let mut bench = bench(8, 4, &[A]);
+    assert_eq!(bench.open(A, &layout, 5_242_932), 0);
+    assert_eq!(bench.piece(&layout.data), 0);
+    assert_eq!((bench.host.program.tally, bench.host.program.written), (7, 72));
+    assert_eq!(bench.output[0], 0x1C);
+    assert!(bench.output[1..72].iter().all(|&byte| byte == 0));
+    assert_eq!(bench.agree().answer, 13);
+    assert_eq!(bench.give_up(), Closed { answer: 0, tally: 7, growth: 0 });
+}
+
+fn truncate_write() {
+    let layout = grow(&[1]).write(0, &[0x5A; 64]);
+    assert_eq!(layout.instructions[1].operands[..2], [Operand { offset: 8, length: 8 }, Operand { offset: 16, length: 72 }]);
+    let mut bench = bench(8, 4, &[A]);
+    assert_eq!(bench.open(A, &layout, BUDGET), 0);
+    let mut records = Vec::new();
+    for (from, to) in [(0, 7), (7, 8), (8, 87), (87, 88)] {
+        assert_eq!(bench.piece(&layout.data[from..to]), 0);
+        records.push(bench.records().len());
+    }
+    assert_eq!(records, [0, 1, 1, 2]);
+    assert_eq!(bench.host.program.tally, 26_216_874);
+    assert_eq!(bench.piece(&[0]), 12);
+}
+
+fn truncate_last() {
+    let data = [&0u64.to_le_bytes()[..], &counted(&[1; 64]), &4096u64.to_le_bytes()].concat();
+    let layout = Layout { data, instructions: vec![instruction("Truncate", &[(80, 8)]), instruction("Write", &[(0, 8), (8, 72)])] };
+    let mut bench = bench(8, 4, &[A]);
+    assert_eq!(bench.open(A, &layout, BUDGET), 0);
+    assert_eq!(bench.piece(&layout.data[..87]), 0);
+    assert_eq!(bench.records().len(), 0);
+    assert_eq!(bench.piece(&layout.data[87..]), 0);
+    assert_eq!(bench.records().len(), 2);
+}
+
+/// "On 1 2 3 4: Copy(1, 0, 3) gives 1 1 2 3." "Same bytes: Swap(0, 1, 3) gives 2 3 4 3."
+fn copy_swap() {
+    for (name, numbers, expected) in [("Copy", [1, 0, 3], [1, 1, 2, 3]), ("Swap", [0, 1, 3], [2, 3, 4, 3])] {
+        let mut bench = bench(8, 4, &[A]);
+        let layout = grow(&[1]).write(0, &[1, 2, 3, 4]).numbers(name, &numbers).read(A, 0, 4);
+        let records = bench.run(A, &layout);
+        assert_eq!(records[3].5, expected);
+        assert_eq!(records[2].3, tree::root(&[&expected[..], &[0; 4092]].concat()));
+    }
+}
+
+fn read_end() {
+    let mut bench = bench(8, 4, &[A]);
+    bench.run_and_commit(A, &grow(&[1]));
+    assert_eq!(bench.run(A, &Layout::default().read(A, 4095, 1))[0].0, 0);
+    assert_eq!(bench.give_up().answer, 0);
+    assert_eq!(bench.run(A, &Layout::default().read(A, 4095, 2))[0].0, 26);
+}
+
+fn truncate_bad() {
+    for size in [4095, 8192] {
+        let mut bench = bench(8, 4, &[A]);
+        assert_eq!(bench.run(A, &Layout::default().numbers("Truncate", &[size]))[0].0, 26);
+    }
+}
+
+fn close_ids() {
+    let mut other = A;
+    other[31] ^= 1;
+    let bench = bench(8, 4, &[A, other]);
+    assert!(bench.host.places[0].held && bench.host.places[1].held);
+}
+
+fn forming() {
+    assert_eq!(host::fresh(4096, 0).0, 2);
+    assert_eq!(host::fresh(65 * 4096, 4096).0, 2);
+    assert_eq!(host::fresh(4097, 4096).0, 2);
+    assert_eq!(host::fresh(4096, 17 * 4096).0, 2);
+    let (_, mut none) = host::fresh(0, 0);
+    assert_eq!(none.form(&A), 1);
+    let mut bench = bench(8, 4, &[A, B]);
+    let read_only = head::read_only_word();
+    assert_eq!(bench.host.form(&read_only), 5);
+    assert_eq!(bench.host.form(&A), 6);
+    for i in 0..6 {
+        assert_eq!(bench.host.form(&[i; 32]), 0);
+    }
+    assert_eq!(bench.host.form(&[9; 32]), 8);
+    assert_eq!(bench.host.drop(&[9; 32]), 7);
+    assert_eq!(bench.host.drop(&read_only), 5);
+    assert_eq!(bench.host.drop(&B), 0);
+    assert_eq!(bench.host.form(&[9; 32]), 0);
+    assert_eq!(bench.host.find(&[9; 32]), Some(1));
+    assert_eq!(bench.open(A, &Layout::default(), 7), 0);
+    assert_eq!((bench.host.form(&A), bench.host.drop(&A)), (3, 3));
+}
+
+fn depot_input(prices: &[u64], budget: u64, ids: &[[u8; 32]], head: &[u8], data: &[u8]) -> Vec<u8> {
+    let mut bytes = Vec::new();
+    let numbers = [&[prices.len() as u64], prices, &[budget, ids.len() as u64]].concat();
+    bytes.extend(numbers.iter().flat_map(|number| number.to_le_bytes()));
+    bytes.extend(ids.concat());
+    bytes.extend((head.len() as u64).to_le_bytes());
+    bytes.extend(head);
+    bytes.extend(data);
+    bytes
+}
+
+fn depot_program() {
+    let prices: Vec<u64> = PRICES.iter().map(|&price| price as u64).collect();
+    let layout = grow(&[1]);
+    let head_bytes = head::encoded(&head(A, &layout.instructions, 8));
+    let play = |budget, ids: &[[u8; 32]], head: &[u8], data: &[u8]| depot::play(&depot_input(&prices, budget, ids, head, data));
+    let refusal = |number: u64| number.to_le_bytes().to_vec();
+    let mut record = vec![0u8; 72];
+    record[0] = 0x1C;
+    assert_eq!(play(5_242_932, &[A], &head_bytes, &layout.data), record);
+    let good = play(5_242_933, &[A], &head_bytes, &layout.data);
+    assert_eq!(good[..24], [0u64, 5_242_926, 4096].map(u64::to_le_bytes).concat());
+    assert_eq!(good[24..56], tree::root(&[0; 4096]));
+    assert_eq!(play(6, &[A], &head_bytes, &layout.data), refusal(11));
+    assert_eq!(play(7, &[B], &head_bytes, &layout.data), refusal(7));
+    assert_eq!(play(7, &[A, A], &head_bytes, &layout.data), refusal(6));
+    assert_eq!(play(7, &[A, head::read_only_word()], &head_bytes, &layout.data), refusal(5));
+    let nine: Vec<[u8; 32]> = (0..9).map(|i| [i; 32]).collect();
+    assert_eq!(play(7, &nine, &head_bytes, &layout.data), refusal(8));
+    assert_eq!(play(7, &[A], &head_bytes[..88], &layout.data), refusal(9));
+    assert_eq!(play(BUDGET, &[A], &head_bytes, &[0; 9]), refusal(12));
+    assert_eq!(play(BUDGET, &[A], &head_bytes, &[0; 7]), refusal(13));
+    assert_eq!(play(BUDGET, &[A], &head::encoded(&head(A, &[], 0)), &[]), Vec::<u8>::new());
+    assert_eq!(depot::play(&depot_input(&prices[..6], 7, &[A], &head_bytes, &[])), refusal(9));
+    assert_eq!(depot::play(&depot_input(&[7, 1, 65_536, 2, 5, 4, 6], 7, &[A], &head_bytes, &[])), refusal(9));
+    let whole = depot_input(&prices, 7, &[A], &head_bytes, &[]);
+    for length in 0..whole.len() {
+        assert_eq!(depot::play(&whole[..length]), refusal(9));
+    }
+    let mut wrapping = depot_input(&prices, 7, &[], &head_bytes, &[]);
+    wrapping[72..80].copy_from_slice(&(1u64 << 59).to_le_bytes());
+    assert_eq!(depot::play(&wrapping), refusal(9));
+}
+
+fn interrupts() {
+    let mut bench = bench(8, 4, &[A]);
+    bench.run_and_commit(A, &grow(&[1]).write(0, b"snack"));
+    let layout = grow(&[2]).write(4096, &[7; 100]);
+    assert_eq!(bench.host.interrupt(&bench.disk, &mut bench.output), 4);
+    assert_eq!(bench.open(A, &layout, BUDGET), 0);
+    assert_eq!(bench.piece(&layout.data[..50]), 0);
+    assert_eq!(bench.numbers(), [0]);
+    assert_eq!(bench.host.interrupt(&bench.disk, &mut bench.output), 0);
+    let records = bench.records();
+    let (size, root) = bench.host.starting_pair(&bench.disk);
+    assert_eq!(records[1], (20, 0, size, root, vec![], vec![]));
+    assert_eq!(bench.host.interrupt(&bench.disk, &mut bench.output), 0);
+    assert_eq!(bench.records().len(), 2);
+    assert_eq!(bench.piece(&layout.data[50..]), 0);
+    assert_eq!((bench.records().len(), bench.host.program.came), (2, layout.data.len() as u64));
+    assert_eq!(bench.host.reached(&bench.disk, &bench.stage), (0, size, root));
+    assert_eq!(bench.agree().answer, 13);
+    assert_eq!(bench.give_up().growth, 0);
+}
+
+fn commits() {
+    let mut bench = bench(8, 4, &[A, B]);
+    assert_eq!(bench.run_and_commit(A, &grow(&[1, 2, 3])).growth, 3 * 4096);
+    assert_eq!(bench.run_and_commit(B, &grow(&[1, 2]).write(0, b"b").write(4096, b"bb")).growth, 2 * 4096);
+    assert_eq!((bench.slots(0), bench.slots(1)), (vec![0, 1, 2], vec![3, 4]));
+    assert_eq!(bench.run_and_commit(A, &grow(&[2, 1])).growth, -2 * 4096);
+    assert_eq!(bench.host.places[0].slots, [0; 64]);
+    assert_eq!(bench.run_and_commit(B, &grow(&[3, 4, 5])).growth, 3 * 4096);
+    assert_eq!((bench.slots(0), bench.slots(1)), (vec![0], vec![3, 4, 1, 2, 5]));
+    assert_eq!(bench.disk[3 * 4096..3 * 4096 + 2], *b"b\0");
+    assert_eq!(bench.disk[4 * 4096..4 * 4096 + 2], *b"bb");
+    let (size, root) = bench.host.starting_pair(&bench.disk);
+    assert_eq!((size, root), (0, [0; 32]));
+    assert_eq!(bench.host.drop(&A), 0);
+    assert_eq!(bench.host.form(&[1; 32]), 0);
+    assert_eq!(bench.run_and_commit([1; 32], &grow(&[1, 2, 3])).growth, 3 * 4096);
+    assert_eq!(bench.slots(0), [0, 6, 7]);
+    assert_eq!(bench.run(B, &grow(&[6]))[0].0, 41);
+}
+
+fn stage_slots() {
+    let mut bench = bench(8, 2, &[A]);
+    bench.run_and_commit(A, &grow(&[1, 2]));
+    bench.run_and_commit(A, &grow(&[3, 4]));
+    let swap = Layout::default().numbers("Swap", &[0, 3 * 4096, 1]);
+    bench.run(A, &swap);
+    assert_eq!((bench.host.program.staged[0], bench.host.program.staged[3]), (1, 0));
+    bench.give_up();
+    let records = bench.run(A, &Layout::default().write(0, b"x").numbers("Swap", &[4096, 8192, 5]));
+    assert_eq!((records[0].0, records[1].0), (0, 40));
+    bench.give_up();
+    let layout = Layout::default().write(0, b"x").numbers("Swap", &[0, 1, 1]).numbers("Copy", &[4096, 8192, 9]).write(8192, b"y");
+    let numbers: Vec<u64> = bench.run(A, &layout).iter().map(|record| record.0).collect();
+    assert_eq!(numbers, [0, 0, 0, 40]);
+    bench.give_up();
+    let layout = Layout::default().write(3 * 4096, b"x").write(0, b"y").numbers("Truncate", &[3 * 4096]).write(4096, b"z");
+    bench.run(A, &layout);
+    assert_eq!(bench.host.program.staged[..4], [1, 0, NONE, NONE]);
+}
+
+/// "at commit that position is a kept one and keeps its disk slot" (decision 22).
+fn grow_over() {
+    let mut bench = bench(8, 4, &[A, B]);
+    bench.run_and_commit(A, &grow(&[1, 2]).write(4096, b"old"));
+    bench.run_and_commit(B, &grow(&[1]));
+    let records = bench.run(A, &grow(&[1, 2]).read(A, 4096, 3));
+    assert_eq!(records[2].5, [0, 0, 0]);
+    assert_eq!(bench.disk[4096..4099], *b"old");
+    assert_eq!(bench.agree().growth, 0);
+    assert_eq!(bench.slots(0), [0, 1]);
+    assert_eq!(bench.disk[4096..4099], [0, 0, 0]);
+}
+
+fn reads() {
+    let mut bench = bench(8, 4, &[A, B]);
+    bench.run_and_commit(A, &grow(&[1, 2, 3]).write(4096, &[5; 4096]));
+    bench.run_and_commit(B, &grow(&[1]).write(0, &[5; 4096]));
+    let five = tree::root(&[5; 4096]);
+    // the parent's committed sector is found although the stage holds another copy; its new bytes are not
+    let layout = Layout::default().write(4096, &[6; 4096]).read_sector(five, 64, 64).proved().read(A, 4096, 1);
+    let records = bench.run(A, &layout);
+    assert_eq!((records[1].0, records[1].5.clone(), records[2].5.clone()), (0, vec![5; 64], vec![6]));
+    assert!(tree::check(&five, 64, 1, 2, &records[1].5, &records[1].4));
+    assert_eq!(records[1].3, records[0].3);
+    bench.give_up();
+    assert_eq!(bench.run(A, &Layout::default().read_sector(tree::root(&[6; 4096]), 0, 1))[0].0, 25);
+    bench.give_up();
+    let read_only = head::read_only_word();
+    let records = bench.run(read_only, &Layout::default().read(B, 0, 64).proved().read_sector(five, 4032, 64));
+    assert_eq!((records[0].2, records[0].3, records[0].4.len()), (0, [0; 32], 6 * 32));
+    assert_eq!(records[1].0, 0);
+    assert_eq!(bench.agree(), Closed { answer: 0, tally: bench_tally(&records), growth: 0 });
+    for (layout, number) in [
+        (Layout::default().read(read_only, 0, 1), 25),
+        (grow(&[1]), 24),
+        (Layout::default().add("Write", &[vec![0; 8], vec![1; 8]]), 23),
+        (Layout::default().add("Write", &[vec![0; 8], vec![0; 7]]), 23),
+        (Layout::default().read(A, 1, 64).proved(), 27),
+        (Layout::default().read(A, 0, 0), 26),
+        (Layout::default().read(A, 4095, 2), 26),
+        (Layout::default().read(A, u64::MAX, 2), 26),
+        (Layout::default().read_sector(five, 4096, 1), 26),
+        (Layout::default().add("Read\0x", &[]), 21),
+        (Layout::default().add("Truncate", &[]), 21),
+    ] {
+        assert_eq!(bench.run(read_only, &layout)[0].0, number);
+        bench.give_up();
+    }
+}
+
+fn bench_tally(records: &[Record]) -> u64 {
+    7 + records.iter().map(|record| record.1).sum::<u64>()
+}
+
+fn agreements() {
+    let mut bench = bench(8, 4, &[A]);
+    let layout = grow(&[1]);
+    assert_eq!(bench.host.agree(&mut bench.disk, &bench.stage, 0, &[0; 32]).answer, 4);
+    assert_eq!(bench.host.agree(&mut bench.disk[..4096], &bench.stage, 0, &[0; 32]).answer, 2);
+    assert_eq!(bench.open(A, &layout, BUDGET), 0);
+    assert_eq!(bench.host.agree(&mut bench.disk, &bench.stage, 0, &[0; 32]).answer, 13);
+    assert_eq!(bench.piece(&layout.data), 0);
+    let root = tree::root(&[0; 4096]);
+    assert_eq!(bench.host.agree(&mut bench.disk, &bench.stage, 0, &root), Closed { answer: 14, tally: 5_242_933, growth: 0 });
+    assert_eq!((bench.host.places[0].size, bench.host.program.open), (0, false));
+    bench.run(A, &layout);
+    assert_eq!(bench.host.agree(&mut bench.disk, &bench.stage, 4096, &[0; 32]).answer, 14);
+    bench.run(A, &layout);
+    assert_eq!(bench.host.agree(&mut bench.disk, &bench.stage, 4096, &root).growth, 4096);
+    bench.run(head::read_only_word(), &Layout::default());
+    assert_eq!(bench.host.agree(&mut bench.disk, &bench.stage, 4096, &root).answer, 14);
+    // 22: an offset plus length that wraps, and one of length 0 past the declared length
+    for operand in [(u64::MAX, 2), (1, 0)] {
+        let layout = Layout { data: vec![], instructions: vec![instruction("Truncate", &[operand])] };
+        assert_eq!(bench.run(A, &layout)[0].0, 22);
+        bench.give_up();
+    }
+}
+
+fn orders() {
+    let mut bench = bench(8, 4, &[A, B]);
+    bench.run_and_commit(A, &grow(&[1, 2]));
+    bench.run(A, &grow(&[3]).write(0, b"x"));
+    assert!(bench.host.in_order());
+    let damages: [fn(&mut Host); 22] = [
+        |h| h.disk_sectors = 65,
+        |h| h.stage_sectors = 0,
+        |h| h.disk_sectors = 2,
+        |h| h.stage_sectors = 1,
+        |h| h.places[1].id = A,
+        |h| h.places[1].id = head::read_only_word(),
+        |h| h.places[0].size += 1,
+        |h| h.places[0].slots[1] = 0,
+        |h| h.places[0].slots[1] = 8,
+        |h| h.places[0].id[0] ^= 1,
+        |h| h.program.head.count = 33,
+        |h| h.program.head.declared = 65_537,
+        |h| h.program.head.instructions[1].operand_count = 5,
+        |h| h.program.output_length = 71,
+        |h| h.program.came = h.program.head.declared + 1,
+        |h| h.program.ran = 3,
+        |h| h.program.tally = BUDGET + 1,
+        |h| h.program.written = 16_384 - 71,
+        |h| h.program.running = 2 * SECTOR,
+        |h| h.program.running = 4 * SECTOR,
+        |h| h.program.staged[0] = h.program.staged[2],
+        |h| h.program.staged[0] = 4,
+    ];
+    for (i, damage) in damages.iter().enumerate() {
+        let mut host = bench.host.clone();
+        damage(&mut host);
+        assert!(!host.in_order(), "damage {i}");
+        assert_eq!(host.form(&[3; 32]), 1);
+    }
+    let harmless: [fn(&mut Host); 6] = [
+        |h| h.program.tally = 0,
+        |h| h.program.failed = true,
+        |h| (h.program.failed, h.program.written) = (true, 16_384),
+        |h| h.places[7].slots[0] = 200,
+        |h| h.program.head.instructions[2].operand_count = 5,
+        |h| h.program.staged[0] = NONE,
+    ];
+    for (i, change) in harmless.iter().enumerate() {
+        let mut host = bench.host.clone();
+        change(&mut host);
+        assert!(host.in_order(), "change {i}");
+    }
+}
+
+fn script() {
+    let fresh = Item::Fresh { disk: 8192, stage: 4096, fill: 7 };
+    let mut bytes = calls::item_bytes(&fresh);
+    bytes.extend(calls::item_bytes(&Item::Form { id: A }));
+    let out = calls::play(&bytes);
+    // answer, tally, growth; disk, stage; 8 places; no program; 4 digests
+    let first = 3 * 8 + 2 * 8 + 8 * 8 + 8 + 4 * 32;
+    assert_eq!(out.len(), first + first + 32 + 8);
+    assert_eq!(out[first - 128..first - 96], hash32(&[7; 262_144]));
+    assert_eq!(out[first - 32..first], hash32(&[7; 65_536]));
+    bytes.push(b'?');
+    assert_eq!(calls::play(&bytes), out);
+    bytes.pop();
+    bytes.extend(calls::item_bytes(&Item::Reached { disk: 262_145, stage: 0 }));
+    assert_eq!(calls::play(&bytes), out);
+}

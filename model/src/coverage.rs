@@ -1,0 +1,121 @@
+//! Counts of what occurred while the model ran: answers by call, record numbers by instruction, and other events.
+
+use std::cell::RefCell;
+use std::collections::BTreeMap;
+
+type Counts<Key> = RefCell<BTreeMap<Key, u64>>;
+
+thread_local! {
+    static ANSWERS: Counts<(&'static str, u64)> = Counts::default();
+    static RECORDS: Counts<(&'static str, u64)> = Counts::default();
+    static EVENTS: Counts<&'static str> = Counts::default();
+}
+
+pub fn answer(call: &'static str, number: u64) {
+    ANSWERS.with(|counts| *counts.borrow_mut().entry((call, number)).or_insert(0) += 1);
+}
+
+pub fn record(instruction: &'static str, number: u64) {
+    RECORDS.with(|counts| *counts.borrow_mut().entry((instruction, number)).or_insert(0) += 1);
+}
+
+pub fn event(name: &'static str) {
+    EVENTS.with(|counts| *counts.borrow_mut().entry(name).or_insert(0) += 1);
+}
+
+/// The answers that each call can give.
+const ANSWERS_POSSIBLE: [(&str, &[u64]); 12] = [
+    ("fresh", &[0, 2]),
+    ("form", &[0, 1, 3, 5, 6, 8]),
+    ("drop", &[0, 1, 3, 5, 7]),
+    ("open", &[0, 1, 2, 3, 7, 9, 10, 11]),
+    ("piece", &[0, 1, 2, 4, 12]),
+    ("interrupt", &[0, 1, 2, 4]),
+    ("give up", &[0, 1, 2, 4]),
+    ("agree", &[0, 1, 2, 4, 13, 14]),
+    ("reached", &[0, 1, 2, 4]),
+    ("poke", &[0]),
+    ("(malformed item)", &[0]),
+    ("depot", &[0, 5, 6, 7, 8, 9, 10, 11, 12, 13]),
+];
+
+/// The record numbers that each instruction can have. 25 needs a contract or a root, 41 a new size.
+const RECORDS_POSSIBLE: [(&str, &[u64]); 7] = [
+    ("Read", &[0, 20, 21, 22, 23, 25, 26, 27, 28, 42]),
+    ("ReadSector", &[0, 20, 21, 22, 23, 25, 26, 27, 28, 42]),
+    ("Write", &[0, 20, 21, 22, 23, 24, 26, 27, 28, 40, 42]),
+    ("Copy", &[0, 20, 21, 22, 23, 24, 26, 27, 28, 40, 42]),
+    ("Swap", &[0, 20, 21, 22, 23, 24, 26, 27, 28, 40, 42]),
+    ("Truncate", &[0, 20, 21, 22, 23, 24, 26, 27, 28, 40, 41, 42]),
+    ("(unknown)", &[20, 21]),
+];
+
+const EVENTS_POSSIBLE: [&str; 34] = [
+    "Read of the parent",
+    "Read of another contract",
+    "ReadSector found in another contract",
+    "ReadSector found in the parent",
+    "ReadSector found in the parent, position staged",
+    "ReadSector found in the parent, position cut off",
+    "proof given, with hashes",
+    "Copy overlapping, upward",
+    "Copy overlapping, downward",
+    "Copy between sectors",
+    "Swap overlapping, upward",
+    "Swap overlapping, downward",
+    "Swap with itself",
+    "Swap of two staged sectors",
+    "Swap taking one slot",
+    "Swap taking two slots",
+    "growth",
+    "growth over a committed position that was cut off",
+    "Truncate to the same size",
+    "shrinking, the dropped position staged",
+    "shrinking, the dropped position not staged",
+    "commit, larger",
+    "commit, smaller",
+    "commit, same size",
+    "commit, read-only",
+    "commit, disk slots not in line",
+    "give up with changes staged",
+    "piece after the end",
+    "piece after a failure",
+    "interrupt of an ended program",
+    "interrupt of a failed program",
+    "program in order that no run makes",
+    "contract at 64 sectors",
+    "several pieces needed for one instruction",
+];
+
+/// Prints all counts; what could occur and did not is marked.
+pub fn print() {
+    println!("answers by call (number:count):");
+    ANSWERS.with(|counts| print_table(&ANSWERS_POSSIBLE, &counts.borrow()));
+    println!("record numbers by instruction (number:count):");
+    RECORDS.with(|counts| print_table(&RECORDS_POSSIBLE, &counts.borrow()));
+    println!("events:");
+    EVENTS.with(|counts| print_events(&counts.borrow()));
+}
+
+fn print_table(possible: &[(&'static str, &[u64])], counts: &BTreeMap<(&'static str, u64), u64>) {
+    let mut missing = Vec::new();
+    for (name, numbers) in possible {
+        let shown: Vec<String> =
+            counts.iter().filter(|((n, _), _)| n == name).map(|((_, number), count)| format!("{number}:{count}")).collect();
+        println!("  {name:17} {}", shown.join(" "));
+        missing.extend(numbers.iter().filter(|&&number| !counts.contains_key(&(*name, number))).map(|n| format!("{name} {n}")));
+        for (_, number) in counts.keys().filter(|(n, number)| n == name && !numbers.contains(number)) {
+            println!("    NOT THOUGHT POSSIBLE: {name} {number}");
+        }
+    }
+    println!("  missing: {}", if missing.is_empty() { "none".to_string() } else { missing.join(", ") });
+}
+
+fn print_events(counts: &BTreeMap<&'static str, u64>) {
+    for name in EVENTS_POSSIBLE {
+        println!("  {:>9} {name}", counts.get(name).copied().unwrap_or(0));
+    }
+    for name in counts.keys().filter(|name| !EVENTS_POSSIBLE.contains(name)) {
+        println!("    NOT LISTED: {name}");
+    }
+}

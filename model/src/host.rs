@@ -1,0 +1,282 @@
+//! "Host, areas, numbers": the host's record, fresh, form, drop, and whether it is in order.
+
+use crate::head::{self, Head};
+
+pub const SECTOR: u64 = 4096;
+/// "Disk area: 1 to 64 whole sectors. Stage area: 1 to 16."
+pub const MOST_DISK: u64 = 64;
+pub const MOST_STAGE: u64 = 16;
+/// "an output length, 72 to 65,536"
+pub const LEAST_OUTPUT: u64 = 72;
+pub const MOST_OUTPUT: u64 = 65_536;
+/// A position with no stage copy.
+pub const NONE: u8 = 255;
+
+#[derive(Clone, Copy)]
+pub struct Place {
+    pub held: bool,
+    pub id: [u8; 32],
+    pub size: u64,
+    /// The disk slot of each position; those at and past the size are not looked at.
+    pub slots: [u8; 64],
+}
+
+#[derive(Clone)]
+pub struct Program {
+    pub open: bool,
+    pub head: Head,
+    pub output_length: u64,
+    pub budget: u64,
+    pub prices: [u16; 7],
+    pub came: u64,
+    pub ran: u64,
+    pub tally: u64,
+    pub written: u64,
+    pub failed: bool,
+    pub running: u64,
+    /// The stage slot of each position, or `NONE`.
+    pub staged: [u8; 64],
+}
+
+#[derive(Clone)]
+pub struct Host {
+    pub disk_sectors: u64,
+    pub stage_sectors: u64,
+    /// "At most 8 contracts"
+    pub places: [Place; 8],
+    pub program: Program,
+}
+
+/// "A fresh place, a dropped place and a closed program are all zeros again" (decision 18).
+pub const EMPTY_PLACE: Place = Place { held: false, id: [0; 32], size: 0, slots: [0; 64] };
+
+pub fn closed_program() -> Program {
+    Program {
+        open: false,
+        head: Head::default(),
+        output_length: 0,
+        budget: 0,
+        prices: [0; 7],
+        came: 0,
+        ran: 0,
+        tally: 0,
+        written: 0,
+        failed: false,
+        running: 0,
+        staged: [0; 64],
+    }
+}
+
+/// "A fresh host holds no contract and no open program." "Making a host with bad lengths answers 2 and a host with no slots".
+pub fn fresh(disk_length: u64, stage_length: u64) -> (u64, Host) {
+    let good = whole_sectors(disk_length, MOST_DISK) && whole_sectors(stage_length, MOST_STAGE);
+    let (disk_sectors, stage_sectors) = if good { (disk_length / SECTOR, stage_length / SECTOR) } else { (0, 0) };
+    let host = Host { disk_sectors, stage_sectors, places: [EMPTY_PLACE; 8], program: closed_program() };
+    (if good { 0 } else { 2 }, host)
+}
+
+/// "1 to 64 whole sectors", "1 to 16"
+fn whole_sectors(length: u64, most: u64) -> bool {
+    length % SECTOR == 0 && length / SECTOR >= 1 && length / SECTOR <= most
+}
+
+impl Host {
+    pub fn disk_length(&self) -> u64 {
+        self.disk_sectors * SECTOR
+    }
+
+    pub fn stage_length(&self) -> u64 {
+        self.stage_sectors * SECTOR
+    }
+
+    /// The place that holds the id.
+    pub fn find(&self, id: &[u8; 32]) -> Option<usize> {
+        (0..8).find(|&p| self.places[p].held && self.places[p].id == *id)
+    }
+
+    pub fn read_only_mode(&self) -> bool {
+        self.program.head.contract == head::read_only_word()
+    }
+
+    /// The place of the open program's parent; none in read-only mode. Decision 15.
+    pub fn parent(&self) -> Option<usize> {
+        self.find(&self.program.head.contract)
+    }
+
+    /// The parent's committed size; 0 in read-only mode.
+    pub fn starting_size(&self) -> u64 {
+        self.parent().map_or(0, |p| self.places[p].size)
+    }
+
+    /// "all other contracts' sizes": all held contracts but the parent (decision 16).
+    pub fn other_sizes(&self) -> u128 {
+        let parent = self.parent();
+        (0..8).filter(|&p| self.places[p].held && Some(p) != parent).map(|p| self.places[p].size as u128).sum()
+    }
+
+    /// "Host in order"
+    pub fn in_order(&self) -> bool {
+        self.lengths_in_order() && self.contracts_in_order() && (!self.program.open || self.program_in_order())
+    }
+
+    /// "lengths as above"
+    fn lengths_in_order(&self) -> bool {
+        self.disk_sectors >= 1
+            && self.disk_sectors <= MOST_DISK
+            && self.stage_sectors >= 1
+            && self.stage_sectors <= MOST_STAGE
+    }
+
+    /// "ids differ, none the ReadOnly word; sizes whole sectors; each committed position has a disk slot of its own, within the
+    /// disk."
+    fn contracts_in_order(&self) -> bool {
+        let mut ids = Vec::new();
+        let mut slots = Vec::new();
+        for place in self.places.iter().filter(|place| place.held) {
+            if place.id == head::read_only_word() || ids.contains(&place.id) {
+                return false;
+            }
+            ids.push(place.id);
+            if place.size % SECTOR != 0 || place.size / SECTOR > MOST_DISK {
+                return false;
+            }
+            for slot in &place.slots[..(place.size / SECTOR) as usize] {
+                if *slot as u64 >= self.disk_sectors || slots.contains(slot) {
+                    return false;
+                }
+                slots.push(*slot);
+            }
+        }
+        true
+    }
+
+    /// "For an open program: ..."
+    fn program_in_order(&self) -> bool {
+        let program = &self.program;
+        // "parent present, or read-only mode with running size 0"
+        if self.read_only_mode() {
+            if program.running != 0 {
+                return false;
+            }
+        } else if self.parent().is_none() {
+            return false;
+        }
+        // "head and output length within limits"
+        if !head::within_limits(&program.head) {
+            return false;
+        }
+        if program.output_length < LEAST_OUTPUT || program.output_length > MOST_OUTPUT {
+            return false;
+        }
+        // "bytes come within the declared length; instructions run within their count; tally within budget"
+        if program.came > program.head.declared || program.ran > program.head.count || program.tally > program.budget {
+            return false;
+        }
+        // "written bytes within the output length, with 72 left unless it failed"
+        let left = if program.failed { 0 } else { 72 };
+        if program.written as u128 + left > program.output_length as u128 {
+            return false;
+        }
+        // "running size whole sectors and, with the other sizes, within the disk"
+        if program.running % SECTOR != 0 || program.running as u128 + self.other_sizes() > self.disk_length() as u128 {
+            return false;
+        }
+        self.stage_in_order()
+    }
+
+    /// "each staged position below the running size, in a stage slot of its own; each position past the starting size staged"
+    fn stage_in_order(&self) -> bool {
+        let program = &self.program;
+        let mut slots = Vec::new();
+        for position in 0..64u64 {
+            let slot = program.staged[position as usize];
+            let at = position * SECTOR;
+            if slot == NONE {
+                if at >= self.starting_size() && at < program.running {
+                    return false;
+                }
+            } else {
+                if at >= program.running || slot as u64 >= self.stage_sectors || slots.contains(&slot) {
+                    return false;
+                }
+                slots.push(slot);
+            }
+        }
+        true
+    }
+
+    /// "forming takes the lowest free place, with size 0". Checks 1, 3, 5, 6, 8 "in number order".
+    pub fn form(&mut self, id: &[u8; 32]) -> u64 {
+        if !self.in_order() {
+            return 1;
+        }
+        if self.program.open {
+            return 3;
+        }
+        if *id == head::read_only_word() {
+            return 5;
+        }
+        if self.find(id).is_some() {
+            return 6;
+        }
+        let Some(free) = (0..8).find(|&p| !self.places[p].held) else {
+            return 8;
+        };
+        self.places[free] = Place { held: true, id: *id, ..EMPTY_PLACE };
+        0
+    }
+
+    /// "dropping, at any size, frees place and slots". Checks 1, 3, 5, 7.
+    pub fn drop(&mut self, id: &[u8; 32]) -> u64 {
+        if !self.in_order() {
+            return 1;
+        }
+        if self.program.open {
+            return 3;
+        }
+        if *id == head::read_only_word() {
+            return 5;
+        }
+        let Some(place) = self.find(id) else {
+            return 7;
+        };
+        self.places[place] = EMPTY_PLACE;
+        0
+    }
+
+    /// The bytes of the sector that a committed position holds.
+    pub fn committed_sector<'a>(&self, disk: &'a [u8], place: usize, position: u64) -> &'a [u8] {
+        sector(disk, self.places[place].slots[position as usize])
+    }
+
+    /// All bytes of a contract as committed.
+    pub fn committed_bytes(&self, disk: &[u8], place: usize) -> Vec<u8> {
+        let positions = self.places[place].size / SECTOR;
+        (0..positions).flat_map(|position| self.committed_sector(disk, place, position).to_vec()).collect()
+    }
+
+    /// "The parent is read from the stage where it has a copy, else from the disk".
+    pub fn running_sector<'a>(&self, disk: &'a [u8], stage: &'a [u8], position: u64) -> &'a [u8] {
+        match self.program.staged[position as usize] {
+            NONE => self.committed_sector(disk, self.parent().unwrap(), position),
+            slot => sector(stage, slot),
+        }
+    }
+
+    /// All bytes of the parent as the program sees them; none in read-only mode.
+    pub fn running_bytes(&self, disk: &[u8], stage: &[u8]) -> Vec<u8> {
+        let positions = self.program.running / SECTOR;
+        (0..positions).flat_map(|position| self.running_sector(disk, stage, position).to_vec()).collect()
+    }
+}
+
+/// The sector in a slot of an area.
+pub fn sector(area: &[u8], slot: u8) -> &[u8] {
+    let from = slot as usize * SECTOR as usize;
+    &area[from..from + SECTOR as usize]
+}
+
+pub fn sector_mut(area: &mut [u8], slot: u8) -> &mut [u8] {
+    let from = slot as usize * SECTOR as usize;
+    &mut area[from..from + SECTOR as usize]
+}
