@@ -65,9 +65,19 @@ fn compress(h: &mut [u64; 8], block: &[u8; 128], t: u128, last: bool) {
     if last {
         v[14] = !v[14];
     }
-    for i in 0..12 {
-        round(&mut v, &m, &SIGMA[i % 10]);
-    }
+    // written out, so that the schedule's numbers are constants
+    round(&mut v, &m, &SIGMA[0]);
+    round(&mut v, &m, &SIGMA[1]);
+    round(&mut v, &m, &SIGMA[2]);
+    round(&mut v, &m, &SIGMA[3]);
+    round(&mut v, &m, &SIGMA[4]);
+    round(&mut v, &m, &SIGMA[5]);
+    round(&mut v, &m, &SIGMA[6]);
+    round(&mut v, &m, &SIGMA[7]);
+    round(&mut v, &m, &SIGMA[8]);
+    round(&mut v, &m, &SIGMA[9]);
+    round(&mut v, &m, &SIGMA[0]);
+    round(&mut v, &m, &SIGMA[1]);
     for i in 0..8 {
         h[i] ^= v[i] ^ v[i + 8];
     }

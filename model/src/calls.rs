@@ -246,7 +246,10 @@ impl Player {
     /// Counts, for the coverage that `run` prints.
     fn note_events(&self, item: &Item) {
         let program = &self.host.program;
-        if !self.host.in_order() || !program.open {
+        if let Some(condition) = self.host.disorder() {
+            return coverage::disorder(condition);
+        }
+        if !program.open {
             return;
         }
         let staged = program.staged.iter().any(|&slot| slot != NONE);
@@ -457,6 +460,19 @@ pub fn play(bytes: &[u8]) -> Vec<u8> {
         report(&player, &answered, &mut out);
     }
     out
+}
+
+/// Makes the calls of a script and writes nothing, for the counts alone.
+pub fn play_unreported(bytes: &[u8]) {
+    let mut player = new_player();
+    let mut reader = Reader { rest: bytes };
+    while !reader.rest.is_empty() {
+        let Some(item) = read_item(&mut reader) else {
+            coverage::answer("(malformed item)", 0);
+            break;
+        };
+        player.make(&item);
+    }
 }
 
 /// The items of a script with where each one's report starts, for showing where two outputs differ.

@@ -9,6 +9,7 @@ thread_local! {
     static ANSWERS: Counts<(&'static str, u64)> = Counts::default();
     static RECORDS: Counts<(&'static str, u64)> = Counts::default();
     static EVENTS: Counts<&'static str> = Counts::default();
+    static DISORDERS: Counts<&'static str> = Counts::default();
 }
 
 pub fn answer(call: &'static str, number: u64) {
@@ -21,6 +22,11 @@ pub fn record(instruction: &'static str, number: u64) {
 
 pub fn event(name: &'static str) {
     EVENTS.with(|counts| *counts.borrow_mut().entry(name).or_insert(0) += 1);
+}
+
+/// A call met a host of which this condition of order does not hold.
+pub fn disorder(condition: &'static str) {
+    DISORDERS.with(|counts| *counts.borrow_mut().entry(condition).or_insert(0) += 1);
 }
 
 /// The answers that each call can give.
@@ -87,6 +93,32 @@ const EVENTS_POSSIBLE: [&str; 34] = [
     "several pieces needed for one instruction",
 ];
 
+const DISORDERS_POSSIBLE: [&str; 23] = [
+    "disk length as above",
+    "stage length as above",
+    "ids differ",
+    "none the ReadOnly word",
+    "sizes whole sectors",
+    "each committed position has a disk slot",
+    "a disk slot of its own",
+    "within the disk",
+    "parent present",
+    "read-only mode with running size 0",
+    "head within limits",
+    "output length within limits",
+    "bytes come within the declared length",
+    "instructions run within their count",
+    "tally within budget",
+    "written bytes within the output length",
+    "with 72 left unless it failed",
+    "running size whole sectors",
+    "with the other sizes, within the disk",
+    "each position past the starting size staged",
+    "each staged position below the running size",
+    "in a stage slot",
+    "a stage slot of its own",
+];
+
 /// Prints all counts; what could occur and did not is marked.
 pub fn print() {
     println!("answers by call (number:count):");
@@ -94,7 +126,9 @@ pub fn print() {
     println!("record numbers by instruction (number:count):");
     RECORDS.with(|counts| print_table(&RECORDS_POSSIBLE, &counts.borrow()));
     println!("events:");
-    EVENTS.with(|counts| print_events(&counts.borrow()));
+    EVENTS.with(|counts| print_list(&EVENTS_POSSIBLE, &counts.borrow()));
+    println!("calls on a host not in order, by the first condition that fails:");
+    DISORDERS.with(|counts| print_list(&DISORDERS_POSSIBLE, &counts.borrow()));
 }
 
 fn print_table(possible: &[(&'static str, &[u64])], counts: &BTreeMap<(&'static str, u64), u64>) {
@@ -111,11 +145,11 @@ fn print_table(possible: &[(&'static str, &[u64])], counts: &BTreeMap<(&'static 
     println!("  missing: {}", if missing.is_empty() { "none".to_string() } else { missing.join(", ") });
 }
 
-fn print_events(counts: &BTreeMap<&'static str, u64>) {
-    for name in EVENTS_POSSIBLE {
+fn print_list(possible: &[&'static str], counts: &BTreeMap<&'static str, u64>) {
+    for name in possible {
         println!("  {:>9} {name}", counts.get(name).copied().unwrap_or(0));
     }
-    for name in counts.keys().filter(|name| !EVENTS_POSSIBLE.contains(name)) {
+    for name in counts.keys().filter(|name| !possible.contains(name)) {
         println!("    NOT LISTED: {name}");
     }
 }

@@ -116,76 +116,97 @@ impl Host {
 
     /// "Host in order"
     pub fn in_order(&self) -> bool {
-        self.lengths_in_order() && self.contracts_in_order() && (!self.program.open || self.program_in_order())
+        self.disorder().is_none()
     }
 
-    /// "lengths as above"
-    fn lengths_in_order(&self) -> bool {
-        self.disk_sectors >= 1
-            && self.disk_sectors <= MOST_DISK
-            && self.stage_sectors >= 1
-            && self.stage_sectors <= MOST_STAGE
+    /// The first of document 01's conditions of order that fails, in its own words.
+    pub fn disorder(&self) -> Option<&'static str> {
+        let found = self.contracts_disorder();
+        if found.is_some() || !self.program.open {
+            return found;
+        }
+        self.program_disorder().or_else(|| self.stage_disorder())
     }
 
-    /// "ids differ, none the ReadOnly word; sizes whole sectors; each committed position has a disk slot of its own, within the
-    /// disk."
-    fn contracts_in_order(&self) -> bool {
+    /// "lengths as above; ids differ, none the ReadOnly word; sizes whole sectors; each committed position has a disk slot of its
+    /// own, within the disk."
+    fn contracts_disorder(&self) -> Option<&'static str> {
+        if self.disk_sectors < 1 || self.disk_sectors > MOST_DISK {
+            return Some("disk length as above");
+        }
+        if self.stage_sectors < 1 || self.stage_sectors > MOST_STAGE {
+            return Some("stage length as above");
+        }
         let mut ids = Vec::new();
         let mut slots = Vec::new();
         for place in self.places.iter().filter(|place| place.held) {
-            if place.id == head::read_only_word() || ids.contains(&place.id) {
-                return false;
+            if ids.contains(&place.id) {
+                return Some("ids differ");
             }
             ids.push(place.id);
-            if place.size % SECTOR != 0 || place.size / SECTOR > MOST_DISK {
-                return false;
+            if place.id == head::read_only_word() {
+                return Some("none the ReadOnly word");
+            }
+            if place.size % SECTOR != 0 {
+                return Some("sizes whole sectors");
+            }
+            if place.size / SECTOR > MOST_DISK {
+                return Some("each committed position has a disk slot");
             }
             for slot in &place.slots[..(place.size / SECTOR) as usize] {
-                if *slot as u64 >= self.disk_sectors || slots.contains(slot) {
-                    return false;
+                if slots.contains(slot) {
+                    return Some("a disk slot of its own");
                 }
                 slots.push(*slot);
+                if *slot as u64 >= self.disk_sectors {
+                    return Some("within the disk");
+                }
             }
         }
-        true
+        None
     }
 
     /// "For an open program: ..."
-    fn program_in_order(&self) -> bool {
+    fn program_disorder(&self) -> Option<&'static str> {
         let program = &self.program;
-        // "parent present, or read-only mode with running size 0"
-        if self.read_only_mode() {
-            if program.running != 0 {
-                return false;
-            }
-        } else if self.parent().is_none() {
-            return false;
+        if self.parent().is_none() && !self.read_only_mode() {
+            return Some("parent present");
         }
-        // "head and output length within limits"
+        if self.read_only_mode() && program.running != 0 {
+            return Some("read-only mode with running size 0");
+        }
         if !head::within_limits(&program.head) {
-            return false;
+            return Some("head within limits");
         }
         if program.output_length < LEAST_OUTPUT || program.output_length > MOST_OUTPUT {
-            return false;
+            return Some("output length within limits");
         }
-        // "bytes come within the declared length; instructions run within their count; tally within budget"
-        if program.came > program.head.declared || program.ran > program.head.count || program.tally > program.budget {
-            return false;
+        if program.came > program.head.declared {
+            return Some("bytes come within the declared length");
         }
-        // "written bytes within the output length, with 72 left unless it failed"
-        let left = if program.failed { 0 } else { 72 };
-        if program.written as u128 + left > program.output_length as u128 {
-            return false;
+        if program.ran > program.head.count {
+            return Some("instructions run within their count");
         }
-        // "running size whole sectors and, with the other sizes, within the disk"
-        if program.running % SECTOR != 0 || program.running as u128 + self.other_sizes() > self.disk_length() as u128 {
-            return false;
+        if program.tally > program.budget {
+            return Some("tally within budget");
         }
-        self.stage_in_order()
+        if program.written > program.output_length {
+            return Some("written bytes within the output length");
+        }
+        if !program.failed && program.output_length - program.written < 72 {
+            return Some("with 72 left unless it failed");
+        }
+        if program.running % SECTOR != 0 {
+            return Some("running size whole sectors");
+        }
+        if program.running as u128 + self.other_sizes() > self.disk_length() as u128 {
+            return Some("with the other sizes, within the disk");
+        }
+        None
     }
 
     /// "each staged position below the running size, in a stage slot of its own; each position past the starting size staged"
-    fn stage_in_order(&self) -> bool {
+    fn stage_disorder(&self) -> Option<&'static str> {
         let program = &self.program;
         let mut slots = Vec::new();
         for position in 0..64u64 {
@@ -193,16 +214,22 @@ impl Host {
             let at = position * SECTOR;
             if slot == NONE {
                 if at >= self.starting_size() && at < program.running {
-                    return false;
+                    return Some("each position past the starting size staged");
                 }
-            } else {
-                if at >= program.running || slot as u64 >= self.stage_sectors || slots.contains(&slot) {
-                    return false;
-                }
-                slots.push(slot);
+                continue;
             }
+            if at >= program.running {
+                return Some("each staged position below the running size");
+            }
+            if slot as u64 >= self.stage_sectors {
+                return Some("in a stage slot");
+            }
+            if slots.contains(&slot) {
+                return Some("a stage slot of its own");
+            }
+            slots.push(slot);
         }
-        true
+        None
     }
 
     /// "forming takes the lowest free place, with size 0". Checks 1, 3, 5, 6, 8 "in number order".
@@ -252,7 +279,8 @@ impl Host {
     /// All bytes of a contract as committed.
     pub fn committed_bytes(&self, disk: &[u8], place: usize) -> Vec<u8> {
         let positions = self.places[place].size / SECTOR;
-        (0..positions).flat_map(|position| self.committed_sector(disk, place, position).to_vec()).collect()
+        let sectors: Vec<&[u8]> = (0..positions).map(|position| self.committed_sector(disk, place, position)).collect();
+        sectors.concat()
     }
 
     /// "The parent is read from the stage where it has a copy, else from the disk".
@@ -266,7 +294,8 @@ impl Host {
     /// All bytes of the parent as the program sees them; none in read-only mode.
     pub fn running_bytes(&self, disk: &[u8], stage: &[u8]) -> Vec<u8> {
         let positions = self.program.running / SECTOR;
-        (0..positions).flat_map(|position| self.running_sector(disk, stage, position).to_vec()).collect()
+        let sectors: Vec<&[u8]> = (0..positions).map(|position| self.running_sector(disk, stage, position)).collect();
+        sectors.concat()
     }
 }
 

@@ -1,15 +1,19 @@
 //! An independent model of the depot machine, in plain Rust. See model/README.md.
 
+mod batch;
 mod blake2b;
 mod calls;
 mod check;
 mod coverage;
 mod depot;
+mod draft;
+mod gen;
 mod head;
 mod host;
 mod instruction;
 mod memo;
 mod program;
+mod random;
 mod tree;
 
 use std::io::{Read, Write};
@@ -20,6 +24,10 @@ fn standard_input() -> Vec<u8> {
     bytes
 }
 
+fn number(word: &str) -> u64 {
+    word.parse().expect("a number")
+}
+
 fn main() {
     let arguments: Vec<String> = std::env::args().skip(1).collect();
     let words: Vec<&str> = arguments.iter().map(String::as_str).collect();
@@ -27,8 +35,11 @@ fn main() {
         ["depot"] => std::io::stdout().write_all(&depot::play(&standard_input())).unwrap(),
         ["calls"] => std::io::stdout().write_all(&calls::play(&standard_input())).unwrap(),
         ["check"] => check::run(),
+        ["gen", seed, count, directory] => batch::make(number(seed), number(count), directory),
+        ["batch", inputs, label] => batch::run(inputs, label),
+        ["extract", inputs, which] => batch::extract(inputs, number(which) as usize),
         _ => {
-            eprintln!("use: model depot | calls | check");
+            eprintln!("use: model depot | calls | check | gen SEED N DIRECTORY | batch INPUTS LABEL | extract INPUTS I");
             std::process::exit(2);
         }
     }

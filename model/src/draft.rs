@@ -1,0 +1,498 @@
+//! Random programs: mostly well-formed, with effects that later instructions see, and a share of damage.
+
+use crate::head::{self, filled, Head, Instruction, Operand};
+use crate::host::{Host, SECTOR};
+use crate::random::Random;
+use crate::tree;
+
+/// What a program to be made can meet.
+pub struct Scene {
+    pub contract: [u8; 32],
+    pub read_only: bool,
+    /// The parent's size, and how many sectors it can have.
+    pub size: u64,
+    pub most_sectors: u64,
+    pub stage_sectors: u64,
+    pub others: Vec<([u8; 32], u64)>,
+    /// The roots of all committed sectors.
+    pub roots: Vec<[u8; 32]>,
+}
+
+/// One instruction: name, inputs, whether a proof is asked.
+struct Step {
+    name: [u8; 16],
+    inputs: Vec<Vec<u8>>,
+    proof: bool,
+}
+
+#[derive(Clone, Copy, PartialEq)]
+enum Kind {
+    Read,
+    ReadSector,
+    Write,
+    Copy,
+    Swap,
+    Truncate,
+}
+
+/// Weights of the six instructions in a program.
+const MOODS: [[u64; 6]; 5] =
+    [[14, 10, 26, 14, 14, 22], [55, 20, 10, 3, 3, 9], [6, 2, 12, 5, 5, 70], [5, 2, 13, 35, 35, 10], [10, 10, 60, 5, 5, 10]];
+
+pub fn scene(host: &Host, disk: &[u8], contract: [u8; 32]) -> Scene {
+    let read_only = contract == head::read_only_word();
+    let parent = host.find(&contract);
+    let held: Vec<usize> = (0..8).filter(|&p| host.places[p].held).collect();
+    let other_sectors: u64 = held.iter().filter(|&&p| Some(p) != parent).map(|&p| host.places[p].size / SECTOR).sum();
+    let mut roots = Vec::new();
+    for &place in &held {
+        for position in 0..host.places[place].size / SECTOR {
+            roots.push(tree::root(host.committed_sector(disk, place, position)));
+        }
+    }
+    Scene {
+        contract,
+        read_only,
+        size: parent.map_or(0, |p| host.places[p].size),
+        most_sectors: host.disk_sectors.saturating_sub(other_sectors),
+        stage_sectors: host.stage_sectors,
+        others: held.iter().filter(|&&p| Some(p) != parent).map(|&p| (host.places[p].id, host.places[p].size)).collect(),
+        roots,
+    }
+}
+
+/// A program being made: the size it would have reached and the sectors it would have staged.
+struct Draft<'a> {
+    random: &'a mut Random,
+    scene: &'a Scene,
+    mood: [u64; 6],
+    /// How often of 1,000 a change of size is a growth.
+    upward: u64,
+    size: u64,
+    staged: [bool; 65],
+    bytes: usize,
+}
+
+/// A random program: its head and its data.
+pub fn program(random: &mut Random, scene: &Scene) -> (Head, Vec<u8>) {
+    let mood = MOODS[random.weighted(&[60, 12, 10, 12, 6])];
+    let steps = match random.weighted(&[4, 60, 25, 8, 3]) {
+        0 => 0,
+        1 => random.within(1, 6),
+        2 => random.within(5, 12),
+        3 => random.within(10, 31),
+        _ => 32,
+    };
+    let upward = random.pick(&[850, 600, 250]);
+    let mut draft = Draft { random, scene, mood, upward, size: scene.size, staged: [false; 65], bytes: 0 };
+    let mut made = Vec::new();
+    for _ in 0..steps {
+        let step = draft.step();
+        draft.bytes += step.inputs.iter().map(Vec::len).sum::<usize>();
+        if draft.bytes > 64_000 {
+            break;
+        }
+        made.push(step);
+    }
+    for step in &mut made {
+        if random.chance(22) {
+            damage_step(random, step);
+        }
+    }
+    let (mut head, data) = lay_out(random, scene.contract, &made);
+    damage_operands(random, &mut head);
+    (head, data)
+}
+
+/// A program without a fault that grows the parent and fills the new sectors, to have something to read and change.
+pub fn filling_program(random: &mut Random, scene: &Scene, sectors: u64) -> (Head, Vec<u8>) {
+    let before = scene.size / SECTOR;
+    let mut steps = Vec::new();
+    let mut step = |name: &str, inputs: Vec<Vec<u8>>| {
+        steps.push(Step { name: filled(name.as_bytes()), inputs, proof: false });
+    };
+    for sector in before..before + sectors {
+        step("Truncate", vec![((sector + 1) * SECTOR).to_le_bytes().to_vec()]);
+    }
+    for sector in before..before + sectors {
+        let length = random.pick(&[SECTOR, 100, 64]) as usize;
+        let data = contents(random, length);
+        let offset = sector * SECTOR + if length == SECTOR as usize { 0 } else { random.below(3000) };
+        step("Write", vec![offset.to_le_bytes().to_vec(), [&(length as u64).to_le_bytes()[..], &data].concat()]);
+    }
+    lay_out(random, scene.contract, &steps)
+}
+
+impl Draft<'_> {
+    fn step(&mut self) -> Step {
+        let kind = self.kind();
+        let proof = match kind {
+            Kind::Read | Kind::ReadSector => self.random.chance(400),
+            _ => self.random.chance(8),
+        };
+        let inputs = match kind {
+            Kind::Read => self.read(proof),
+            Kind::ReadSector => self.read_sector(proof),
+            Kind::Write => self.write(),
+            Kind::Copy => self.two_spans(false),
+            Kind::Swap => self.two_spans(true),
+            Kind::Truncate => self.truncate(),
+        };
+        Step { name: filled(word(kind).as_bytes()), inputs, proof }
+    }
+
+    fn kind(&mut self) -> Kind {
+        const KINDS: [Kind; 6] = [Kind::Read, Kind::ReadSector, Kind::Write, Kind::Copy, Kind::Swap, Kind::Truncate];
+        if self.scene.read_only {
+            return KINDS[self.random.weighted(&[450, 450, 8, 8, 8, 8])];
+        }
+        let kind = KINDS[self.random.weighted(&self.mood)];
+        let vain = match kind {
+            Kind::ReadSector => self.scene.roots.is_empty(),
+            Kind::Truncate => false,
+            _ => self.size == 0,
+        };
+        if vain && self.random.chance(950) {
+            return if self.size == 0 { Kind::Truncate } else { Kind::Write };
+        }
+        kind
+    }
+
+    fn number(&self, number: u64) -> Vec<u8> {
+        number.to_le_bytes().to_vec()
+    }
+
+    /// An offset in a sector and a length; whole segments if a proof is to be had.
+    fn inner_span(&mut self, segments: bool) -> (u64, u64) {
+        let random = &mut *self.random;
+        if segments {
+            let first = random.below(64);
+            let end = if random.chance(300) { first + 1 } else { random.within(first + 1, 64) };
+            return if random.chance(150) { (0, SECTOR) } else { (first * 64, (end - first) * 64) };
+        }
+        match random.weighted(&[14, 14, 12, 34, 26]) {
+            0 => (0, SECTOR),
+            1 => self.inner_span(true),
+            2 => {
+                let from = random.below(SECTOR);
+                (from, SECTOR - from)
+            }
+            3 => {
+                let from = random.below(SECTOR);
+                (from, random.within(1, 8.min(SECTOR - from)))
+            }
+            _ => {
+                let from = random.below(SECTOR);
+                (from, random.within(1, 300.min(SECTOR - from)))
+            }
+        }
+    }
+
+    /// An offset and a length within `size` bytes; now and then a bad one.
+    fn span(&mut self, size: u64, segments: bool) -> (u64, u64) {
+        let (inner, length) = self.inner_span(segments);
+        let random = &mut *self.random;
+        if random.chance(12) {
+            return bad_span(random, size);
+        }
+        if size == 0 {
+            return (inner, length);
+        }
+        (random.below(size / SECTOR) * SECTOR + inner, length)
+    }
+
+    fn read(&mut self, proof: bool) -> Vec<Vec<u8>> {
+        let (contract, size) = self.contract_to_read();
+        let segments = proof && !self.random.chance(30);
+        let (offset, length) = self.span(size, segments);
+        vec![contract.to_vec(), self.number(offset), self.number(length)]
+    }
+
+    fn contract_to_read(&mut self) -> ([u8; 32], u64) {
+        let filled_ones: Vec<([u8; 32], u64)> = self.scene.others.iter().filter(|other| other.1 > 0).cloned().collect();
+        match self.random.weighted(&[500, 460, 20, 8, 12]) {
+            1 if !filled_ones.is_empty() => self.random.pick(&filled_ones),
+            2 if !self.scene.others.is_empty() => self.random.pick(&self.scene.others),
+            3 => (head::read_only_word(), SECTOR),
+            4 => (near(self.random, self.scene.contract), SECTOR),
+            _ if self.scene.read_only && !filled_ones.is_empty() => self.random.pick(&filled_ones),
+            _ => (self.scene.contract, self.size),
+        }
+    }
+
+    fn read_sector(&mut self, proof: bool) -> Vec<Vec<u8>> {
+        let segments = proof && !self.random.chance(30);
+        let (offset, length) = self.span(SECTOR, segments);
+        let real = !self.scene.roots.is_empty();
+        let root = match self.random.weighted(&[900, 40, 15, 10]) {
+            0 if real => self.random.pick(&self.scene.roots),
+            1 if real => {
+                let root = self.random.pick(&self.scene.roots);
+                near(self.random, root)
+            }
+            2 => self.random.bytes(32).try_into().unwrap(),
+            _ => tree::root(&[0; 4096]),
+        };
+        vec![root.to_vec(), self.number(offset), self.number(length)]
+    }
+
+    /// A position to write to: mostly one that has a copy or can get one.
+    fn position(&mut self) -> u64 {
+        let positions = (self.size / SECTOR).max(1);
+        let position = self.random.below(positions);
+        if self.has_room(position) || self.random.chance(250) {
+            return position;
+        }
+        (0..positions).find(|&p| self.staged[p as usize]).unwrap_or(position)
+    }
+
+    fn has_room(&self, position: u64) -> bool {
+        let used = self.staged.iter().filter(|&&staged| staged).count() as u64;
+        self.staged[position as usize] || used < self.scene.stage_sectors
+    }
+
+    fn write(&mut self) -> Vec<Vec<u8>> {
+        let (mut offset, mut length) = self.inner_span(false);
+        let position = self.position();
+        offset += position * SECTOR;
+        if self.random.chance(15) {
+            (offset, length) = bad_span(self.random, self.size);
+            length = length.min(5000);
+        }
+        self.staged[position as usize] |= self.has_room(position);
+        let data = contents(self.random, length as usize);
+        vec![self.number(offset), [&(data.len() as u64).to_le_bytes()[..], &data].concat()]
+    }
+
+    /// Copy's destination and source, or Swap's two offsets: in two sectors, or in one, and then often overlapping.
+    fn two_spans(&mut self, both_written: bool) -> Vec<Vec<u8>> {
+        let (inner, length) = self.inner_span(false);
+        let first = self.position();
+        self.staged[first as usize] |= self.has_room(first);
+        let second = if self.random.chance(500) { first } else { self.position() };
+        if both_written {
+            self.staged[second as usize] |= self.has_room(second);
+        }
+        let other_inner = if self.random.chance(600) {
+            let reach = length.min(20);
+            (inner + self.random.below(2 * reach + 1)).saturating_sub(reach).min(SECTOR - length)
+        } else {
+            self.random.below(SECTOR - length + 1)
+        };
+        let mut offsets = [first * SECTOR + inner, second * SECTOR + other_inner];
+        let mut length = length;
+        if self.random.chance(15) {
+            let which = self.random.below(2) as usize;
+            (offsets[which], length) = bad_span(self.random, self.size);
+        }
+        if self.random.chance(300) && both_written {
+            offsets.swap(0, 1);
+        }
+        vec![self.number(offsets[0]), self.number(offsets[1]), self.number(length)]
+    }
+
+    fn truncate(&mut self) -> Vec<Vec<u8>> {
+        if self.random.chance(20) {
+            let bad = [self.size + 1, self.size + 2 * SECTOR, 4095, self.size.wrapping_sub(2 * SECTOR), u64::MAX - 4095, 1 << 63];
+            let size = self.random.pick(&bad);
+            return vec![self.number(size)];
+        }
+        let sectors = self.size / SECTOR;
+        let can_grow = sectors < self.scene.most_sectors && self.has_room(sectors.min(64));
+        let up = if can_grow && sectors == 0 {
+            self.random.chance(900)
+        } else {
+            self.random.chance(if can_grow { self.upward } else { 100 })
+        };
+        let sectors_after = match (up, self.random.chance(60)) {
+            (_, true) => sectors,
+            (true, _) => sectors + 1,
+            (false, _) => sectors.saturating_sub(1),
+        };
+        if sectors_after < sectors {
+            self.staged[sectors_after as usize] = false;
+        }
+        if sectors_after > sectors && can_grow {
+            self.staged[sectors as usize] = true;
+        }
+        if sectors_after <= sectors || can_grow {
+            self.size = sectors_after * SECTOR;
+        }
+        vec![self.number(sectors_after * SECTOR)]
+    }
+}
+
+fn word(kind: Kind) -> &'static str {
+    match kind {
+        Kind::Read => "Read",
+        Kind::ReadSector => "ReadSector",
+        Kind::Write => "Write",
+        Kind::Copy => "Copy",
+        Kind::Swap => "Swap",
+        Kind::Truncate => "Truncate",
+    }
+}
+
+/// Length 0, past the end, across an edge, or offset plus length that wraps.
+fn bad_span(random: &mut Random, size: u64) -> (u64, u64) {
+    let some_offset = random.below(size.max(1));
+    let from_edge = random.within(1, 100);
+    let near_end = size.saturating_sub(random.below(3));
+    random.pick(&[
+        (some_offset, 0),
+        (size, 1),
+        (near_end, 4),
+        (SECTOR - from_edge, from_edge + 1),
+        (SECTOR - from_edge, from_edge),
+        (0, SECTOR + 1),
+        (64, SECTOR),
+        (u64::MAX, 1),
+        (u64::MAX - 63, 64),
+        (u64::MAX - 10, 20),
+        (0, u64::MAX),
+        (1, u64::MAX),
+        (64, u64::MAX - 63),
+    ])
+}
+
+/// An id or root that differs in one byte, often a late one.
+fn near(random: &mut Random, mut bytes: [u8; 32]) -> [u8; 32] {
+    let at = if random.chance(600) { 31 } else { random.below(32) as usize };
+    bytes[at] ^= 1 << random.below(8);
+    bytes
+}
+
+/// Bytes to write: often all alike, so that sectors with one root stand in several places.
+fn contents(random: &mut Random, length: usize) -> Vec<u8> {
+    match random.weighted(&[40, 20, 40]) {
+        0 => vec![random.pick(&[0u8, 1, 2, 255]); length],
+        1 => (0..length).map(|i| i as u8).collect(),
+        _ => random.bytes(length),
+    }
+}
+
+/// A wrong name, a wrong number of operands, an input of a wrong length, a wrong count ahead of the data.
+fn damage_step(random: &mut Random, step: &mut Step) {
+    let which = random.below(step.inputs.len() as u64) as usize;
+    match random.below(9) {
+        0 => step.name = filled(random.pick(&[&b"Alloc"[..], b"read", b"Read\0x", b"ReadSecto", b"Reads", b""])),
+        1 => step.name[random.below(16) as usize] ^= 1 << random.below(8),
+        2 => drop(step.inputs.pop()),
+        3 if step.inputs.len() < 4 => step.inputs.push(vec![0; 8]),
+        4 => drop(step.inputs[which].pop()),
+        5 => step.inputs[which].push(0),
+        6 => step.inputs[which] = vec![],
+        7 => {
+            let last = step.inputs.len() - 1;
+            step.inputs[last][0] ^= 1;
+        }
+        _ => {
+            let last = step.inputs.len() - 1;
+            step.inputs[last] = step.inputs[last].split_off(8);
+        }
+    }
+}
+
+/// Puts the inputs into the data, in order or not, with gaps, or sharing bytes that are there already.
+fn lay_out(random: &mut Random, contract: [u8; 32], steps: &[Step]) -> (Head, Vec<u8>) {
+    let mut places: Vec<(usize, usize)> = Vec::new();
+    for (i, step) in steps.iter().enumerate() {
+        places.extend((0..step.inputs.len()).map(|j| (i, j)));
+    }
+    match random.weighted(&[65, 12, 23]) {
+        0 => {}
+        1 => places.reverse(),
+        _ => random.shuffle(&mut places),
+    }
+    let share = random.chance(200);
+    let gaps = random.chance(120);
+    let mut data = Vec::new();
+    let mut head = Head { contract, count: steps.len() as u64, ..Head::default() };
+    for (i, step) in steps.iter().enumerate() {
+        head.instructions[i] =
+            Instruction { name: step.name, operand_count: step.inputs.len() as u64, proof: step.proof, ..Instruction::default() };
+    }
+    for (i, j) in places {
+        if gaps && random.chance(300) {
+            let gap = random.within(1, 9) as usize;
+            data.extend(random.bytes(gap));
+        }
+        let input = &steps[i].inputs[j];
+        let offset = place_input(&mut data, input, share);
+        head.instructions[i].operands[j] = Operand { offset, length: input.len() as u64 };
+    }
+    if random.chance(150) {
+        let slack = random.within(1, 100) as usize;
+        data.extend(random.bytes(slack));
+    }
+    head.declared = data.len() as u64;
+    (head, data)
+}
+
+fn place_input(data: &mut Vec<u8>, input: &[u8], share: bool) -> u64 {
+    if share && input.len() <= 32 && !input.is_empty() {
+        if let Some(at) = data.windows(input.len()).position(|window| window == input) {
+            return at as u64;
+        }
+    }
+    data.extend(input);
+    (data.len() - input.len()) as u64
+}
+
+/// Operands past the declared length, wrapping ones, empty ones, and declared lengths that differ from the data's.
+fn damage_operands(random: &mut Random, head: &mut Head) {
+    if head.count > 0 && random.chance(45) {
+        let declared = head.declared;
+        let instruction = &mut head.instructions[random.below(head.count) as usize];
+        let operand = &mut instruction.operands[random.below(instruction.operand_count.max(1)) as usize];
+        let length = operand.length;
+        let offset = operand.offset;
+        *operand = random.pick(&[
+            Operand { offset: u64::MAX, length },
+            Operand { offset: u64::MAX - 7, length: 8 },
+            Operand { offset: u64::MAX, length: 1 },
+            Operand { offset, length: u64::MAX },
+            Operand { offset: declared, length: 0 },
+            Operand { offset: declared + 1, length: 0 },
+            Operand { offset: declared.saturating_sub(length), length },
+            Operand { offset: (declared + 1).saturating_sub(length), length },
+            Operand { offset: 0, length },
+            Operand { offset, length: 0 },
+        ]);
+    }
+    if random.chance(25) {
+        head.declared = random.pick(&[head.declared + 1, head.declared.saturating_sub(1), 65_536, 65_535, 0]).min(65_536);
+    }
+}
+
+/// A head's bytes, some of them damaged.
+pub fn head_bytes(random: &mut Random, head: &Head) -> Vec<u8> {
+    let mut bytes = if head::within_limits(head) { head::encoded(head) } else { vec![] };
+    if bytes.is_empty() || !random.chance(50) {
+        return bytes;
+    }
+    let length = bytes.len();
+    let put = |bytes: &mut Vec<u8>, at: usize, number: u64| {
+        if at + 8 <= bytes.len() {
+            bytes[at..at + 8].copy_from_slice(&number.to_le_bytes());
+        }
+    };
+    match random.below(10) {
+        0 | 1 => bytes[random.below(length as u64) as usize] ^= 1 << random.below(8),
+        2 => bytes.truncate(random.below(length as u64) as usize),
+        3 => bytes.push(random.next() as u8),
+        4 => put(&mut bytes, 32, random.pick(&[33, 32, 1 << 32, u64::MAX])),
+        5 => put(&mut bytes, 56, random.pick(&[5, 4, 256, u64::MAX])),
+        6 => put(&mut bytes, length - 8, random.pick(&[65_537, 65_536, 1 << 40, u64::MAX])),
+        7 => bytes[length - 9] = 2,
+        8 => {
+            put(&mut bytes, 32, 33);
+            bytes.truncate(random.within(36, 48) as usize);
+        }
+        _ => {
+            put(&mut bytes, length - 8, 65_537);
+            bytes.push(0);
+        }
+    }
+    bytes
+}

@@ -1,0 +1,625 @@
+//! Random inputs for `depot` and `calls`, made by following the model: what is asked next depends on what stands.
+
+use crate::calls::{self, Answered, Item, Player};
+use crate::depot;
+use crate::draft;
+use crate::head;
+use crate::host::{self, Host, NONE, SECTOR};
+use crate::random::{seeded, Random};
+
+/// An input with the program that it is for.
+pub struct Input {
+    pub for_calls: bool,
+    pub bytes: Vec<u8>,
+}
+
+/// The input of a number, for a seed.
+pub fn input(seed: u64, number: u64) -> Input {
+    let mut random = seeded(seed.wrapping_mul(1_000_003).wrapping_add(number));
+    let for_calls = number % 2 == 1;
+    let bytes = if for_calls { script(&mut random) } else { depot_input(&mut random) };
+    Input { for_calls, bytes }
+}
+
+/// Ids that are alike but for a byte, zeros, and the ReadOnly word's neighbours.
+fn ids() -> Vec<[u8; 32]> {
+    let mut all = vec![[0u8; 32], [0x11; 32], [0x11; 32], [0x22; 32], head::filled(b"ReadOnly\x01"), head::filled(b"ReadOnl")];
+    all[2][31] ^= 1;
+    all.extend((0..6).map(|i| {
+        let mut id = [0x40 + i; 32];
+        id[0] = 0x77;
+        id
+    }));
+    all
+}
+
+fn some_id(random: &mut Random) -> [u8; 32] {
+    if random.chance(25) {
+        return head::read_only_word();
+    }
+    random.pick(&ids())
+}
+
+fn prices(random: &mut Random) -> [u16; 7] {
+    match random.weighted(&[35, 45, 5, 5, 10]) {
+        0 => [7, 1, 3, 2, 5, 4, 6],
+        1 => std::array::from_fn(|_| random.below(20) as u16),
+        2 => [0; 7],
+        3 => [65_535; 7],
+        _ => std::array::from_fn(|_| random.next() as u16),
+    }
+}
+
+/// Where a program would stand with all the budget and room there can be: the cost and length of each of its records.
+fn dry_run(host: &Host, disk: &[u8], prices: [u16; 7], head: &[u8], data: &[u8]) -> Vec<(u64, u64)> {
+    let mut host = host.clone();
+    let mut stage = vec![0u8; host.stage_length() as usize];
+    let mut output = vec![0u8; 65_536];
+    if host.open(65_536, u64::MAX, prices, head) != 0 {
+        return vec![];
+    }
+    let mut input = vec![0u8; host.program.head.declared as usize];
+    if host.piece(&disk[..host.disk_length() as usize], &mut stage, &mut input, &mut output, data) != 0 {
+        return vec![];
+    }
+    let mut records = Vec::new();
+    let mut at = 0;
+    let number = |at: usize| u64::from_le_bytes(output[at..at + 8].try_into().unwrap());
+    while at < host.program.written as usize {
+        let hashes = number(at + 56);
+        let bytes = number(at + 64 + 32 * hashes as usize);
+        let length = 72 + 32 * hashes + bytes;
+        records.push((number(at + 8), length));
+        at += length as usize;
+    }
+    records
+}
+
+/// A budget: enough, or just about enough for some of the instructions.
+fn budget(random: &mut Random, init: u64, records: &[(u64, u64)]) -> u64 {
+    match random.weighted(&[70, 13, 10, 5, 2]) {
+        0 => 1_000_000_000_000_000,
+        1 => {
+            let some = random.below(records.len() as u64 + 1) as usize;
+            let sum = init + records[..some].iter().map(|record| record.0).sum::<u64>();
+            (sum + random.below(3)).saturating_sub(1)
+        }
+        2 => init + records.iter().map(|record| record.0).sum::<u64>(),
+        3 => u64::MAX,
+        _ => random.pick(&[0, init, init.saturating_sub(1)]),
+    }
+}
+
+/// An output length: enough, or just about enough for some of the records.
+fn output_length(random: &mut Random, records: &[(u64, u64)]) -> u64 {
+    match random.weighted(&[65, 18, 14, 2, 1]) {
+        0 => 65_536,
+        1 => random.pick(&[16_384, 20_000, 8_192, 4_500]),
+        2 => {
+            let some = random.below(records.len() as u64 + 1) as usize;
+            let sum = 72 + records[..some].iter().map(|record| record.1).sum::<u64>();
+            (sum + random.pick(&[0, 0, 1, 71, 72, 73])).saturating_sub(random.below(2)).clamp(72, 65_536)
+        }
+        3 => random.pick(&[72, 73, 143, 144]),
+        _ => random.pick(&[0, 71, 65_537, 1 << 40, u64::MAX]),
+    }
+}
+
+// Inputs of `depot`
+
+fn depot_input(random: &mut Random) -> Vec<u8> {
+    let (_, mut host) = host::fresh(depot::DISK, depot::STAGE);
+    let disk = vec![0u8; depot::DISK as usize];
+    let mut formed = Vec::new();
+    let count = random.weighted(&[2, 50, 20, 10, 6, 4, 3, 2, 2, 1]);
+    while formed.len() < count {
+        let id = some_id(random);
+        if host.form(&id) == 0 || random.chance(100) {
+            formed.push(id);
+        }
+    }
+    let contract = match random.weighted(&[93, 3, 4]) {
+        0 if !formed.is_empty() => random.pick(&formed),
+        1 => some_id(random),
+        _ => head::read_only_word(),
+    };
+    let (head, mut data) = draft::program(random, &draft::scene(&host, &disk, contract));
+    let head_bytes = draft::head_bytes(random, &head);
+    let prices = prices(random);
+    let records = dry_run(&host, &disk, prices, &head_bytes, &data);
+    let budget = budget(random, prices[0] as u64, &records);
+    match random.weighted(&[88, 6, 6]) {
+        0 => {}
+        1 => data.truncate(random.below(data.len() as u64 + 1) as usize),
+        _ => data.push(0),
+    }
+    let mut bytes = Vec::new();
+    let ahead = [&[7], &prices.map(|price| price as u64)[..], &[budget, formed.len() as u64]].concat();
+    bytes.extend(ahead.iter().flat_map(|number| number.to_le_bytes()));
+    bytes.extend(formed.concat());
+    bytes.extend((head_bytes.len() as u64).to_le_bytes());
+    bytes.extend(head_bytes);
+    bytes.extend(data);
+    if random.chance(60) {
+        damage_depot_input(random, &mut bytes);
+    }
+    bytes
+}
+
+fn damage_depot_input(random: &mut Random, bytes: &mut Vec<u8>) {
+    let length = bytes.len() as u64;
+    let front = length.min(400);
+    let put = |bytes: &mut Vec<u8>, at: usize, number: u64| bytes[at..at + 8].copy_from_slice(&number.to_le_bytes());
+    match random.below(7) {
+        0 => bytes.truncate(random.below(length) as usize),
+        1 => bytes.truncate(random.below(front) as usize),
+        2 | 3 => bytes[random.below(front) as usize] ^= 1 << random.below(8),
+        4 => put(bytes, 0, random.pick(&[0, 6, 8, 7 + (1 << 32), u64::MAX])),
+        5 => put(bytes, 8 * random.within(1, 7) as usize, random.pick(&[65_536, 65_535, 1 << 16, u64::MAX])),
+        _ => put(bytes, 72, random.pick(&[1 << 59, 1 << 58, u64::MAX, 0, 1, 1 << 61])),
+    }
+}
+
+// Scripts for `calls`
+
+struct Script<'a> {
+    random: &'a mut Random,
+    bytes: Vec<u8>,
+    player: Player,
+    pokes: bool,
+}
+
+fn script(random: &mut Random) -> Vec<u8> {
+    let pokes = random.chance(250);
+    let mut script = Script { random, bytes: vec![], player: calls::new_player(), pokes };
+    if script.random.chance(10) {
+        script.noise();
+    }
+    if script.random.chance(6) {
+        script.fill_a_disk();
+    } else {
+        script.fresh();
+        script.form_some();
+        script.fill_some();
+        for _ in 0..script.random.within(2, 6) {
+            script.program();
+            script.between_programs();
+        }
+    }
+    let mut bytes = script.bytes;
+    if random.chance(30) {
+        damage_script(random, &mut bytes);
+    }
+    bytes
+}
+
+fn damage_script(random: &mut Random, bytes: &mut Vec<u8>) {
+    let length = bytes.len() as u64;
+    match random.below(3) {
+        0 => bytes.truncate(random.below(length) as usize),
+        1 => bytes[random.below(length) as usize] ^= 1 << random.below(8),
+        _ => bytes.push(random.next() as u8),
+    }
+}
+
+impl Script<'_> {
+    fn push(&mut self, item: Item) -> Answered {
+        self.bytes.extend(calls::item_bytes(&item));
+        self.player.make(&item)
+    }
+
+    fn fresh(&mut self) {
+        let disk = match self.random.weighted(&[60, 25, 12, 3]) {
+            0 => self.random.within(3, 9),
+            1 => self.random.within(1, 4),
+            2 => 8,
+            _ => self.random.within(10, 64),
+        };
+        let most_stage = self.random.pick(&[2, 5, 5, 16]);
+        let stage = self.random.within(1, most_stage);
+        let fill = self.random.pick(&[0u8, 0xEE, 1]);
+        if self.random.chance(15) {
+            let bad = [0, 1, 4095, 4097, 65 * SECTOR, 17 * SECTOR, u64::MAX, 1 << 44];
+            let (disk, stage) =
+                if self.random.chance(500) { (self.random.pick(&bad), SECTOR) } else { (SECTOR, self.random.pick(&bad)) };
+            self.push(Item::Fresh { disk, stage, fill });
+            self.noise();
+        }
+        self.push(Item::Fresh { disk: disk * SECTOR, stage: stage * SECTOR, fill });
+    }
+
+    fn form_some(&mut self) {
+        let count = if self.random.chance(60) { 11 } else { self.random.within(1, 4) };
+        for _ in 0..count {
+            let id = some_id(self.random);
+            self.push(Item::Form { id });
+        }
+    }
+
+    /// Gives some of the contracts something to hold.
+    fn fill_some(&mut self) {
+        let mut held: Vec<[u8; 32]> = self.player.host.places.iter().filter(|p| p.held).map(|p| p.id).collect();
+        if self.random.chance(400) {
+            held = [held.clone(), held].concat();
+        }
+        for contract in held {
+            if self.random.chance(200) || !self.player.host.in_order() || self.player.host.program.open {
+                continue;
+            }
+            let scene = draft::scene(&self.player.host, &self.player.disk, contract);
+            let room = scene.most_sectors.min(scene.stage_sectors);
+            let sectors = self.random.within(0, 3).min(room);
+            if sectors > 0 {
+                let (head, data) = draft::filling_program(self.random, &scene, sectors);
+                self.push(Item::Open { output_length: 4096, budget: u64::MAX, prices: [1; 7], head: head::encoded(&head) });
+                let declared = data.len() as u64;
+                let [disk, stage, ..] = self.right_lengths();
+                self.push(Item::Piece { disk, stage, input: declared, output: 4096, piece: data });
+                self.agree(0);
+                let [disk, stage, ..] = self.right_lengths();
+                self.player.host.program.open.then(|| self.push(Item::GiveUp { disk, stage }));
+            }
+        }
+    }
+
+    /// Lengths as they should be lent: disk, stage, input, output.
+    fn right_lengths(&self) -> [u64; 4] {
+        let host = &self.player.host;
+        let program = &host.program;
+        [
+            host.disk_sectors.min(64) * SECTOR,
+            host.stage_sectors.min(16) * SECTOR,
+            if program.open { program.head.declared.min(65_536) } else { 0 },
+            if program.open { program.output_length.min(65_536) } else { 0 },
+        ]
+    }
+
+    /// Mostly the right lengths.
+    fn lengths(&mut self, wrong_of_1000: u64) -> [u64; 4] {
+        let mut lengths = self.right_lengths();
+        if self.random.chance(wrong_of_1000) {
+            let which = self.random.below(4) as usize;
+            let right = lengths[which];
+            let most = [262_144, 65_536, 65_536, 65_536][which];
+            let wrong = [right + 1, right.saturating_sub(1), right + SECTOR, right.saturating_sub(SECTOR), 0, most];
+            lengths[which] = self.random.pick(&wrong).min(most);
+        }
+        lengths
+    }
+
+    fn piece(&mut self, piece: &[u8], wrong_of_1000: u64) -> Answered {
+        let [disk, stage, input, output] = self.lengths(wrong_of_1000);
+        self.push(Item::Piece { disk, stage, input, output, piece: piece.to_vec() })
+    }
+
+    fn interrupt(&mut self) {
+        let [disk, _, _, output] = self.lengths(40);
+        self.push(Item::Interrupt { disk, output });
+    }
+
+    fn reached(&mut self) -> (u64, [u8; 32]) {
+        let [disk, stage, ..] = self.lengths(40);
+        let answered = self.push(Item::Reached { disk, stage });
+        (answered.tally, answered.root.unwrap())
+    }
+
+    fn give_up(&mut self) {
+        let [disk, stage, ..] = self.lengths(40);
+        self.push(Item::GiveUp { disk, stage });
+    }
+
+    /// Agreement to the pair reached, or to another.
+    fn agree(&mut self, wrong_of_1000: u64) {
+        let [disk, stage, ..] = self.lengths(30);
+        let right = self.right_lengths();
+        let (_, mut size, mut root) =
+            self.player.host.reached(&self.player.disk[..right[0] as usize], &self.player.stage[..right[1] as usize]);
+        if self.random.chance(wrong_of_1000) {
+            match self.random.below(4) {
+                0 => size = size.wrapping_add(SECTOR),
+                1 => size = self.random.pick(&[0, size ^ 1, u64::MAX]),
+                2 => root[31] ^= 1,
+                _ => root = [0; 32],
+            }
+        }
+        self.push(Item::Agree { disk, stage, size, root });
+    }
+
+    /// A call that does not belong where it stands.
+    fn noise(&mut self) {
+        match self.random.below(9) {
+            0 | 1 => {
+                let id = some_id(self.random);
+                self.push(Item::Form { id });
+            }
+            2 => {
+                let id = if self.random.chance(150) { head::read_only_word() } else { some_id(self.random) };
+                self.push(Item::Drop { id });
+            }
+            3 => {
+                let head = self.random.pick(&[vec![], vec![0; 48], head::encoded(&head::Head::default())]);
+                let output_length = self.random.pick(&[72, 100, 71, 65_537]);
+                self.push(Item::Open { output_length, budget: 9, prices: [7; 7], head });
+            }
+            4 => {
+                let length = self.random.pick(&[0, 0, 1, 65_537]);
+                self.piece(&vec![3; length], 300);
+            }
+            5 => {
+                let [disk, _, _, output] = self.lengths(300);
+                self.push(Item::Interrupt { disk, output });
+            }
+            6 => {
+                let [disk, stage, ..] = self.lengths(300);
+                self.push(Item::Reached { disk, stage });
+            }
+            7 => {
+                let [disk, stage, ..] = self.lengths(700);
+                self.push(Item::GiveUp { disk, stage });
+            }
+            _ => {
+                let [disk, stage, ..] = self.lengths(800);
+                self.push(Item::Agree { disk, stage, size: 0, root: [0; 32] });
+            }
+        }
+    }
+
+    fn sometimes(&mut self) {
+        if self.random.chance(60) {
+            self.noise();
+        }
+        if self.pokes && self.random.chance(200) {
+            self.poke();
+        }
+    }
+
+    fn between_programs(&mut self) {
+        self.sometimes();
+        if self.random.chance(120) {
+            let held: Vec<[u8; 32]> = self.player.host.places.iter().filter(|p| p.held).map(|p| p.id).collect();
+            if !held.is_empty() {
+                let id = self.random.pick(&held);
+                self.push(Item::Drop { id });
+            }
+        }
+        if self.random.chance(200) {
+            let id = some_id(self.random);
+            self.push(Item::Form { id });
+        }
+        if self.random.chance(10) {
+            self.fresh();
+            self.form_some();
+            self.fill_some();
+        }
+    }
+
+    fn contract(&mut self) -> [u8; 32] {
+        let held: Vec<[u8; 32]> = self.player.host.places.iter().filter(|p| p.held).map(|p| p.id).collect();
+        match self.random.weighted(&[85, 12, 3]) {
+            0 if !held.is_empty() => self.random.pick(&held),
+            2 => some_id(self.random),
+            _ => head::read_only_word(),
+        }
+    }
+
+    /// Opens a program, sends it in pieces, closes it.
+    fn program(&mut self) {
+        if !self.player.host.in_order() || self.player.host.program.open {
+            self.noise();
+            self.give_up();
+            return;
+        }
+        let contract = self.contract();
+        let scene = draft::scene(&self.player.host, &self.player.disk, contract);
+        let (head, data) = draft::program(self.random, &scene);
+        let head_bytes = draft::head_bytes(self.random, &head);
+        if self.open(head_bytes, &data).answer != 0 && self.random.chance(850) {
+            return;
+        }
+        self.sometimes();
+        if self.random.chance(15) {
+            self.interrupt();
+        }
+        self.send(&data);
+        if self.random.chance(60) {
+            self.interrupt();
+        }
+        if self.random.chance(200) {
+            self.reached();
+        }
+        self.sometimes();
+        self.close();
+    }
+
+    fn open(&mut self, head_bytes: Vec<u8>, data: &[u8]) -> Answered {
+        let prices = prices(self.random);
+        let records = dry_run(&self.player.host, &self.player.disk, prices, &head_bytes, data);
+        let budget = budget(self.random, prices[0] as u64, &records);
+        let output_length = output_length(self.random, &records);
+        self.push(Item::Open { output_length, budget, prices, head: head_bytes })
+    }
+
+    /// The data in pieces, cut anywhere, often at or beside an operand's end.
+    fn send(&mut self, data: &[u8]) {
+        let stop_early = self.random.chance(100);
+        let cuts = match self.random.weighted(&[45, 40, 15]) {
+            0 => 0,
+            1 => self.random.within(1, 3),
+            _ => self.random.within(4, 10),
+        };
+        let mut ends: Vec<usize> = (0..cuts).map(|_| self.cut(data.len())).collect();
+        if !stop_early {
+            ends.push(data.len());
+        }
+        ends.sort();
+        let mut sent = 0;
+        for end in ends {
+            let answered = self.piece(&data[sent..end], 15);
+            if answered.answer == 0 {
+                sent = end;
+            }
+            if self.random.chance(20) {
+                self.interrupt();
+            }
+            self.sometimes();
+        }
+        if self.random.chance(100) {
+            let more = self.random.pick(&[0, 1, 70_000]);
+            self.piece(&vec![0; more], 0);
+        }
+    }
+
+    fn cut(&mut self, length: usize) -> usize {
+        let head = &self.player.host.program.head;
+        if head.count > 0 && head.count <= 32 && self.random.chance(600) {
+            let instruction = self.player.host.program.head.instructions[self.random.below(head.count) as usize];
+            let operand = instruction.operands[self.random.below(4) as usize];
+            let end = operand.offset.saturating_add(operand.length).saturating_add(self.random.below(3)).saturating_sub(1);
+            return end.min(length as u64) as usize;
+        }
+        self.random.below(length as u64 + 1) as usize
+    }
+
+    fn close(&mut self) {
+        if !self.player.host.in_order() {
+            self.noise();
+            return;
+        }
+        match self.random.weighted(&[80, 8, 7, 5]) {
+            0 => self.agree(0),
+            1 => self.agree(1000),
+            2 => self.give_up(),
+            _ => self.noise(),
+        }
+        if self.player.host.program.open {
+            let [disk, stage, ..] = self.right_lengths();
+            self.push(Item::GiveUp { disk, stage });
+        }
+    }
+
+    /// A disk of 64 sectors, filled by one contract in steps of 16, and one step more.
+    fn fill_a_disk(&mut self) {
+        self.push(Item::Fresh { disk: 64 * SECTOR, stage: 16 * SECTOR, fill: 5 });
+        self.push(Item::Form { id: [0x11; 32] });
+        for step in 0..5u64 {
+            let sizes: Vec<u64> = (step * 16..(step + 1) * 16).map(|sector| (sector + 1) * SECTOR).collect();
+            let data: Vec<u8> = sizes.iter().flat_map(|size| size.to_le_bytes()).collect();
+            let mut head = head::Head { contract: [0x11; 32], count: 16, declared: 128, ..head::Head::default() };
+            for i in 0..16 {
+                let mut instruction = head::Instruction { name: head::filled(b"Truncate"), operand_count: 1, ..Default::default() };
+                instruction.operands[0] = head::Operand { offset: 8 * i as u64, length: 8 };
+                head.instructions[i] = instruction;
+            }
+            self.push(Item::Open { output_length: 16_384, budget: u64::MAX, prices: [1; 7], head: head::encoded(&head) });
+            self.piece(&data, 0);
+            self.agree(0);
+            let [disk, stage, ..] = self.right_lengths();
+            self.push(Item::GiveUp { disk, stage });
+        }
+        self.program();
+        self.program();
+    }
+
+    // Pokes
+
+    /// Pokes the host's record, calls, and mostly puts back what stood there.
+    fn poke(&mut self) {
+        let (field, i, j, value) = self.some_poke();
+        let before = calls::peek(&self.player.host, field, i as usize, j as usize);
+        self.push(Item::Poke { field, i, j, value });
+        let in_order = self.player.host.in_order();
+        for _ in 0..self.random.below(3) {
+            self.harmless_call();
+        }
+        let put_back = if in_order { self.random.chance(300) } else { self.random.chance(930) };
+        if put_back {
+            self.push(Item::Poke { field, i, j, value: before });
+        }
+    }
+
+    /// A call that leaves an open program open if the host is in order.
+    fn harmless_call(&mut self) {
+        if !self.player.host.in_order() {
+            return self.refused_call();
+        }
+        match self.random.below(4) {
+            0 => drop(self.piece(&[], 0)),
+            1 => self.noise(),
+            _ => drop(self.reached()),
+        }
+    }
+
+    /// Any call: the host is not in order, so it is refused.
+    fn refused_call(&mut self) {
+        let [disk, stage, ..] = self.right_lengths();
+        match self.random.below(8) {
+            0 => drop(self.push(Item::Agree { disk, stage, size: 0, root: [0; 32] })),
+            1 => drop(self.push(Item::GiveUp { disk, stage })),
+            2 => drop(self.piece(&[1, 2, 3], 0)),
+            3 => self.interrupt(),
+            4 => drop(self.reached()),
+            _ => self.noise(),
+        }
+    }
+
+    /// A field of the host's record and a value for it near what stands.
+    fn some_poke(&mut self) -> (u64, u64, u64, u64) {
+        let host = self.player.host.clone();
+        let program = &host.program;
+        let random = &mut *self.random;
+        let field = if program.open { random.below(25) } else { random.pick(&[0, 1, 2, 3, 4, 5, 4, 5, 6]) };
+        let anywhere = random.chance(150);
+        let i = match field {
+            2..=5 => random.below(if anywhere { 8 } else { 3 }),
+            13 => random.below(if anywhere { 64 } else { 4 }),
+            16 => random.pick(&[0, 8, 31]),
+            19..=23 => random.below(if anywhere { 32 } else { program.head.count.clamp(1, 32) }),
+            24 => random.below(7),
+            _ => 0,
+        };
+        let j = match field {
+            3 => random.pick(&[31, 31, 31, 0, 8]),
+            5 => random.below(4),
+            19 => random.below(16),
+            21 | 22 => random.below(4),
+            _ => 0,
+        };
+        if let (3, Some(place)) = (field, host.find(&head::filled(b"ReadOnly\x01"))) {
+            return (3, place as u64, 8, random.below(2));
+        }
+        let now = calls::peek(&host, field, i as usize, j as usize);
+        let value = poke_value(random, &host, field, now);
+        (field, i, j, value)
+    }
+}
+
+/// A value near what stands, or at a limit.
+fn poke_value(random: &mut Random, host: &Host, field: u64, now: u64) -> u64 {
+    let program = &host.program;
+    let declared = program.head.declared;
+    let length = program.output_length;
+    let choices: Vec<u64> = match field {
+        0 => vec![0, 1, 2, 8, now.wrapping_add(1), now.saturating_sub(1), 64, 65],
+        1 => vec![0, 1, 2, now.wrapping_add(1), now.saturating_sub(1), 16, 17],
+        2 | 6 | 11 | 23 => vec![0, 1],
+        3 | 16 => vec![now ^ 1, 0x10, 0x11, 0, 0x22],
+        4 | 12 => vec![0, SECTOR, now.wrapping_add(SECTOR), now.wrapping_sub(SECTOR), now.wrapping_add(1), 64 * SECTOR, 65 * SECTOR, 1 << 63],
+        5 => vec![0, 1, 2, 3, 4, 5, host.disk_sectors & 255, 255],
+        7 => vec![0, declared, declared.wrapping_add(1), random.below(declared.saturating_add(1))],
+        8 => vec![0, now.saturating_sub(1), now.wrapping_add(1), program.head.count, program.head.count.wrapping_add(1)],
+        9 => vec![0, 1, program.budget, program.budget.wrapping_add(1), u64::MAX, random.below(program.budget.max(1))],
+        10 => vec![0, 1, length, length.wrapping_add(1), length.saturating_sub(71), length.saturating_sub(72), length.saturating_sub(144)],
+        13 => vec![NONE as u64, 0, 1, 2, 3, host.stage_sectors & 255, 254],
+        14 => vec![71, 72, 65_536, 65_537, now.wrapping_add(1), now.saturating_sub(1), program.written.wrapping_add(72), program.written.wrapping_add(71)],
+        15 => vec![0, program.tally, program.tally.wrapping_sub(1), u64::MAX],
+        17 => vec![0, program.ran, now.wrapping_add(1), now.saturating_sub(1), 32, 33],
+        18 => vec![0, program.came, program.came.saturating_sub(1), now.wrapping_add(1), 65_536, 65_537],
+        19 => vec![0, now ^ 1, now ^ 0x20],
+        20 => vec![0, 1, 2, 3, 4, 5, u64::MAX],
+        21 => vec![0, 8, now.wrapping_add(1), declared, declared.wrapping_add(1), u64::MAX],
+        22 => vec![0, 8, 32, now.wrapping_add(1), declared, u64::MAX],
+        24 => vec![0, 1, 65_535],
+        _ => vec![0],
+    };
+    random.pick(&choices)
+}
