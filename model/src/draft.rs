@@ -95,7 +95,8 @@ pub fn program(random: &mut Random, scene: &Scene) -> (Head, Vec<u8>) {
         made.push(step);
     }
     for step in &mut made {
-        if random.chance(22) {
+        let refused_kind = scene.read_only && !step.name.starts_with(b"Read");
+        if random.chance(if refused_kind { 300 } else { 22 }) {
             damage_step(random, step);
         }
     }
@@ -144,7 +145,7 @@ impl Draft<'_> {
     fn kind(&mut self) -> Kind {
         const KINDS: [Kind; 6] = [Kind::Read, Kind::ReadSector, Kind::Write, Kind::Copy, Kind::Swap, Kind::Truncate];
         if self.scene.read_only {
-            return KINDS[self.random.weighted(&[450, 450, 8, 8, 8, 8])];
+            return KINDS[self.random.weighted(&[450, 450, 15, 15, 15, 15])];
         }
         let kind = KINDS[self.random.weighted(&self.mood)];
         let vain = match kind {
@@ -201,10 +202,19 @@ impl Draft<'_> {
         (random.below(size / SECTOR) * SECTOR + inner, length)
     }
 
+    /// Whole segments if a proof is asked; now and then only one of offset and length is a multiple of 64.
+    fn span_to_read(&mut self, size: u64, proof: bool) -> (u64, u64) {
+        let (offset, length) = self.span(size, proof);
+        if !proof || offset % 64 != 0 || length < 128 || !self.random.chance(40) {
+            return (offset, length);
+        }
+        let odd = self.random.within(1, 63);
+        self.random.pick(&[(offset + odd, length - 64), (offset, length - odd), (offset + odd, length - odd)])
+    }
+
     fn read(&mut self, proof: bool) -> Vec<Vec<u8>> {
         let (contract, size) = self.contract_to_read();
-        let segments = proof && !self.random.chance(30);
-        let (offset, length) = self.span(size, segments);
+        let (offset, length) = self.span_to_read(size, proof);
         vec![contract.to_vec(), self.number(offset), self.number(length)]
     }
 
@@ -221,8 +231,7 @@ impl Draft<'_> {
     }
 
     fn read_sector(&mut self, proof: bool) -> Vec<Vec<u8>> {
-        let segments = proof && !self.random.chance(30);
-        let (offset, length) = self.span(SECTOR, segments);
+        let (offset, length) = self.span_to_read(SECTOR, proof);
         let real = !self.scene.roots.is_empty();
         let root = match self.random.weighted(&[900, 40, 15, 10]) {
             0 if real => self.random.pick(&self.scene.roots),
@@ -292,7 +301,7 @@ impl Draft<'_> {
     }
 
     fn truncate(&mut self) -> Vec<Vec<u8>> {
-        if self.random.chance(20) {
+        if self.random.chance(35) {
             let bad = [self.size + 1, self.size + 2 * SECTOR, 4095, self.size.wrapping_sub(2 * SECTOR), u64::MAX - 4095, 1 << 63];
             let size = self.random.pick(&bad);
             return vec![self.number(size)];
@@ -452,6 +461,8 @@ fn damage_operands(random: &mut Random, head: &mut Head) {
             Operand { offset: u64::MAX - 7, length: 8 },
             Operand { offset: u64::MAX, length: 1 },
             Operand { offset, length: u64::MAX },
+            Operand { offset: declared, length: 0 },
+            Operand { offset: declared, length: 0 },
             Operand { offset: declared, length: 0 },
             Operand { offset: declared + 1, length: 0 },
             Operand { offset: declared.saturating_sub(length), length },

@@ -75,12 +75,20 @@ fn dry_run(host: &Host, disk: &[u8], prices: [u16; 7], head: &[u8], data: &[u8])
     records
 }
 
+/// How many records there is to be room for: often all but the last.
+fn some_records(random: &mut Random, records: &[(u64, u64)]) -> usize {
+    if random.chance(400) {
+        return records.len().saturating_sub(1);
+    }
+    random.below(records.len() as u64 + 1) as usize
+}
+
 /// A budget: enough, or just about enough for some of the instructions.
 fn budget(random: &mut Random, init: u64, records: &[(u64, u64)]) -> u64 {
     match random.weighted(&[70, 13, 10, 5, 2]) {
         0 => 1_000_000_000_000_000,
         1 => {
-            let some = random.below(records.len() as u64 + 1) as usize;
+            let some = some_records(random, records);
             let sum = init + records[..some].iter().map(|record| record.0).sum::<u64>();
             (sum + random.below(3)).saturating_sub(1)
         }
@@ -96,7 +104,7 @@ fn output_length(random: &mut Random, records: &[(u64, u64)]) -> u64 {
         0 => 65_536,
         1 => random.pick(&[16_384, 20_000, 8_192, 4_500]),
         2 => {
-            let some = random.below(records.len() as u64 + 1) as usize;
+            let some = some_records(random, records);
             let sum = 72 + records[..some].iter().map(|record| record.1).sum::<u64>();
             (sum + random.pick(&[0, 0, 1, 71, 72, 73])).saturating_sub(random.below(2)).clamp(72, 65_536)
         }
@@ -111,7 +119,7 @@ fn depot_input(random: &mut Random) -> Vec<u8> {
     let (_, mut host) = host::fresh(depot::DISK, depot::STAGE);
     let disk = vec![0u8; depot::DISK as usize];
     let mut formed = Vec::new();
-    let count = random.weighted(&[2, 50, 20, 10, 6, 4, 3, 2, 2, 1]);
+    let count = random.weighted(&[6, 48, 20, 10, 6, 4, 3, 2, 2, 1]);
     while formed.len() < count {
         let id = some_id(random);
         if host.form(&id) == 0 || random.chance(100) {
@@ -140,7 +148,7 @@ fn depot_input(random: &mut Random) -> Vec<u8> {
     bytes.extend((head_bytes.len() as u64).to_le_bytes());
     bytes.extend(head_bytes);
     bytes.extend(data);
-    if random.chance(60) {
+    if random.chance(if formed.is_empty() { 300 } else { 60 }) {
         damage_depot_input(random, &mut bytes);
     }
     bytes
@@ -156,7 +164,7 @@ fn damage_depot_input(random: &mut Random, bytes: &mut Vec<u8>) {
         2 | 3 => bytes[random.below(front) as usize] ^= 1 << random.below(8),
         4 => put(bytes, 0, random.pick(&[0, 6, 8, 7 + (1 << 32), u64::MAX])),
         5 => put(bytes, 8 * random.within(1, 7) as usize, random.pick(&[65_536, 65_535, 1 << 16, u64::MAX])),
-        _ => put(bytes, 72, random.pick(&[1 << 59, 1 << 58, u64::MAX, 0, 1, 1 << 61])),
+        _ => put(bytes, 72, random.pick(&[1 << 59, 1 << 59, 1 << 58, u64::MAX, 0, 1, 1 << 61])),
     }
 }
 
@@ -170,7 +178,7 @@ struct Script<'a> {
 }
 
 fn script(random: &mut Random) -> Vec<u8> {
-    let pokes = random.chance(250);
+    let pokes = random.chance(350);
     let mut script = Script { random, bytes: vec![], player: calls::new_player(), pokes };
     if script.random.chance(10) {
         script.noise();
@@ -368,7 +376,7 @@ impl Script<'_> {
         if self.random.chance(60) {
             self.noise();
         }
-        if self.pokes && self.random.chance(200) {
+        if self.pokes && self.random.chance(300) {
             self.poke();
         }
     }
@@ -524,16 +532,20 @@ impl Script<'_> {
 
     /// Pokes the host's record, calls, and mostly puts back what stood there.
     fn poke(&mut self) {
-        let (field, i, j, value) = self.some_poke();
-        let before = calls::peek(&self.player.host, field, i as usize, j as usize);
-        self.push(Item::Poke { field, i, j, value });
+        let mut put_back = Vec::new();
+        for (field, i, j, value) in self.some_pokes() {
+            let before = calls::peek(&self.player.host, field, i as usize, j as usize);
+            self.push(Item::Poke { field, i, j, value });
+            put_back.push(Item::Poke { field, i, j, value: before });
+        }
         let in_order = self.player.host.in_order();
         for _ in 0..self.random.below(3) {
             self.harmless_call();
         }
-        let put_back = if in_order { self.random.chance(300) } else { self.random.chance(930) };
-        if put_back {
-            self.push(Item::Poke { field, i, j, value: before });
+        if self.random.chance(if in_order { 300 } else { 930 }) {
+            for item in put_back.into_iter().rev() {
+                self.push(item);
+            }
         }
     }
 
@@ -562,12 +574,25 @@ impl Script<'_> {
         }
     }
 
+    /// One to three pokes, or some that break just one condition of order.
+    fn some_pokes(&mut self) -> Vec<(u64, u64, u64, u64)> {
+        let host = &self.player.host;
+        let staged: Vec<usize> = (0..64).filter(|&p| host.program.staged[p] != NONE).collect();
+        match self.random.below(12) {
+            0 if host.program.open && host.read_only_mode() => vec![(12, 0, 0, SECTOR), (13, 0, 0, 0)],
+            1 => vec![(0, 0, 0, slots_used(host))],
+            2 if host.program.open && staged.len() > 1 => vec![(13, staged[0] as u64, 0, host.program.staged[staged[1]] as u64)],
+            3 if host.program.open && host.ended() => vec![(11, 0, 0, 1)],
+            _ => (0..self.random.pick(&[1, 1, 1, 2, 3])).map(|_| self.some_poke()).collect(),
+        }
+    }
+
     /// A field of the host's record and a value for it near what stands.
     fn some_poke(&mut self) -> (u64, u64, u64, u64) {
         let host = self.player.host.clone();
         let program = &host.program;
         let random = &mut *self.random;
-        let field = if program.open { random.below(25) } else { random.pick(&[0, 1, 2, 3, 4, 5, 4, 5, 6]) };
+        let field = if program.open { random.below(25) } else { random.pick(&[0, 1, 2, 2, 3, 3, 4, 4, 5, 5, 6]) };
         let anywhere = random.chance(150);
         let i = match field {
             2..=5 => random.below(if anywhere { 8 } else { 3 }),
@@ -584,13 +609,26 @@ impl Script<'_> {
             21 | 22 => random.below(4),
             _ => 0,
         };
-        if let (3, Some(place)) = (field, host.find(&head::filled(b"ReadOnly\x01"))) {
-            return (3, place as u64, 8, random.below(2));
+        if field == 3 && random.chance(500) {
+            if let Some(poke) = poke_to_clash(&host) {
+                return poke;
+            }
         }
         let now = calls::peek(&host, field, i as usize, j as usize);
         let value = poke_value(random, &host, field, now);
         (field, i, j, value)
     }
+}
+
+/// A poke that makes an id the ReadOnly word or another's.
+fn poke_to_clash(host: &Host) -> Option<(u64, u64, u64, u64)> {
+    if let Some(place) = host.find(&head::filled(b"ReadOnly\x01")) {
+        return Some((3, place as u64, 8, 0));
+    }
+    let mut neighbour = [0x11; 32];
+    neighbour[31] ^= 1;
+    let place = host.find(&neighbour)?;
+    host.find(&[0x11; 32]).map(|_| (3, place as u64, 31, 0x11))
 }
 
 /// A value near what stands, or at a limit.
@@ -599,17 +637,17 @@ fn poke_value(random: &mut Random, host: &Host, field: u64, now: u64) -> u64 {
     let declared = program.head.declared;
     let length = program.output_length;
     let choices: Vec<u64> = match field {
-        0 => vec![0, 1, 2, 8, now.wrapping_add(1), now.saturating_sub(1), 64, 65],
+        0 => vec![0, 1, slots_used(host), slots_used(host), 8, now.wrapping_add(1), now.saturating_sub(1), 64, 65],
         1 => vec![0, 1, 2, now.wrapping_add(1), now.saturating_sub(1), 16, 17],
         2 | 6 | 11 | 23 => vec![0, 1],
         3 | 16 => vec![now ^ 1, 0x10, 0x11, 0, 0x22],
-        4 | 12 => vec![0, SECTOR, now.wrapping_add(SECTOR), now.wrapping_sub(SECTOR), now.wrapping_add(1), 64 * SECTOR, 65 * SECTOR, 1 << 63],
+        4 | 12 => vec![0, SECTOR, now.wrapping_add(SECTOR), now.wrapping_sub(SECTOR), now.wrapping_add(1), now.wrapping_sub(1), 64 * SECTOR, 65 * SECTOR, 1 << 63],
         5 => vec![0, 1, 2, 3, 4, 5, host.disk_sectors & 255, 255],
         7 => vec![0, declared, declared.wrapping_add(1), random.below(declared.saturating_add(1))],
         8 => vec![0, now.saturating_sub(1), now.wrapping_add(1), program.head.count, program.head.count.wrapping_add(1)],
         9 => vec![0, 1, program.budget, program.budget.wrapping_add(1), u64::MAX, random.below(program.budget.max(1))],
         10 => vec![0, 1, length, length.wrapping_add(1), length.saturating_sub(71), length.saturating_sub(72), length.saturating_sub(144)],
-        13 => vec![NONE as u64, 0, 1, 2, 3, host.stage_sectors & 255, 254],
+        13 => vec![NONE as u64, 0, 0, 1, 1, 2, 3, host.stage_sectors & 255, 254],
         14 => vec![71, 72, 65_536, 65_537, now.wrapping_add(1), now.saturating_sub(1), program.written.wrapping_add(72), program.written.wrapping_add(71)],
         15 => vec![0, program.tally, program.tally.wrapping_sub(1), u64::MAX],
         17 => vec![0, program.ran, now.wrapping_add(1), now.saturating_sub(1), 32, 33],
@@ -622,4 +660,11 @@ fn poke_value(random: &mut Random, host: &Host, field: u64, now: u64) -> u64 {
         _ => vec![0],
     };
     random.pick(&choices)
+}
+
+/// The least number of disk slots that holds all that are used.
+fn slots_used(host: &Host) -> u64 {
+    let held = host.places.iter().filter(|place| place.held);
+    let slots = held.flat_map(|place| place.slots[..(place.size / SECTOR).min(64) as usize].to_vec());
+    slots.map(|slot| slot as u64 + 1).max().unwrap_or(1)
 }

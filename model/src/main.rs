@@ -14,6 +14,7 @@ mod instruction;
 mod memo;
 mod program;
 mod random;
+mod show;
 mod tree;
 
 use std::io::{Read, Write};
@@ -37,9 +38,13 @@ fn main() {
         ["check"] => check::run(),
         ["gen", seed, count, directory] => batch::make(number(seed), number(count), directory),
         ["batch", inputs, label] => batch::run(inputs, label),
+        ["digests", inputs] => batch::digests(inputs),
+        ["show", "depot"] => show::depot_text(&standard_input()).iter().for_each(|line| println!("{line}")),
+        ["show", "calls"] => show::script_text(&standard_input()).iter().for_each(|line| println!("{line}")),
         ["extract", inputs, which] => batch::extract(inputs, number(which) as usize),
         _ => {
-            eprintln!("use: model depot | calls | check | gen SEED N DIRECTORY | batch INPUTS LABEL | extract INPUTS I");
+            eprintln!("use: model depot | calls | check | show depot | show calls");
+            eprintln!("     model gen SEED N DIRECTORY | batch INPUTS LABEL | digests INPUTS | extract INPUTS I");
             std::process::exit(2);
         }
     }

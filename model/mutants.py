@@ -1,0 +1,158 @@
+#!/usr/bin/env python3
+"""Puts mistakes into a copy of the model, one at a time, and looks whether random inputs notice them.
+
+use: model/mutants.py [SEED [N]]      (after model/run check, which builds the model)
+
+All mistakes go into one copy, each behind a switch, so that the copy is built once. A mistake that no input notices shows a gap in
+the generator, or is none that a caller can see.
+"""
+import os, pathlib, re, subprocess, sys
+
+# (file, what stands there, the mistake): both are expressions, and the first place where it stands is meant.
+MISTAKES = [
+    ("instruction", "o.offset as u128 + o.length as u128 > declared as u128", "o.offset.wrapping_add(o.length) > declared"),
+    ("instruction", "o.offset as u128 + o.length as u128 > declared as u128", "o.length != 0 && o.offset as u128 + o.length as u128 > declared as u128"),
+    ("instruction", "operands != instruction.operand_count", "operands > instruction.operand_count"),
+    ("instruction", "o.length != 0", "true"),
+    ("instruction", "number_21(&instruction) || number_22(&instruction, host.program.head.declared)", "number_22(&instruction, host.program.head.declared)"),
+    ("instruction", "number(count)? != rest.len() as u64", "number(count)? > rest.len() as u64"),
+    ("instruction", "part.len() < 8", "part.len() < 9"),
+    ("instruction", "host.read_only_mode() && name != Name::Read && name != Name::ReadSector", "host.read_only_mode() && name != Name::Read && name != Name::ReadSector && name != Name::Copy"),
+    ("instruction", "tree::root(sector) == *root", "tree::root(sector)[..4] == root[..4]"),
+    ("instruction", "host.parent() == Some(place)", "false"),
+    ("instruction", "host.committed_sector(disk, place, position)", "if host.parent() == Some(place) && position * SECTOR < host.program.running { host.running_sector(disk, stage, position) } else { host.committed_sector(disk, place, position) }"),
+    ("instruction", "length == 0 || offset as u128 + length as u128 > end as u128", "length == 0 || offset.wrapping_add(length) > end"),
+    ("instruction", "length == 0 || offset as u128 + length as u128 > end as u128", "length == 0 || offset as u128 + length as u128 >= end as u128"),
+    ("instruction", "offset / SECTOR != (offset + length - 1) / SECTOR", "offset / SECTOR != (offset + length) / SECTOR"),
+    ("instruction", "size % SECTOR != 0 || size.abs_diff(running) > SECTOR", "size % SECTOR != 0 || *size > running + SECTOR"),
+    ("instruction", "size % SECTOR != 0 || size.abs_diff(running) > SECTOR", "size.abs_diff(running) > SECTOR"),
+    ("instruction", "size % SECTOR != 0 || size.abs_diff(running) > SECTOR", "size % SECTOR != 0 || size.abs_diff(running) > SECTOR || *size == running"),
+    ("instruction", "bad_span(*destination, *size, running) || bad_span(*source, *size, running)", "bad_span(*destination, *size, running)"),
+    ("instruction", "bad_span(*first, *size, running) || bad_span(*second, *size, running)", "bad_span(*second, *size, running)"),
+    ("instruction", "offset % 64 != 0 || length % 64 != 0", "offset % 64 != 0"),
+    ("instruction", "offset % 64 != 0 || length % 64 != 0", "length % 64 != 0"),
+    ("instruction", "instruction.proof && number_27(&inputs)", "number_27(&inputs) && instruction.proof && name != Name::Truncate"),
+    ("instruction", "memory(10) + read(*length)", "memory(10) + price(2)"),
+    ("instruction", "memory(20) + write(data.len() as u64)", "memory(20) + write(data.len() as u64 + 8)"),
+    ("instruction", "memory(20) + read(*size) + write(*size)", "memory(20) + write(*size)"),
+    ("instruction", "memory(30) + 2 * (read(*size) + write(*size))", "memory(30) + read(*size) + write(*size)"),
+    ("instruction", "memory(30) + 2 * (read(*size) + write(*size))", "memory(20) + 2 * (read(*size) + write(*size))"),
+    ("instruction", "memory(5) + price(6)", "memory(5)"),
+    ("instruction", "(1_048_576 + program.head.declared) * time * price(1)", "(1_048_576 + program.came) * time * price(1)"),
+    ("instruction", "(used + wanted) as u64 > host.stage_sectors", "(used + wanted) as u64 >= host.stage_sectors"),
+    ("instruction", "(used + wanted) as u64 > host.stage_sectors", "(used + written.len()) as u64 > host.stage_sectors"),
+    ("instruction", "(used + wanted) as u64 > host.stage_sectors", "used as u64 == host.stage_sectors && !matches!(inputs, Inputs::Read { .. } | Inputs::ReadSector { .. })"),
+    ("instruction", "*size as u128 + host.other_sizes() > host.disk_length() as u128", "*size as u128 + host.other_sizes() >= host.disk_length() as u128"),
+    ("instruction", "number_40(host, &inputs)", "number_40(host, &inputs) && !number_41(host, &inputs)"),
+    ("instruction", "program.tally as u128 + cost as u128 > program.budget as u128", "program.tally as u128 + cost as u128 >= program.budget as u128"),
+    ("instruction", "program.written + record_length(&shown) + 72 > program.output_length", "program.written + record_length(&shown) + 72 >= program.output_length"),
+    ("instruction", "program.written + record_length(&shown) + 72 > program.output_length", "program.written + record_length(&shown) + 71 > program.output_length"),
+    ("instruction", "read_span(host, disk, stage, *first, *size)", "{ give_copy(host, disk, stage, *first / SECTOR); read_span(host, disk, stage, *first, *size) }"),
+    ("instruction", "write_span(host, disk, stage, *first, &second_bytes)", "{ write_span(host, disk, stage, *first, &second_bytes); write_span(host, disk, stage, *second, &first_bytes) }"),
+    ("instruction", "write_span(host, disk, stage, *destination, &bytes)", "for (i, _) in bytes.iter().enumerate() { let byte = read_span(host, disk, stage, *source + i as u64, 1); write_span(host, disk, stage, *destination + i as u64, &byte) }"),
+    ("instruction", "sector_mut(stage, slot).fill(0)", "()"),
+    ("instruction", "(0..host.stage_sectors as u8).find(|slot| !host.program.staged.contains(slot)).unwrap()", "(0..host.stage_sectors as u8).rfind(|slot| !host.program.staged.contains(slot)).unwrap()"),
+    ("instruction", "host.starting_pair(disk)", "(host.program.running, host.starting_pair(disk).1)"),
+    ("instruction", "number_26(program.running, &inputs, &source)", "number_26(program.running, &inputs, &source) && !(instruction.proof && number_27(&inputs))"),
+    ("instruction", "instruction.proof && number_27(&inputs)", "instruction.proof && number_27(&inputs) && program.tally as u128 + cost(program, &inputs) as u128 <= program.budget as u128"),
+    ("instruction", "program.tally as u128 + cost as u128 > program.budget as u128", "program.tally as u128 + cost as u128 > program.budget as u128 && !number_40(host, &inputs)"),
+    ("instruction", "number_40(host, &inputs)", "number_40(host, &inputs) && program.written + 144 <= program.output_length"),
+    ("instruction", "number_41(host, &inputs)", "number_41(host, &inputs) && program.written + 144 <= program.output_length"),
+    ("instruction", "inputs(name, &instruction, input)?", "{ if host.read_only_mode() && name != Name::Read && name != Name::ReadSector { return Err(24); } inputs(name, &instruction, input)? }"),
+    ("instruction", "0..host.places[place].size / SECTOR", "0..(if host.parent() == Some(place) { host.places[place].size.min(host.program.running) } else { host.places[place].size }) / SECTOR"),
+    ("instruction", "host.program.failed = true", "{ host.program.failed = true; host.program.staged = [NONE; 64] }"),
+    ("program", "output_length < LEAST_OUTPUT || output_length > MOST_OUTPUT", "output_length < LEAST_OUTPUT"),
+    ("program", "output_length < LEAST_OUTPUT || output_length > MOST_OUTPUT", "!self.program.open && (output_length < LEAST_OUTPUT || output_length > MOST_OUTPUT)"),
+    ("program", "head.contract != head::read_only_word() && parent.is_none()", "head.contract != head::read_only_word() && parent.is_none() && prices[0] as u64 <= budget"),
+    ("program", "return fault", "{ if head_bytes.len() >= 32 && head_bytes[..32] != head::read_only_word() && self.find(head_bytes[..32].try_into().unwrap()).is_none() { return 7; } return fault }"),
+    ("program", "disk.len() as u64 != self.disk_length()", "self.program.open && disk.len() as u64 != self.disk_length()"),
+    ("program", "staged != NONE", "staged != NONE && (position as u64) < before.max(1)"),
+    ("program", "self.close_with(0, 0)", "{ self.program.tally = 0; self.close_with(0, 0) }"),
+    ("program", "start_price > budget", "start_price >= budget"),
+    ("program", "self.program.ran == self.program.head.count", "self.program.head.count > 0 && self.program.ran == self.program.head.count"),
+    ("program", "disk.len() as u64 == self.disk_length() && stage.len() as u64 == self.stage_length()", "disk.len() as u64 == self.disk_length()"),
+    ("program", "input.len() as u64 != self.program.head.declared || output.len() as u64 != self.program.output_length", "input.len() as u64 != self.program.head.declared || (output.len() as u64) < self.program.output_length"),
+    ("program", "came > self.program.head.declared", "came > self.program.head.declared || self.program.failed"),
+    ("program", "came > self.program.head.declared", "came > self.program.head.declared || self.ended()"),
+    ("program", "!self.ended() && !self.program.failed", "!self.program.failed && self.program.ran < self.program.head.count.max(1)"),
+    ("program", "!self.ended() && !self.program.failed", "!self.ended()"),
+    ("program", "self.program.failed { self.starting_pair(disk) }", None),
+    ("program", "!self.ended() || self.program.failed", "!self.ended()"),
+    ("program", "!self.ended() || self.program.failed", "self.program.failed"),
+    ("program", "(size, *root) != self.running_pair(disk, stage)", "*root != self.running_pair(disk, stage).1"),
+    ("program", "(size, *root) != self.running_pair(disk, stage)", "size != self.running_pair(disk, stage).0"),
+    ("program", "(size, *root) != self.running_pair(disk, stage)", "(size, root[..31].to_vec()) != (self.running_pair(disk, stage).0, self.running_pair(disk, stage).1[..31].to_vec())"),
+    ("program", "self.program.running as i64 - self.starting_size() as i64", "(self.program.running as i64 - self.starting_size() as i64).max(0)"),
+    ("program", "self.close_with(14, 0)", "{ let size = self.program.running as i64; self.close_with(14, size) }"),
+    ("program", "(0..self.disk_sectors as u8).find(|slot| !used(slot)).unwrap()", "(0..self.disk_sectors as u8).rfind(|slot| !used(slot)).unwrap()"),
+    ("program", "self.places[place].slots[position as usize] = 0", "()"),
+    ("host", "(0..8).find(|&p| self.places[p].held && self.places[p].id == *id)", "(0..8).find(|&p| self.places[p].held && self.places[p].id[..31] == id[..31])"),
+    ("host", "(0..8).find(|&p| !self.places[p].held)", "(0..8).rfind(|&p| !self.places[p].held)"),
+    ("host", "Place { held: true, id: *id, ..EMPTY_PLACE }", "Place { held: true, id: *id, ..self.places[free] }"),
+    ("host", "self.places[place] = EMPTY_PLACE", "self.places[place].held = false"),
+    ("head", "number > most", "number >= most"),
+    ("head", "flag > 1", "flag > 2"),
+    ("head", "!reader.rest.is_empty()", "false"),
+    ("depot", "reader.number()? != 7", "reader.number()? > 7"),
+    ("depot", "count.checked_mul(32).ok_or(9u64)?", "count.wrapping_mul(32)"),
+]
+MISTAKES[[m[2] for m in MISTAKES].index(None)] = (
+    "program",
+    "if self.program.failed { self.starting_pair(disk) } else { self.running_pair(disk, stage) }",
+    "self.running_pair(disk, stage)",
+)
+
+
+def conditions(text):
+    """Each condition of order, left out."""
+    found = re.findall(r'return (Some\("[^"]*"\))', text)
+    return [("host", name, "None") for name in found]
+
+
+def main():
+    seed, count = (sys.argv[1:] + ["1", "1000"][len(sys.argv) - 1:])[:2]
+    root = pathlib.Path(__file__).resolve().parent
+    work = root.parent / "target/model/mutants"
+    (work / "src").mkdir(parents=True, exist_ok=True)
+    texts = {path.stem: path.read_text() for path in (root / "src").glob("*.rs")}
+    mistakes = MISTAKES + conditions(texts["host"])
+    places = {}
+    for number, (file, old, new) in enumerate(mistakes):
+        at = texts[file].index(old)
+        places.setdefault((file, at, old), []).append((number, new))
+    for (file, at, old), news in sorted(places.items(), reverse=True):
+        choice = "".join(f"if crate::mistake({number}) {{ {new} }} else " for number, new in news)
+        texts[file] = texts[file][:at] + f"({choice}{{ {old} }})" + texts[file][at + len(old):]
+    texts["main"] += (
+        "\nstatic MISTAKE: std::sync::LazyLock<u64> = std::sync::LazyLock::new(|| std::env::var(\"MISTAKE\").map_or(9999, |m| m.parse().unwrap()));"
+        "\npub fn mistake(number: u64) -> bool {\n    *MISTAKE == number\n}\n"
+    )
+    for name, text in texts.items():
+        (work / "src" / f"{name}.rs").write_text(text)
+    program = work / "model"
+    subprocess.run(["rustc", "-A", "warnings", "--edition", "2021", "-O", "-C", "target-cpu=native", "-C", "overflow-checks=on", "-o", program, work / "src/main.rs"], check=True)
+    subprocess.run([program, "gen", seed, count, work], check=True)
+    inputs = str(work / "inputs")
+    right = subprocess.run([program, "digests", inputs], capture_output=True, check=True).stdout.split(b"\n")
+    unnoticed = 0
+    for number, (file, old, new) in enumerate(mistakes):
+        noticed = first_difference(program, inputs, number, right)
+        unnoticed += noticed is None
+        print(f"{number}: {file}: {old}  =>  {new}: {'NOT NOTICED' if noticed is None else f'input {noticed}'}", flush=True)
+    print(f"{len(mistakes)} mistakes, {unnoticed} not noticed by {count} inputs of seed {seed}")
+
+
+def first_difference(program, inputs, number, right):
+    """The first input for which the copy with this mistake writes something else, or ends."""
+    child = subprocess.Popen([program, "digests", inputs], env=dict(os.environ, MISTAKE=str(number)), stdout=subprocess.PIPE, stderr=subprocess.DEVNULL)
+    at = 0
+    for line in child.stdout:
+        if line.rstrip(b"\n") != right[at]:
+            break
+        at += 1
+    child.kill()
+    child.wait()
+    return None if at == len(right) - 1 else at
+
+
+main()
