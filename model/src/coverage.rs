@@ -56,14 +56,17 @@ const RECORDS_POSSIBLE: [(&str, &[u64]); 7] = [
     ("(unknown)", &[20, 21]),
 ];
 
-const EVENTS_POSSIBLE: [&str; 34] = [
+const EVENTS_POSSIBLE: [&str; 37] = [
     "Read of the parent",
     "Read of another contract",
     "ReadSector found in another contract",
     "ReadSector found in the parent",
     "ReadSector found in the parent, position staged",
     "ReadSector found in the parent, position cut off",
-    "proof given, with hashes",
+    "proof of all of one sector, no hashes",
+    "proof in one sector",
+    "proof in 2, 4, 8, 16, 32 or 64 sectors",
+    "proof in another number of sectors",
     "Copy overlapping, upward",
     "Copy overlapping, downward",
     "Copy between sectors",

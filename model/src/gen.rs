@@ -119,7 +119,7 @@ fn depot_input(random: &mut Random) -> Vec<u8> {
     let (_, mut host) = host::fresh(depot::DISK, depot::STAGE);
     let disk = vec![0u8; depot::DISK as usize];
     let mut formed = Vec::new();
-    let count = random.weighted(&[6, 48, 20, 10, 6, 4, 3, 2, 2, 1]);
+    let count = random.weighted(&[6, 48, 20, 10, 6, 4, 3, 2, 2, 3]);
     while formed.len() < count {
         let id = some_id(random);
         if host.form(&id) == 0 || random.chance(100) {
@@ -203,11 +203,39 @@ fn script(random: &mut Random) -> Vec<u8> {
 
 fn damage_script(random: &mut Random, bytes: &mut Vec<u8>) {
     let length = bytes.len() as u64;
-    match random.below(3) {
+    match random.below(4) {
         0 => bytes.truncate(random.below(length) as usize),
         1 => bytes[random.below(length) as usize] ^= 1 << random.below(8),
-        _ => bytes.push(random.next() as u8),
+        2 => bytes.push(random.next() as u8),
+        _ => {
+            bytes.extend(malformed_item(random));
+            bytes.extend(calls::item_bytes(&Item::Form { id: [0x11; 32] }));
+        }
     }
+}
+
+/// An item with a length above the area's, an index out of range, or a value that does not fit.
+fn malformed_item(random: &mut Random) -> Vec<u8> {
+    let poke = |field, i, j, value| Item::Poke { field, i, j, value };
+    let item = match random.below(16) {
+        0 => Item::Piece { disk: 262_145, stage: 0, input: 0, output: 0, piece: vec![] },
+        1 => Item::Piece { disk: 0, stage: 65_537, input: 0, output: 0, piece: vec![] },
+        2 => Item::Piece { disk: 0, stage: 0, input: 65_537, output: 0, piece: vec![] },
+        3 => Item::Piece { disk: 0, stage: 0, input: 0, output: u64::MAX, piece: vec![] },
+        4 => Item::Interrupt { disk: 1 << 40, output: 0 },
+        5 => Item::GiveUp { disk: 4096, stage: 65_537 },
+        6 => Item::Agree { disk: 262_145, stage: 4096, size: 0, root: [0; 32] },
+        7 => Item::Reached { disk: 4096, stage: 1 << 63 },
+        8 => poke(25, 0, 0, 0),
+        9 => poke(24, 7, 0, 0),
+        10 => poke(24, 0, 0, 65_536),
+        11 => poke(5, 8, 0, 0),
+        12 => poke(5, 0, 64, 0),
+        13 => poke(21, 0, 4, 0),
+        14 => poke(random.pick(&[2, 6, 11, 23]), 0, 0, 2),
+        _ => poke(random.pick(&[3, 16, 19]), 0, 0, 256),
+    };
+    calls::item_bytes(&item)
 }
 
 impl Script<'_> {

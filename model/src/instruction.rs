@@ -246,6 +246,7 @@ fn shown(cost: u64, proof_asked: bool, inputs: &Inputs, source: Option<Source>) 
         (Inputs::Read { offset, length, .. } | Inputs::ReadSector { offset, length, .. }, Some(source)) => {
             let end = offset + length;
             let proof = if proof_asked { tree::proof(&source.bytes, offset / 64, end / 64) } else { vec![] };
+            note_proof(proof_asked, &source, proof.len());
             Shown { cost, proof, output: source.bytes[*offset as usize..end as usize].to_vec() }
         }
         _ => Shown { cost, proof: vec![], output: vec![] },
@@ -303,7 +304,7 @@ pub fn take(host: &mut Host, disk: &[u8], stage: &mut [u8], input: &[u8], output
     match checks(host, disk, stage, input) {
         Err(number) => fail(host, disk, output, number),
         Ok((inputs, shown)) => {
-            note_success(host, &inputs, &shown);
+            note_success(host, &inputs);
             effect(host, disk, stage, &inputs);
             host.program.tally += shown.cost;
             let (size, root) = host.running_pair(disk, stage);
@@ -405,12 +406,20 @@ fn resize(host: &mut Host, stage: &mut [u8], size: u64) {
     host.program.running = size;
 }
 
-/// Counts, for the coverage that `run` prints.
-fn note_success(host: &Host, inputs: &Inputs, shown: &Shown) {
-    coverage::record(word(&next(host)), 0);
-    if !shown.proof.is_empty() {
-        coverage::event("proof given, with hashes");
+fn note_proof(asked: bool, source: &Source, hashes: usize) {
+    if asked {
+        coverage::event(match (source.bytes.len() as u64 / SECTOR, hashes) {
+            (1, 0) => "proof of all of one sector, no hashes",
+            (1, _) => "proof in one sector",
+            (2 | 4 | 8 | 16 | 32 | 64, _) => "proof in 2, 4, 8, 16, 32 or 64 sectors",
+            _ => "proof in another number of sectors",
+        });
     }
+}
+
+/// Counts, for the coverage that `run` prints.
+fn note_success(host: &Host, inputs: &Inputs) {
+    coverage::record(word(&next(host)), 0);
     let program = &host.program;
     let overlap = |a: u64, b: u64, size: u64| a != b && a.abs_diff(b) < size;
     match inputs {
