@@ -434,6 +434,9 @@ fn lay_out(random: &mut Random, contract: [u8; 32], steps: &[Step]) -> (Head, Ve
         let slack = random.within(1, 100) as usize;
         data.extend(random.bytes(slack));
     }
+    if random.chance(4) {
+        data.resize(head::MOST_DECLARED as usize, 7);
+    }
     head.declared = data.len() as u64;
     (head, data)
 }

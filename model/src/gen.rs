@@ -328,6 +328,12 @@ impl Script<'_> {
         self.push(Item::Piece { disk, stage, input, output, piece: piece.to_vec() })
     }
 
+    /// One byte more than may still come.
+    fn one_too_many(&self) -> usize {
+        let program = &self.player.host.program;
+        program.head.declared.saturating_sub(program.came).min(65_536) as usize + 1
+    }
+
     fn interrupt(&mut self) {
         let [disk, _, _, output] = self.lengths(40);
         self.push(Item::Interrupt { disk, output });
@@ -378,7 +384,7 @@ impl Script<'_> {
                 self.push(Item::Open { output_length, budget: 9, prices: [7; 7], head });
             }
             4 => {
-                let length = self.random.pick(&[0, 0, 1, 65_537]);
+                let length = self.random.pick(&[0, 0, 1, self.one_too_many()]);
                 self.piece(&vec![3; length], 300);
             }
             5 => {
@@ -500,7 +506,7 @@ impl Script<'_> {
             self.sometimes();
         }
         if self.random.chance(100) {
-            let more = self.random.pick(&[0, 1, 70_000]);
+            let more = self.random.pick(&[0, 1, self.one_too_many()]);
             self.piece(&vec![0; more], 0);
         }
     }
