@@ -62,8 +62,8 @@ pub fn digests(path: &str) {
 
 /// Runs the model on all inputs of a file, compares, prints the counts.
 pub fn run(path: &str, label: &str) {
-    let depot_program = std::env::var("DEPOT").ok();
-    let calls_program = std::env::var("CALLS").ok();
+    let named = |variable: &str| std::env::var(variable).ok().filter(|path| !path.is_empty());
+    let (depot_program, calls_program) = (named("DEPOT"), named("CALLS"));
     let file = std::fs::read(path).unwrap();
     let mut reader = Reader { rest: &file };
     let (mut count, mut compared) = (0usize, 0usize);
@@ -105,7 +105,8 @@ fn compare(program: &str, input: &Input, label: &str) {
     let name = format!("model/difference/{label}.{kind}");
     std::fs::create_dir_all("model/difference").unwrap();
     std::fs::write(format!("{name}.whole"), &input.bytes).unwrap();
-    let input = if input.for_calls { shorter_script(program, input) } else { Input { for_calls: false, bytes: input.bytes.clone() } };
+    let input =
+        if input.for_calls { shorter_script(program, input) } else { Input { for_calls: false, bytes: input.bytes.clone() } };
     let expected = play(&input);
     let (found, status) = output_of(program, &input.bytes);
     std::fs::write(&name, &input.bytes).unwrap();

@@ -368,7 +368,8 @@ fn truncate_write() {
 
 fn truncate_last() {
     let data = [&0u64.to_le_bytes()[..], &counted(&[1; 64]), &4096u64.to_le_bytes()].concat();
-    let layout = Layout { data, instructions: vec![instruction("Truncate", &[(80, 8)]), instruction("Write", &[(0, 8), (8, 72)])] };
+    let layout =
+        Layout { data, instructions: vec![instruction("Truncate", &[(80, 8)]), instruction("Write", &[(0, 8), (8, 72)])] };
     let mut bench = bench(8, 4, &[A]);
     assert_eq!(bench.open(A, &layout, BUDGET), 0);
     assert_eq!(bench.piece(&layout.data[..87]), 0);

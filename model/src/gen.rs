@@ -548,7 +548,8 @@ impl Script<'_> {
             let data: Vec<u8> = sizes.iter().flat_map(|size| size.to_le_bytes()).collect();
             let mut head = head::Head { contract: [0x11; 32], count: 16, declared: 128, ..head::Head::default() };
             for i in 0..16 {
-                let mut instruction = head::Instruction { name: head::filled(b"Truncate"), operand_count: 1, ..Default::default() };
+                let mut instruction =
+                    head::Instruction { name: head::filled(b"Truncate"), operand_count: 1, ..Default::default() };
                 instruction.operands[0] = head::Operand { offset: 8 * i as u64, length: 8 };
                 head.instructions[i] = instruction;
             }
@@ -675,14 +676,41 @@ fn poke_value(random: &mut Random, host: &Host, field: u64, now: u64) -> u64 {
         1 => vec![0, 1, 2, now.wrapping_add(1), now.saturating_sub(1), 16, 17],
         2 | 6 | 11 | 23 => vec![0, 1],
         3 | 16 => vec![now ^ 1, 0x10, 0x11, 0, 0x22],
-        4 | 12 => vec![0, SECTOR, now.wrapping_add(SECTOR), now.wrapping_sub(SECTOR), now.wrapping_add(1), now.wrapping_sub(1), 64 * SECTOR, 65 * SECTOR, 1 << 63],
+        4 | 12 => vec![
+            0,
+            SECTOR,
+            now.wrapping_add(SECTOR),
+            now.wrapping_sub(SECTOR),
+            now.wrapping_add(1),
+            now.wrapping_sub(1),
+            64 * SECTOR,
+            65 * SECTOR,
+            1 << 63,
+        ],
         5 => vec![0, 1, 2, 3, 4, 5, host.disk_sectors & 255, 255],
         7 => vec![0, declared, declared.wrapping_add(1), random.below(declared.saturating_add(1))],
         8 => vec![0, now.saturating_sub(1), now.wrapping_add(1), program.head.count, program.head.count.wrapping_add(1)],
         9 => vec![0, 1, program.budget, program.budget.wrapping_add(1), u64::MAX, random.below(program.budget.max(1))],
-        10 => vec![0, 1, length, length.wrapping_add(1), length.saturating_sub(71), length.saturating_sub(72), length.saturating_sub(144)],
+        10 => vec![
+            0,
+            1,
+            length,
+            length.wrapping_add(1),
+            length.saturating_sub(71),
+            length.saturating_sub(72),
+            length.saturating_sub(144),
+        ],
         13 => vec![NONE as u64, 0, 0, 1, 1, 2, 3, host.stage_sectors & 255, 254],
-        14 => vec![71, 72, 65_536, 65_537, now.wrapping_add(1), now.saturating_sub(1), program.written.wrapping_add(72), program.written.wrapping_add(71)],
+        14 => vec![
+            71,
+            72,
+            65_536,
+            65_537,
+            now.wrapping_add(1),
+            now.saturating_sub(1),
+            program.written.wrapping_add(72),
+            program.written.wrapping_add(71),
+        ],
         15 => vec![0, program.tally, program.tally.wrapping_sub(1), u64::MAX],
         17 => vec![0, program.ran, now.wrapping_add(1), now.saturating_sub(1), 32, 33],
         18 => vec![0, program.came, program.came.saturating_sub(1), now.wrapping_add(1), 65_536, 65_537],

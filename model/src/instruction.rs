@@ -176,9 +176,7 @@ fn number_26(running: u64, inputs: &Inputs, source: &Option<Source>) -> bool {
             bad_span(*offset, *length, source.as_ref().unwrap().bytes.len() as u64)
         }
         Inputs::Write { offset, data } => bad_span(*offset, data.len() as u64, running),
-        Inputs::Copy { destination, source, size } => {
-            bad_span(*destination, *size, running) || bad_span(*source, *size, running)
-        }
+        Inputs::Copy { destination, source, size } => bad_span(*destination, *size, running) || bad_span(*source, *size, running),
         Inputs::Swap { first, second, size } => bad_span(*first, *size, running) || bad_span(*second, *size, running),
         Inputs::Truncate { size } => size % SECTOR != 0 || size.abs_diff(running) > SECTOR,
     }
@@ -426,14 +424,19 @@ fn note_success(host: &Host, inputs: &Inputs) {
         Inputs::Copy { destination, source, size } if overlap(*destination, *source, *size) => {
             coverage::event(if destination > source { "Copy overlapping, upward" } else { "Copy overlapping, downward" })
         }
-        Inputs::Copy { destination, source, .. } if destination / SECTOR != source / SECTOR => coverage::event("Copy between sectors"),
+        Inputs::Copy { destination, source, .. } if destination / SECTOR != source / SECTOR => {
+            coverage::event("Copy between sectors")
+        }
         Inputs::Swap { first, second, size } if overlap(*first, *second, *size) => {
             coverage::event(if second > first { "Swap overlapping, upward" } else { "Swap overlapping, downward" })
         }
         Inputs::Swap { first, second, .. } if first == second => coverage::event("Swap with itself"),
         Inputs::Swap { first, second, .. } if first / SECTOR != second / SECTOR => {
             let unstaged = |at: u64| (program.staged[(at / SECTOR) as usize] == NONE) as u8;
-            coverage::event(["Swap of two staged sectors", "Swap taking one slot", "Swap taking two slots"][(unstaged(*first) + unstaged(*second)) as usize])
+            coverage::event(
+                ["Swap of two staged sectors", "Swap taking one slot", "Swap taking two slots"]
+                    [(unstaged(*first) + unstaged(*second)) as usize],
+            )
         }
         Inputs::Truncate { size } if *size > program.running && program.running < host.starting_size() => {
             coverage::event("growth over a committed position that was cut off")

@@ -45,7 +45,8 @@ impl Host {
             return 11;
         }
         let running = parent.map_or(0, |p| self.places[p].size);
-        self.program = Program { open: true, head, output_length, budget, prices, tally: start_price, running, ..closed_program() };
+        self.program =
+            Program { open: true, head, output_length, budget, prices, tally: start_price, running, ..closed_program() };
         self.program.staged = [NONE; 64];
         0
     }

@@ -35,8 +35,10 @@ fn good_head_text(head: &Head) -> String {
     let mut text = format!("contract {}, declared {}", id(&head.contract), head.declared);
     for instruction in &head.instructions[..head.count as usize] {
         let name = String::from_utf8_lossy(&instruction.name).trim_end_matches('\0').escape_debug().to_string();
-        let operands: Vec<String> =
-            instruction.operands[..instruction.operand_count as usize].iter().map(|o| format!("{}+{}", o.offset, o.length)).collect();
+        let operands: Vec<String> = instruction.operands[..instruction.operand_count as usize]
+            .iter()
+            .map(|o| format!("{}+{}", o.offset, o.length))
+            .collect();
         text += &format!("\n        {name}({}){}", operands.join(", "), if instruction.proof { " with proof" } else { "" });
     }
     text
