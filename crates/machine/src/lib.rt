@@ -4,13 +4,19 @@ ghost use mathlib.Core.Path.{_≡_};
 ghost use Rattle.rules.specs.Run as Says;
 
 mod areas; // areas.rt: whether areas are as long as stated
+mod closing; // closing.rt: giving up, agreeing, and the commit
 mod interrupting; // interrupting.rt: interrupting a program
 mod opening; // opening.rt: opening a program
+mod piecing; // piecing.rt: giving a program a piece
 mod reaching; // reaching.rt: what a program has reached
+mod running; // running.rt: instructions in turn
 
+pub use closing::Closing;
+pub use closing::close;
 use host::Program;
 pub use interrupting::interrupt;
 pub use opening::open;
+pub use piecing::piece;
 pub use reaching::reached;
 
 // Whether a program has neither ended nor failed.
