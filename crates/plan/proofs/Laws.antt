@@ -1,7 +1,5 @@
 -- The laws, a file for each subject.
 pub mod Sums
-pub mod Ends
-pub mod Given
 pub mod Numbers
 pub mod Costs
 pub mod Room

@@ -1,6 +1,4 @@
--- What the code of inputs and plan means, where the machine's definitions have no name for it.
-pub mod Ends
-pub mod Given
+-- What the code of plan means, where the machine's definitions have no name for it.
 pub mod Numbers
 pub mod Weighed
 pub mod Source

@@ -7,7 +7,7 @@ use Rattle.rules.specs.Plan.{Source, seen}
 use Rattle.sia.specs.declared.Op.{Op}
 use Rattle.sia.specs.declared.Op.the-variants.{Read, ReadSector, Write, Copy, Swap, Truncate, Unknown}
 use Rattle.rules.specs.declared.Spot.the-variants.{OnDisk}
-use Rattle.plan.specs.declared.Args.{Args}
+use Rattle.inputs.specs.declared.Args.{Args}
 
 -- n sectors, whichever they are
 unfoldable pub sectorsOf : ℕ → Source

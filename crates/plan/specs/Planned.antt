@@ -12,8 +12,8 @@ use Rattle.sia.specs.declared.Op.{Op}
 use Rattle.sia.specs.declared.Instruction.{Instruction}
 use Rattle.host.specs.declared.Progress.{Progress}
 use Rattle.rules.specs.declared.Spot.{Spot}
-use Rattle.plan.specs.Given.{placed, noArgs, fromOf}
-use Rattle.plan.specs.declared.Args.{Args}
+use Rattle.inputs.specs.Given.{placed, noArgs, fromOf}
+use Rattle.inputs.specs.declared.Args.{Args}
 use Rattle.plan.specs.declared.Plan.{Plan}
 
 -- what a plan says: of what is read, the sectors

@@ -1,9 +1,5 @@
 // Checks 21 to 42, in order, of one instruction, and its plan.
-use crate::Args;
 use crate::Plan;
-use crate::decode::decoded;
-use crate::inputs::ill_formed;
-use crate::inputs::past_end;
 use crate::judge::weighed;
 use crate::lookup::no_sectors;
 use crate::lookup::source_of;
@@ -11,10 +7,13 @@ use crate::spans::changes;
 use host::Place;
 use host::Progress;
 use host::Terms;
+use inputs::Args;
+use inputs::decoded;
+use inputs::ill_formed;
+use inputs::past_end;
 use sia::Instruction;
 use sia::Op;
 ghost use mathlib.Core.Path.{_≡_};
-ghost use Prim.Native.Nat.{_≤_};
 ghost use lib.ListN.{length};
 ghost use Rattle.area.specs.Pick.{both};
 ghost use Rattle.area.specs.Area.{same};

@@ -1,5 +1,4 @@
 // Checks 26 to 42, in order, of an instruction whose inputs are told and whose sectors are found.
-use crate::Args;
 use crate::Weighed;
 use crate::cost::cost;
 use crate::room::free_copies;
@@ -9,12 +8,13 @@ use crate::room::proof_count;
 use crate::room::wanted;
 use crate::spans::bad_proof;
 use crate::spans::bad_spans;
-use crate::sums::above;
 use crate::sums::record_above;
 use host::Host;
 use host::Place;
 use host::Progress;
 use host::Terms;
+use inputs::Args;
+use inputs::above;
 use sia::Op;
 ghost use mathlib.Core.Path.{_≡_};
 ghost use mathlib.Core.List.{[]};

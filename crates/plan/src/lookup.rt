@@ -8,7 +8,6 @@ use view::Seen;
 ghost use mathlib.Core.Path.{_≡_};
 ghost use mathlib.Core.Bool.{true, false};
 ghost use mathlib.Core.List.{[]};
-ghost use Prim.Native.Nat.{_/_, _≤_};
 ghost use Rattle.sia.specs.Encode.{every};
 ghost use Rattle.host.specs.Places.{taken};
 ghost use Rattle.host.specs.Order.{placeInOrder};

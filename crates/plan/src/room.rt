@@ -1,8 +1,8 @@
 // What checks 40, 41 and 42 count: stage slots, the new size, and the record's length.
-use crate::Args;
 use crate::spans::reads;
 use host::Host;
 use host::Progress;
+use inputs::Args;
 use sia::Op;
 ghost use mathlib.Core.Path.{_≡_};
 ghost use mathlib.Core.Bool.{true};

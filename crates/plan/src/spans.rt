@@ -1,8 +1,8 @@
 // Checks 24, 26 and 27: which instructions change and read, and the spans that they name. Offsets and lengths are any numbers.
-use crate::Args;
-use crate::sums::above;
 use crate::sums::far_above;
 use host::Host;
+use inputs::Args;
+use inputs::above;
 use sia::Op;
 ghost use mathlib.Core.Path.{_≡_};
 ghost use Prim.Native.Nat.{_≤_};

@@ -15,7 +15,7 @@ use Rattle.rules.specs.Plan.{Source, spots, badSpan, badSpans, badProof, cost, 
 use Rattle.sia.specs.declared.Op.{Op}
 use Rattle.sia.specs.declared.Op.the-variants.{Read, ReadSector, Write, Copy, Swap, Truncate, Unknown}
 use Rattle.host.specs.declared.Progress.{Progress}
-use Rattle.plan.specs.Given.{placed}
+use Rattle.inputs.specs.Given.{placed}
 use Rattle.plan.specs.Numbers.{sectorsOf, numbers}
 use Rattle.plan.specs.Weighed.{refused, fine, weighed}
 use Rattle.plan.proofs.Laws.Numbers.{sectors-many}

@@ -12,7 +12,7 @@ use Rattle.rules.specs.Plan.{Source, spots, badSpan, badSpans}
 use Rattle.sia.specs.declared.Op.{Op}
 use Rattle.sia.specs.declared.Op.the-variants.{Read, ReadSector, Write, Copy, Swap, Truncate, Unknown}
 use Rattle.plan.specs.Numbers.{sectorsOf, numbers, Small}
-use Rattle.plan.specs.declared.Args.{Args}
+use Rattle.inputs.specs.declared.Args.{Args}
 
 pub sectors-many : (n : ℕ) → length (spots (sectorsOf n)) ≡ n
 unfolding spots sectorsOf

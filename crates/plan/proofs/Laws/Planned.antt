@@ -6,7 +6,7 @@ use Prim.Native.Nat.{ℕ, _/_, _≤_, _<_}
 use native.Mathlib.Omega.{arith}
 use borrow.Author.Tests.{eq-eqb, ne-eqb}
 use Rattle.area.specs.Pick.{both}
-use Rattle.area.proofs.Laws.Pick.{yes, no, by, picks, skips}
+use Rattle.area.proofs.Laws.Pick.{yes, no, picks}
 use Rattle.sia.specs.Names.{opOf}
 use Rattle.sia.proofs.Laws.Limits.{within-is}
 use Rattle.host.proofs.Laws.Order.{terms-facts}
@@ -19,25 +19,12 @@ use Rattle.sia.specs.declared.Op.{Op}
 use Rattle.sia.specs.declared.Op.the-variants.{Read, ReadSector, Write, Copy, Swap, Truncate, Unknown}
 use Rattle.host.specs.declared.Progress.{Progress}
 use Rattle.rules.specs.declared.Spot.{Spot}
-use Rattle.plan.specs.Given.{placed, malformed, given, fromOf}
+use Rattle.inputs.specs.Given.{placed, fromOf}
 use Rattle.plan.specs.Weighed.{fine, weighed}
 use Rattle.plan.specs.Planned.{failed, runs, planOf}
-use Rattle.plan.specs.declared.Args as code
-use Rattle.plan.specs.declared.Given.{Given}
+use Rattle.inputs.specs.declared.Args as code
 use Rattle.plan.specs.declared.Weighed.{Weighed}
 use Rattle.plan.proofs.Laws.Weighed.{number-judged}
-
--- ---- what the decoder told
-
-pub told-is : (op : Op) (l : List (List ℕ)) (from : ℕ) (g : Given) → g ≡ given op l from → g .told ≡ wellFormed op l
-unfolding given malformed
-told-is op l from g e = ap (λ (x : Given). x .told) e ∙ by (wellFormed op l)
-    (λ u. ap (λ (x : Given). x .told) (picks _ _ _ u) ∙ sym u)
-    (λ u. ap (λ (x : Given). x .told) (skips _ _ _ u) ∙ sym u)
-
-pub args-are : (op : Op) (l : List (List ℕ)) (from : ℕ) (g : Given) → g ≡ given op l from → wellFormed op l ≡ true → g .args ≡ placed (argsOf op l) from
-unfolding given
-args-are op l from g e u = ap (λ (x : Given). x .args) (e ∙ picks _ _ _ u)
 
 -- ---- what is read does not look at the areas' numbers
 

@@ -19,7 +19,7 @@ use Rattle.plan.specs.Numbers.{sectorsOf, numbers}
 use Rattle.view.specs.Seen.{Ranged}
 use Rattle.view.proofs.Callers.{range-ranged}
 use Rattle.plan.specs.Weighed.{refused, fine, weighed}
-use Rattle.plan.specs.declared.Args.{Args}
+use Rattle.inputs.specs.declared.Args.{Args}
 use Rattle.plan.specs.declared.Weighed.{Weighed}
 use Rattle.plan.proofs.Laws.Numbers.{sectors-many}
 

@@ -14,13 +14,14 @@ use Rattle.rules.specs.Inputs.{pastEnd, inputsOf, wellFormed, argsOf}
 use Rattle.rules.specs.Plan.{changes, Source, seen}
 use Rattle.plan.specs.Planned.{failed}
 use Rattle.sia.specs.declared.Op.{Op}
-use Rattle.plan.specs.declared.Args.{Args}
+use Rattle.inputs.specs.declared.Args.{Args}
 use Rattle.rules.specs.declared.Spot.{Spot}
 use Rattle.sia.specs.Names.{readOnly}
-use Rattle.plan.specs.Given.{given, fromOf, placed}
+use Rattle.inputs.specs.Given.{given, fromOf, placed}
 use Rattle.plan.specs.Numbers.{sectorsOf, numbers}
 use Rattle.plan.specs.Weighed.{weighed}
-use Rattle.plan.proofs.Laws.Planned.{told-is, args-are, source-same, size-few, length-most, room-most, fails-21, fails-22, fails-23, fails-24, fails-25, fails-later, plan-is}
+use Rattle.inputs.proofs.Laws.Given.{told-is, args-are}
+use Rattle.plan.proofs.Laws.Planned.{source-same, size-few, length-most, room-most, fails-21, fails-22, fails-23, fails-24, fails-25, fails-later, plan-is}
 use Rattle.plan.proofs.Laws.Alike.{weighed-same}
 use Rattle.plan.proofs.Laws.Lookup.{shows-as}
 use Rattle.view.proofs.Laws.Roots.{seen-count}

@@ -1,0 +1,4 @@
+-- The laws, a file for each subject.
+pub mod Sums
+pub mod Ends
+pub mod Given
