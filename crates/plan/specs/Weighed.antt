@@ -1,11 +1,12 @@
 -- Checks 26 to 42 and, where an instruction can run, what its record and its effect start from. Assumes nothing.
 use mathlib.Core.Bool.{Bool}
-use Prim.Native.Nat.{ℕ}
-use lib.Dec.{eqb}
+use Prim.Native.Nat.{ℕ, _+_, _*_}
+use lib.Dec.{ltb, eqb}
 use Rattle.area.specs.Pick.{pick}
-use Rattle.rules.specs.View.{Setting}
+use Rattle.host.specs.Places.{others}
+use Rattle.rules.specs.View.{Setting, freeCopies}
 use Rattle.rules.specs.Inputs as Says
-use Rattle.rules.specs.Plan.{Source, cost, newSize, proofCount, recordCount, judgedSource}
+use Rattle.rules.specs.Plan.{Source, cost, wanted, newSize, proofCount, recordCount, judgedSource}
 use Rattle.sia.specs.declared.Op.{Op}
 use Rattle.host.specs.declared.Progress.{Progress}
 use Rattle.plan.specs.declared.Weighed.{Weighed}
@@ -23,6 +24,20 @@ fine z s p asked from op a = record {
   hashes = proofCount z asked from a;
   count = recordCount z asked from op a;
 }
+
+-- 40 to 42 of an instruction that costs so much
+unfoldable pub fitted : ℕ → Setting → Progress → Bool → Source → Op → Says.Args → ℕ → Weighed
+fitted z s p asked from op a cost =
+    pick (ltb (freeCopies s p) (wanted z p op a)) (refused 40)
+    (pick (ltb (s .sectors * z) (newSize (p .size) op a + others (s .terms .head .contract) (s .places))) (refused 41)
+    (pick (ltb (s .terms .room) (p .written + recordCount z asked from op a + 72)) (refused 42)
+    (record {
+      number = 0;
+      cost = cost;
+      size = newSize (p .size) op a;
+      hashes = proofCount z asked from a;
+      count = recordCount z asked from op a;
+    })))
 
 unfoldable pub weighed : ℕ → Setting → Progress → Bool → Source → Op → Says.Args → Weighed
 weighed z s p asked from op a =

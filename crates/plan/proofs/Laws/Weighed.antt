@@ -11,14 +11,14 @@ use Rattle.area.proofs.Laws.Pick.{yes, no, by, never, picks, skips, either-left
 use Rattle.host.specs.Places.{others}
 use Rattle.rules.specs.View.{Setting, freeCopies}
 use Rattle.rules.specs.Inputs as Says
-use Rattle.rules.specs.Plan.{Source, spots, badSpan, badSpans, reads, badProof, cost, wanted, newSize, recordCount, judgedSource}
+use Rattle.rules.specs.Plan.{Source, spots, badSpan, badSpans, reads, badProof, cost, wanted, newSize, proofCount, recordCount, judgedSource}
 use Rattle.sia.specs.declared.Op.{Op}
 use Rattle.sia.specs.declared.Op.the-variants.{Read, ReadSector, Write, Copy, Swap, Truncate, Unknown}
 use Rattle.host.specs.declared.Progress.{Progress}
 use Rattle.plan.specs.Numbers.{sectorsOf, numbers}
 use Rattle.view.specs.Seen.{Ranged}
 use Rattle.view.proofs.Callers.{range-ranged}
-use Rattle.plan.specs.Weighed.{refused, fine, weighed}
+use Rattle.plan.specs.Weighed.{refused, fine, fitted, weighed}
 use Rattle.inputs.specs.declared.Args.{Args}
 use Rattle.plan.specs.declared.Weighed.{Weighed}
 use Rattle.plan.proofs.Laws.Numbers.{sectors-many}
@@ -81,6 +81,39 @@ module _ (z : ℕ) (s : Setting) (p : Progress) (asked : Bool) (from : Source) (
             unfolding judgedSource
             can-run room w = passes w
                 (no _ _ _ spans (no _ _ _ proof (no _ _ _ budget (no _ _ _ slots (no _ _ _ disk (no _ _ _ room refl))))))
+
+  -- ---- 40 to 42 after the others
+
+  abbrev few-slots : Bool
+  few-slots = ltb (freeCopies s p) (wanted z p op a)
+
+  abbrev few-sectors : Bool
+  few-sectors = ltb (s .sectors * z) (newSize (p .size) op a + others (s .terms .head .contract) (s .places))
+
+  abbrev few-bytes : Bool
+  few-bytes = ltb (s .terms .room) (p .written + recordCount z asked from op a + 72)
+
+  module _ (spans : badSpans z (p .size) from op a ≡ false) (proof : both asked (badProof op a) ≡ false) where
+    pub rest : (k : ℕ) → k ≡ cost (s .terms .head .length) (s .terms .prices) op (a .len) → ltb (s .terms .budget) (p .tally + k) ≡ false
+        → fitted z s p asked from op a k ≡ weighed z s p asked from op a
+    unfolding fitted fine
+    rest k e within =
+        let budget : ltb (s .terms .budget) (p .tally + cost (s .terms .head .length) (s .terms .prices) op (a .len)) ≡ false =
+        ap (λ (n : ℕ). ltb (s .terms .budget) (p .tally + n)) (sym e) ∙ within in
+        by few-slots
+        (λ u. picks few-slots _ _ u ∙ fails-40 spans proof budget u)
+        (λ u. skips few-slots _ _ u ∙ by few-sectors
+        (λ v. picks few-sectors _ _ v ∙ fails-41 spans proof budget u v)
+        (λ v. skips few-sectors _ _ v ∙ by few-bytes
+        (λ w. picks few-bytes _ _ w ∙ fails-42 spans proof budget u v w)
+        (λ w. skips few-bytes _ _ w ∙ can-run spans proof budget u v w _
+        (λ i. record {
+          number = 0;
+          cost = e i;
+          size = newSize (p .size) op a;
+          hashes = proofCount z asked from a;
+          count = recordCount z asked from op a;
+        }))))
 
   -- the number is the definition's
   pub number-judged : weighed z s p asked from op a .number ≡ judgedSource z s p asked from op a
