@@ -1,6 +1,6 @@
 -- `plan::chain::planned` meets its contract: a walk down the definition. Assumes nothing.
 use mathlib.Core.Path.{_≡_, sym, ap, ap₂, _∙_}
-use mathlib.Core.Bool.{true}
+use mathlib.Core.Bool.{true, false}
 use mathlib.Core.List.{List, []}
 use Prim.Native.Nat.{ℕ}
 use native.Mathlib.Omega.{arith}
@@ -10,8 +10,8 @@ use Rattle.area.specs.Pick.{both}
 use Rattle.area.specs.Area.{same}
 use Rattle.sia.specs.Names.{opOf}
 use Rattle.rules.specs.View.{readOnlyMode, setting}
-use Rattle.rules.specs.Inputs.{pastEnd, inputsOf, wellFormed, argsOf}
-use Rattle.rules.specs.Plan.{changes, Source, seen}
+use Rattle.rules.specs.Inputs.{illFormed, pastEnd, inputsOf, wellFormed, argsOf}
+use Rattle.rules.specs.Plan.{changes, Source, isThere, sourceOf}
 use Rattle.plan.specs.Planned.{failed}
 use Rattle.sia.specs.declared.Op.{Op}
 use Rattle.inputs.specs.declared.Args.{Args}
@@ -27,11 +27,9 @@ use Rattle.plan.proofs.Laws.Lookup.{shows-as}
 use Rattle.view.proofs.Laws.Roots.{seen-count}
 use Rattle.view.proofs.Callers.{slots-hold}
 use Rattle.host.specs.Places.{taken}
-use Rattle.rules.specs.Plan.{sourceOf}
 use Rattle.rules.proofs.Laws.Spots.{few-spots}
 use Rattle.rules.specs.View.{Setting}
 use Rattle.rules.specs.Inputs as Inputs
-use Rattle.rules.specs.Plan.{Source}
 use Rattle.plan.specs.Source.{Shows}
 use borrow.Author.Needs.{needs}
 use Rattle.plan.proofs.chain.planned.Statement.{statement}
@@ -118,6 +116,40 @@ valued c right =
     (heard-args at-source-of right)
     ∙ weighed-same 4096 _ _ _ _ many (the-set s) (s .args .p) (s .args .i .proof) _
 
+-- ---- the checks that did not apply
+
+abbrev start-5 : tie.Else1 → tie.Start
+start-5 c = c .before .before .before .before .before .before
+
+formed : (c : tie.Else1) → illFormed (start-5 c .args .i) ≡ false
+formed c = sym (c .before .ill-formed .ensures) ∙ c .if1 .left
+
+abbrev start-6 : tie.Else2 → tie.Start
+start-6 c = start-5 (c .before .before .before)
+
+within : (c : tie.Else2) → pastEnd (start-6 c .args .terms .head .length) (start-6 c .args .i) ≡ false
+within c = sym (c .before .past-end .ensures) ∙ c .if2 .left
+
+abbrev start-7 : tie.Else3 → tie.Start
+start-7 c = start-1 (c .before .before)
+
+told : (c : tie.Else3) → wellFormed (the-op (start-7 c)) (the-inputs (start-7 c)) ≡ true
+told c = sym (well-told (c .before .before)) ∙ not-false _ (c .if3 .left)
+
+abbrev start-8 : tie.Else4 → tie.Start
+start-8 c = start-2 (c .before)
+
+may : (c : tie.Else4) → both (changes (the-op (start-8 c))) (readOnlyMode (start-8 c .args .terms)) ≡ false
+may c = mode (c .before) ∙ c .if4 .left
+
+abbrev start-9 : tie.Else5 → tie.Start
+start-9 c = start-3 (c .before .before)
+
+there : (c : tie.Else5) → right-3 (c .before .before) → isThere (the-source (start-9 c)) ≡ true
+there c right = sym (shown (c .before .before) right .there) ∙ not-false _ (c .if5 .left)
+
+-- ---- the needs
+
 op-of-requires : tie.Need-op-of-requires
 op-of-requires c κs = search needs
 
@@ -145,26 +177,16 @@ returns-2 : tie.Need-returns-2
 returns-2 c =
     let at-past-end = c .before .before in
     let at-if1 = at-past-end .before .before in
-    let at-ill-formed = at-if1 .before in
-    let at-op-of = at-ill-formed .before in
-    let s = at-op-of .before .before .before .before in
-    c .failed2 .ensures ∙ ap (λ (o : Op). failed o _) (at-op-of .op-of .ensures)
-    ∙ fails-22 4096 (the-set s) (s .args .p) (s .args .i) (s .args .input .now) (sym (at-ill-formed .ill-formed .ensures) ∙ at-if1 .if1 .left)
+    let s = start-5 at-if1 in
+    c .failed2 .ensures ∙ ap (λ (o : Op). failed o _) (at-if1 .before .before .op-of .ensures)
+    ∙ fails-22 4096 (the-set s) (s .args .p) (s .args .i) (s .args .input .now) (formed at-if1)
     (sym (at-past-end .past-end .ensures) ∙ c .before .if2 .taken)
 
 decoded-requires : tie.Need-decoded-requires
 decoded-requires c κs =
     let at-if1 = c .before .before .before in
-    let at-ill-formed = at-if1 .before in
-    let at-op-of = at-ill-formed .before in
-    let s = at-op-of .before .before .before .before in (
-      at-op-of .op-of .ensures,
-      (
-        sym (at-ill-formed .ill-formed .ensures) ∙ at-if1 .if1 .left,
-        ap (λ (n : ℕ). pastEnd n (s .args .i)) (s .pre .1 .1)
-            ∙ sym (c .before .past-end .ensures) ∙ c .if2 .left,
-      ),
-    )
+    let s = start-5 at-if1 in
+    (at-if1 .before .before .op-of .ensures, (formed at-if1, ap (λ (n : ℕ). pastEnd n (s .args .i)) (s .pre .1 .1) ∙ within c))
 
 failed-requires-3 : tie.Need-failed-requires-3
 failed-requires-3 c κs = search needs
@@ -173,14 +195,11 @@ returns-3 : tie.Need-returns-3
 returns-3 c =
     let at-decoded = c .before .before .before in
     let at-if2 = at-decoded .before in
-    let at-past-end = at-if2 .before in
-    let at-if1 = at-past-end .before .before in
-    let at-ill-formed = at-if1 .before in
-    let at-op-of = at-ill-formed .before in
-    let s = at-op-of .before .before .before .before in
-    c .failed3 .ensures ∙ ap (λ (o : Op). failed o _) (at-op-of .op-of .ensures)
-    ∙ fails-23 4096 (the-set s) (s .args .p) (s .args .i) (s .args .input .now) (sym (at-ill-formed .ill-formed .ensures) ∙ at-if1 .if1 .left)
-    (sym (at-past-end .past-end .ensures) ∙ at-if2 .if2 .left) (sym (well-told at-decoded) ∙ not-true _ (c .before .if3 .taken))
+    let at-if1 = at-if2 .before .before .before in
+    let s = start-5 at-if1 in
+    c .failed3 .ensures ∙ ap (λ (o : Op). failed o _) (at-if1 .before .before .op-of .ensures)
+    ∙ fails-23 4096 (the-set s) (s .args .p) (s .args .i) (s .args .input .now) (formed at-if1) (within at-if2)
+    (sym (well-told at-decoded) ∙ not-true _ (c .before .if3 .taken))
 
 changes-nothing-requires : tie.Need-changes-nothing-requires
 changes-nothing-requires c κs = search needs
@@ -192,17 +211,12 @@ returns-4 : tie.Need-returns-4
 returns-4 c =
     let at-changes-nothing = c .before .before in
     let at-if3 = at-changes-nothing .before .before in
-    let at-decoded = at-if3 .before .before in
-    let at-if2 = at-decoded .before in
-    let at-past-end = at-if2 .before in
-    let at-if1 = at-past-end .before .before in
-    let at-ill-formed = at-if1 .before in
-    let at-op-of = at-ill-formed .before in
-    let s = at-op-of .before .before .before .before in
-    let right = sym (well-told at-decoded) ∙ not-false _ (at-if3 .if3 .left) in
-    c .failed4 .ensures ∙ ap (λ (o : Op). failed o _) (at-op-of .op-of .ensures)
-    ∙ fails-24 4096 (the-set s) (s .args .p) (s .args .i) (s .args .input .now) (sym (at-ill-formed .ill-formed .ensures) ∙ at-if1 .if1 .left)
-    (sym (at-past-end .past-end .ensures) ∙ at-if2 .if2 .left) right (mode at-changes-nothing ∙ c .before .if4 .taken)
+    let at-if2 = at-if3 .before .before .before in
+    let at-if1 = at-if2 .before .before .before in
+    let s = start-5 at-if1 in
+    c .failed4 .ensures ∙ ap (λ (o : Op). failed o _) (at-if1 .before .before .op-of .ensures)
+    ∙ fails-24 4096 (the-set s) (s .args .p) (s .args .i) (s .args .input .now) (formed at-if1) (within at-if2) (told at-if3)
+    (mode at-changes-nothing ∙ c .before .if4 .taken)
 
 source-of-requires : tie.Need-source-of-requires
 source-of-requires c κs =
@@ -216,20 +230,13 @@ returns-5 : tie.Need-returns-5
 returns-5 c =
     let at-source-of = c .before .before .before in
     let at-if4 = at-source-of .before .before .before in
-    let at-changes-nothing = at-if4 .before in
-    let at-if3 = at-changes-nothing .before .before in
-    let at-decoded = at-if3 .before .before in
-    let at-if2 = at-decoded .before in
-    let at-past-end = at-if2 .before in
-    let at-if1 = at-past-end .before .before in
-    let at-ill-formed = at-if1 .before in
-    let at-op-of = at-ill-formed .before in
-    let s = at-op-of .before .before .before .before in
-    let right = sym (well-told at-decoded) ∙ not-false _ (at-if3 .if3 .left) in
-    c .failed5 .ensures ∙ ap (λ (o : Op). failed o _) (at-op-of .op-of .ensures)
-    ∙ fails-25 4096 (the-set s) (s .args .p) (s .args .i) (s .args .input .now) (sym (at-ill-formed .ill-formed .ensures) ∙ at-if1 .if1 .left)
-    (sym (at-past-end .past-end .ensures) ∙ at-if2 .if2 .left) right (mode at-changes-nothing ∙ at-if4 .if4 .left)
-    (sym (shown at-source-of right .there) ∙ not-true _ (c .before .if5 .taken))
+    let at-if3 = at-if4 .before .before .before in
+    let at-if2 = at-if3 .before .before .before in
+    let at-if1 = at-if2 .before .before .before in
+    let s = start-5 at-if1 in
+    c .failed5 .ensures ∙ ap (λ (o : Op). failed o _) (at-if1 .before .before .op-of .ensures)
+    ∙ fails-25 4096 (the-set s) (s .args .p) (s .args .i) (s .args .input .now) (formed at-if1) (within at-if2) (told at-if3) (may at-if4)
+    (sym (shown at-source-of (told at-if3) .there) ∙ not-true _ (c .before .if5 .taken))
 
 weighed-requires : tie.Need-weighed-requires
 weighed-requires c κs =
@@ -255,22 +262,14 @@ returns-6 : tie.Need-returns-6
 returns-6 c =
     let at-weighed = c .before .before .before in
     let at-if5 = at-weighed .before .before in
-    let at-source-of = at-if5 .before .before in
-    let at-if4 = at-source-of .before .before .before in
-    let at-changes-nothing = at-if4 .before in
-    let at-if3 = at-changes-nothing .before .before in
-    let at-decoded = at-if3 .before .before in
-    let at-if2 = at-decoded .before in
-    let at-past-end = at-if2 .before in
-    let at-if1 = at-past-end .before .before in
-    let at-ill-formed = at-if1 .before in
-    let at-op-of = at-ill-formed .before in
-    let s = at-op-of .before .before .before .before in
-    let right = sym (well-told at-decoded) ∙ not-false _ (at-if3 .if3 .left) in
-    c .failed6 .ensures ∙ ap (λ (o : Op). failed o (at-weighed .weighed .result .number)) (at-op-of .op-of .ensures)
-    ∙ fails-later 4096 (the-set s) (s .args .p) (s .args .i) (s .args .input .now) (sym (at-ill-formed .ill-formed .ensures) ∙ at-if1 .if1 .left)
-    (sym (at-past-end .past-end .ensures) ∙ at-if2 .if2 .left) right (mode at-changes-nothing ∙ at-if4 .if4 .left)
-    (sym (shown at-source-of right .there) ∙ not-false _ (at-if5 .if5 .left)) _ (valued at-weighed right) (c .before .if6 .taken)
+    let at-if4 = at-if5 .before .before .before .before .before in
+    let at-if3 = at-if4 .before .before .before in
+    let at-if2 = at-if3 .before .before .before in
+    let at-if1 = at-if2 .before .before .before in
+    let s = start-5 at-if1 in
+    c .failed6 .ensures ∙ ap (λ (o : Op). failed o (at-weighed .weighed .result .number)) (at-if1 .before .before .op-of .ensures)
+    ∙ fails-later 4096 (the-set s) (s .args .p) (s .args .i) (s .args .input .now) (formed at-if1) (within at-if2) (told at-if3) (may at-if4)
+    (there at-if5 (told at-if3)) _ (valued at-weighed (told at-if3)) (c .before .if6 .taken)
 
 returns-7 : tie.Need-returns-7
 returns-7 c =
@@ -278,20 +277,13 @@ returns-7 c =
     let at-if5 = at-weighed .before .before in
     let at-source-of = at-if5 .before .before in
     let at-if4 = at-source-of .before .before .before in
-    let at-changes-nothing = at-if4 .before in
-    let at-if3 = at-changes-nothing .before .before in
-    let at-decoded = at-if3 .before .before in
-    let at-if2 = at-decoded .before in
-    let at-past-end = at-if2 .before in
-    let at-if1 = at-past-end .before .before in
-    let at-ill-formed = at-if1 .before in
-    let at-op-of = at-ill-formed .before in
-    let s = at-op-of .before .before .before .before in
-    let right = sym (well-told at-decoded) ∙ not-false _ (at-if3 .if3 .left) in
-    plan-is 4096 (the-set s) (s .args .p) (s .args .i) (s .args .input .now) (sym (at-ill-formed .ill-formed .ensures) ∙ at-if1 .if1 .left)
-    (sym (at-past-end .past-end .ensures) ∙ at-if2 .if2 .left) right (mode at-changes-nothing ∙ at-if4 .if4 .left)
-    (sym (shown at-source-of right .there) ∙ not-false _ (at-if5 .if5 .left)) _ (valued at-weighed right) (c .if6 .left) _ _ _ (at-op-of .op-of .ensures)
-    (heard-args at-source-of right) (shown at-source-of right .sectors)
+    let at-if3 = at-if4 .before .before .before in
+    let at-if2 = at-if3 .before .before .before in
+    let at-if1 = at-if2 .before .before .before in
+    let s = start-5 at-if1 in
+    plan-is 4096 (the-set s) (s .args .p) (s .args .i) (s .args .input .now) (formed at-if1) (within at-if2) (told at-if3) (may at-if4)
+    (there at-if5 (told at-if3)) _ (valued at-weighed (told at-if3)) (c .if6 .left) _ _ _ (at-if1 .before .before .op-of .ensures)
+    (heard-args at-source-of (told at-if3)) (shown at-source-of (told at-if3) .sectors)
 
 pub planned-spec : {M : Type 1} → statement M
 planned-spec =
