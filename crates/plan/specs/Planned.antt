@@ -1,17 +1,20 @@
 -- The plan of an instruction: its number and, where it can run, all that its effect and its record start from. Assumes nothing.
+use mathlib.Core.Bool.{Bool, not}
 use mathlib.Core.List.{List, []}
 use Prim.Native.Nat.{ℕ}
 use lib.Dec.{eqb}
-use Rattle.area.specs.Pick.{pick}
+use Rattle.area.specs.Pick.{pick, both}
 use Rattle.sia.specs.Names.{opOf}
-use Rattle.rules.specs.View.{Setting}
+use Rattle.rules.specs.View.{Setting, readOnlyMode}
 use Rattle.rules.specs.Inputs.{inputsOf, argsOf}
-use Rattle.rules.specs.Plan.{spots, sourceOf, cost, newSize, proofCount, recordCount, judged}
+use Rattle.rules.specs.Plan.{changes, isThere, spots, sourceOf, cost, newSize, proofCount, recordCount, judged}
 use Rattle.view.specs.Seen.{spotsOf}
 use Rattle.sia.specs.declared.Op.{Op}
 use Rattle.sia.specs.declared.Instruction.{Instruction}
 use Rattle.host.specs.declared.Progress.{Progress}
 use Rattle.rules.specs.declared.Spot.{Spot}
+use Rattle.plan.specs.Numbers.{numbers}
+use Rattle.plan.specs.Weighed.{weighed}
 use Rattle.inputs.specs.Given.{placed, noArgs, fromOf}
 use Rattle.inputs.specs.declared.Args.{Args}
 use Rattle.plan.specs.declared.Plan.{Plan}
@@ -42,6 +45,17 @@ said r = record {
 -- a failure: its number, and nothing else
 unfoldable pub failed : Op → ℕ → Said
 failed op n = record { number = n; op = op; args = noArgs; sectors = []; cost = 0; size = 0; hashes = 0; count = 0 }
+
+-- 24 to 42, of arguments that are told
+unfoldable pub argued : ℕ → Setting → Progress → Bool → Op → Args → Said
+argued z s p asked op g =
+    let from = sourceOf z s p op (g .key) in
+    let w = weighed z s p asked from op (numbers g) in
+    pick (both (changes op) (readOnlyMode (s .terms))) (failed op 24)
+    (pick (not (isThere from)) (failed op 25)
+    (pick (eqb (w .number) 0)
+    (record { number = 0; op = op; args = g; sectors = spots from; cost = w .cost; size = w .size; hashes = w .hashes; count = w .count })
+    (failed op (w .number))))
 
 -- an instruction that can run: its arguments, what it reads, its cost, the new size, its hashes, and the record's length
 unfoldable pub runs : ℕ → Setting → Progress → Instruction → List ℕ → Said

@@ -21,7 +21,7 @@ ghost use Rattle.sia.specs.Names.{readOnly};
 ghost use Rattle.rules.specs.View.{setting};
 ghost use Rattle.rules.specs.Plan as Says;
 ghost use Rattle.rules.specs.Facts.{Solid, Good};
-ghost use Rattle.plan.specs.Planned.{said, failed, planOf};
+ghost use Rattle.plan.specs.Planned.{said, failed, argued, planOf};
 
 impl Plan {
     // A failure, by its number, with nothing else.
@@ -53,6 +53,50 @@ fn changes_nothing(op: Op, id: [u8; 32]) -> bool
     sia::is_read_only(id)
 }
 
+// 24 to 42, of arguments that are told.
+fn argued(
+    sectors: u64,
+    copies: u64,
+    places: [Place; 8],
+    terms: Terms,
+    p: Progress,
+    asked: bool,
+    op: Op,
+    args: Args,
+    disk: &[u8],
+) -> Plan
+    requires { ⌜ Solid 4096 (setting sectors copies places terms (now disk)) ⌝ }
+    requires { ⌜ Good 4096 (setting sectors copies places terms (now disk)) p ⌝ }
+    ensures { λ r. ⌜ said r ≡ argued 4096 (setting sectors copies places terms (now (disk .entry))) p asked op args ⌝ }
+{
+    let head = terms.head;
+    let id = head.contract;
+    if changes_nothing(op, id) {
+        return Plan::failed(op, 24);
+    }
+    let key = args.key;
+    let source = source_of(disk, places, terms, p, op, key);
+    if !source.there {
+        return Plan::failed(op, 25);
+    }
+    let seen = source.seen;
+    let count = seen.count as u64;
+    let w = weighed(sectors, copies, places, terms, p, asked, op, args, count);
+    if w.number != 0 {
+        return Plan::failed(op, w.number);
+    }
+    Plan {
+        number: 0,
+        op,
+        args,
+        seen,
+        cost: w.cost,
+        size: w.size,
+        hashes: w.hashes,
+        count: w.count,
+    }
+}
+
 // Whether an instruction can run, and what it costs and changes then. `input` is the input area, of the declared length.
 pub fn planned(
     sectors: u64,
@@ -82,30 +126,6 @@ pub fn planned(
     if !given.told {
         return Plan::failed(op, 23);
     }
-    let id = head.contract;
-    if changes_nothing(op, id) {
-        return Plan::failed(op, 24);
-    }
     let args = given.args;
-    let key = args.key;
-    let source = source_of(disk, places, terms, p, op, key);
-    if !source.there {
-        return Plan::failed(op, 25);
-    }
-    let seen = source.seen;
-    let count = seen.count as u64;
-    let w = weighed(sectors, copies, places, terms, p, i.proof, op, args, count);
-    if w.number != 0 {
-        return Plan::failed(op, w.number);
-    }
-    Plan {
-        number: 0,
-        op,
-        args,
-        seen,
-        cost: w.cost,
-        size: w.size,
-        hashes: w.hashes,
-        count: w.count,
-    }
+    argued(sectors, copies, places, terms, p, i.proof, op, args, disk)
 }

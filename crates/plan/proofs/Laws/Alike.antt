@@ -16,6 +16,7 @@ use Rattle.sia.specs.declared.Op.{Op}
 use Rattle.sia.specs.declared.Op.the-variants.{Read, ReadSector, Write, Copy, Swap, Truncate, Unknown}
 use Rattle.host.specs.declared.Progress.{Progress}
 use Rattle.inputs.specs.Given.{placed}
+use Rattle.inputs.specs.declared.Args as code
 use Rattle.plan.specs.Numbers.{sectorsOf, numbers}
 use Rattle.plan.specs.Weighed.{refused, fine, weighed}
 use Rattle.plan.proofs.Laws.Numbers.{sectors-many}
@@ -76,7 +77,7 @@ module _ (z : ℕ) (f : Source) (a : Says.Args) (x n : ℕ) (long : length (spot
         (pick (ltb (s .sectors * z) (size-same (p .size) op i + others (s .terms .head .contract) (s .places))) 41
         (pick (ltb (s .terms .room) (p .written + record-same asked op i + 72)) 42 0)))))
 
-    pub weighed-same : weighed z off p asked (sectorsOf n) op (numbers (placed a x)) ≡ weighed z s p asked f op a
+    weighed-same : weighed z off p asked (sectorsOf n) op (numbers (placed a x)) ≡ weighed z s p asked f op a
     unfolding weighed fine numbers placed
     weighed-same i =
         pick (eqb (judged-same i) 0)
@@ -88,3 +89,14 @@ module _ (z : ℕ) (f : Source) (a : Says.Args) (x n : ℕ) (long : length (spot
           count = record-same asked op i;
         })
         (refused (judged-same i))
+
+module _ (z : ℕ) (f : Source) (s : Setting) (p : Progress) (asked : Bool) (op : Op) where
+  -- the real sectors
+  pub weighed-at : (g : code.Args) (n : ℕ) → length (spots f) ≡ n
+      → weighed z (setting (s .sectors) (s .copies) (s .places) (s .terms) []) p asked (sectorsOf n) op (numbers g) ≡ weighed z s p asked f op (numbers g)
+  unfolding numbers placed
+  weighed-at g n long = weighed-same z f (numbers g) 0 n long s p asked op
+
+  -- the real arguments
+  pub weighed-real : (a : Says.Args) (x : ℕ) → weighed z s p asked f op (numbers (placed a x)) ≡ weighed z s p asked f op a
+  weighed-real a x = sym (weighed-at (placed a x) (length (spots f)) refl) ∙ weighed-same z f a x (length (spots f)) refl s p asked op

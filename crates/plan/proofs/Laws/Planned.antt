@@ -4,9 +4,10 @@ use mathlib.Core.Bool.{true, false, not}
 use mathlib.Core.List.{List}
 use Prim.Native.Nat.{ℕ, _/_, _≤_, _<_}
 use native.Mathlib.Omega.{arith}
-use borrow.Author.Tests.{eq-eqb, ne-eqb}
+use lib.Dec.{eqb}
+use borrow.Author.Tests.{eq-eqb, ne-eqb, eqb-true, eqb-false}
 use Rattle.area.specs.Pick.{both}
-use Rattle.area.proofs.Laws.Pick.{yes, no, picks}
+use Rattle.area.proofs.Laws.Pick.{yes, no, by, picks, skips}
 use Rattle.sia.specs.Names.{opOf}
 use Rattle.sia.proofs.Laws.Limits.{within-is}
 use Rattle.host.proofs.Laws.Order.{terms-facts}
@@ -20,11 +21,13 @@ use Rattle.sia.specs.declared.Op.the-variants.{Read, ReadSector, Write, Copy, S
 use Rattle.host.specs.declared.Progress.{Progress}
 use Rattle.rules.specs.declared.Spot.{Spot}
 use Rattle.inputs.specs.Given.{placed, fromOf}
+use Rattle.plan.specs.Numbers.{numbers}
 use Rattle.plan.specs.Weighed.{fine, weighed}
-use Rattle.plan.specs.Planned.{failed, runs, planOf}
+use Rattle.plan.specs.Planned.{failed, argued, runs, planOf}
 use Rattle.inputs.specs.declared.Args as code
 use Rattle.plan.specs.declared.Weighed.{Weighed}
 use Rattle.plan.proofs.Laws.Weighed.{number-judged}
+use Rattle.plan.proofs.Laws.Alike.{weighed-real}
 
 -- ---- what is read does not look at the areas' numbers
 
@@ -126,3 +129,21 @@ module _ (z : ℕ) (s : Setting) (p : Progress) (i : Instruction) (area : List �
                   hashes = q k .hashes;
                   count = q k .count;
                 })
+
+      -- 24 to 42 after the others
+      module _ (told : wellFormed op (inputsOf i area) ≡ true) where
+        abbrev weight : Weighed
+        weight = weighed z s p (i .proof) from op (numbers (placed args (fromOf op i)))
+
+        weight-is : weight ≡ weighed z s p (i .proof) from op args
+        weight-is = weighed-real z from s p (i .proof) op args (fromOf op i)
+
+        pub argued-is : argued z s p (i .proof) op (placed args (fromOf op i)) ≡ planOf z s p i area
+        unfolding argued placed
+        argued-is = by (both (changes op) (readOnlyMode (s .terms)))
+            (λ u. picks _ _ _ u ∙ fails-24 told u)
+            (λ u. skips _ _ _ u ∙ by (isThere from)
+            (λ v. skips (not (isThere from)) _ _ (ap not v) ∙ by (eqb (weight .number) 0)
+            (λ n. picks _ _ _ n ∙ plan-is told u v weight weight-is (eqb-true _ _ n) _ _ _ refl refl refl)
+            (λ n. skips _ _ _ n ∙ fails-later told u v weight weight-is (eqb-false _ _ n)))
+            (λ v. picks (not (isThere from)) _ _ (ap not v) ∙ fails-25 told u v))
