@@ -8,7 +8,6 @@ use Rattle.sia.specs.Names.{opOf}
 use Rattle.rules.specs.View.{Setting, setting}
 use Rattle.rules.specs.Inputs.{illFormed, pastEnd, inputsOf, wellFormed, argsOf}
 use Rattle.sia.specs.declared.Op.{Op}
-use Rattle.inputs.specs.declared.Args.{Args}
 use Rattle.inputs.specs.Given.{given, fromOf, placed}
 use Rattle.inputs.proofs.Laws.Given.{told-is, args-are}
 use Rattle.plan.specs.Planned.{failed, argued}

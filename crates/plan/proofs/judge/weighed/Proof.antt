@@ -79,10 +79,10 @@ returns-3 c =
 fitted-requires : tie.Need-fitted-requires
 fitted-requires c κs =
     let at-if2 = c .before .before .before .before .before in
-    let s = at-if2 .before .before .before .before in (
-      s .pre .0,
-      (s .pre .1 .0, (s .pre .1 .1 .1, provable (s .args .p .size) (s .args .seen) (s .args .op) (s .args .args) (s .args .asked) (right-spans (at-if2 .before .before)) (asked-well at-if2))),
-    )
+    let s = at-if2 .before .before .before .before in
+    let a = s .args in
+    let ranged = provable (a .p .size) (a .seen) (a .op) (a .args) (a .asked) (right-spans (at-if2 .before .before)) (asked-well at-if2) in
+    (s .pre .0, (s .pre .1 .0, (s .pre .1 .1 .1, ranged)))
 
 returns-4 : tie.Need-returns-4
 unfolding numbers
