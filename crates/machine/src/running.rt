@@ -22,7 +22,7 @@ fn ready(terms: Terms, k: u64, progress: Progress) -> bool
     }
     let list = head.instructions;
     let i = list[progress.ran as usize];
-    plan::need(head.length, i) <= k
+    inputs::need(head.length, i) <= k
 }
 
 // At most as many as the head has.

@@ -35,9 +35,9 @@ use Rattle.view.proofs.Callers.{every-lies, seen-valid, span-inside, range-rang
 use Rattle.effect.specs.Parts.{ground, staging, args}
 use Rattle.effect.specs.Asks as Effect
 use Rattle.effect.proofs.Laws.Passed.{stands-with, effect-with}
-use Rattle.plan.specs.Given.{placed, fromOf, argsGiven, bytesGiven}
+use Rattle.inputs.specs.Given.{placed, fromOf, argsGiven, bytesGiven}
 use Rattle.plan.specs.Planned.{Said, said, failed, runs, planOf}
-use Rattle.plan.proofs.Laws.Given.{given-args}
+use Rattle.inputs.proofs.Laws.Given.{given-args}
 use Rattle.plan.proofs.Laws.Planned.{size-few}
 use Rattle.records.specs.Front.{pair}
 use Rattle.records.specs.Shown.{shownProof, shownBytes, Shows}
