@@ -11,3 +11,4 @@ pub mod Opening
 pub mod Committing
 pub mod Commits
 pub mod Nothing
+pub mod Depots

@@ -2,11 +2,11 @@
 use mathlib.Core.Path.{_≡_, refl, sym, ap, _∙_, subst}
 use mathlib.Core.Bool.{true, not}
 use mathlib.Core.List.{List}
-use Prim.Native.Nat.{ℕ}
+use Prim.Native.Nat.{ℕ, _≤_}
 use native.Mathlib.Omega.{arith}
 use lib.ListN.{length}
 use lib.Dec.{eqb}
-use borrow.Author.Tests.{not-false, eqb-false}
+use borrow.Author.Tests.{not-false, eqb-false, ltb-false}
 use Rattle.area.specs.Pick.{pick}
 use Rattle.area.specs.Little.{Bytes}
 use Rattle.area.proofs.Laws.Pick.{by, picks, skips}
@@ -32,8 +32,8 @@ fault-passes fault h r e =
     (λ u. absurd (eqb-false fault 0 u (ap (λ (x : Answer). x .number) (sym (picks (not (eqb fault 0)) (answered fault 0 h) r (ap not u))) ∙ e)))
 
 -- what an opening that is answered with 0 answers
-opens : (z : ℕ) (h : Host) (fault : ℕ) (hd : Head) (budget : ℕ) (p : Prices) (room : ℕ) → openedHead z h fault hd budget p room .number ≡ 0
-    → (inOrder z h ≡ true) × (openedHead z h fault hd budget p room ≡ answered 0 (p .init) (withProgram h (begun h hd budget p room)))
+pub opens : (z : ℕ) (h : Host) (fault : ℕ) (hd : Head) (budget : ℕ) (p : Prices) (room : ℕ) → openedHead z h fault hd budget p room .number ≡ 0
+    → (inOrder z h ≡ true) × (openedHead z h fault hd budget p room ≡ answered 0 (p .init) (withProgram h (begun h hd budget p room))) × (p .init ≤ budget)
 unfolding openedHead
 opens z h fault hd budget p room a =
     let c1 = passes (λ r. r .number) _ (answered 1 0 h) _ (λ n. absurd (omega arith)) a in
@@ -42,7 +42,7 @@ opens z h fault hd budget p room a =
     let c9 = fault-passes fault h _ (c3 .1) in
     let c7 = passes (λ r. r .number) _ (answered 7 0 h) _ (λ n. absurd (omega arith)) (c9 .0) in
     let c11 = passes (λ r. r .number) _ (answered 11 0 h) _ (λ n. absurd (omega arith)) (c7 .1) in
-    (not-false _ (c1 .0), c1 .2 ∙ c2 .2 ∙ c3 .2 ∙ c9 .1 ∙ c7 .2 ∙ c11 .2)
+    (not-false _ (c1 .0), c1 .2 ∙ c2 .2 ∙ c3 .2 ∙ c9 .1 ∙ c7 .2 ∙ c11 .2, ltb-false budget (p .init) (c11 .0))
 
 begun-opened : (z : ℕ) (h : Host) (hd : Head) (budget : ℕ) (p : Prices) (room : ℕ) (disk stage input output : List ℕ) → Sound z h
     → inOrder z (withProgram h (begun h hd budget p room)) ≡ true → areasRight z h disk stage ≡ true → length input ≡ hd .length → length output ≡ room

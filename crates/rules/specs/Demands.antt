@@ -1,6 +1,7 @@
 -- The demands as statements over the definitions. z is the sector size. Proved in proofs/: Refusals in Refusing, Failures and Tallied in
 -- Failing, Nothing in Nothing, Commits in Commits, Ordered in Ordering and Forming, Cuttings in Cutting, Openings in Opening, Records in
--- Records; the two round trips of heads and identity on all 32 bytes in crate sia, Theorems. Assumes nothing.
+-- Records, Depots in Depots; the two round trips of heads and identity on all 32 bytes in crate sia, Theorems. Each call's code is proved equal
+-- to its definition (crates host and machine), so what is said here holds of the calls. Assumes nothing.
 use mathlib.Core.Path.{_≡_}
 use mathlib.Core.Bool.{Bool, true, false}
 use mathlib.Core.List.{List, [], _∷_, _++_}
@@ -287,3 +288,42 @@ pub record Records : Type 0 where
       → (b : List ℕ) (bs : List (List ℕ)) (rest : List ℕ) → together (b ∷ bs) ++ rest ≡ all
       → fed z disk (lentTo h stage input output) (b ∷ bs) .output
       ≡ put output 0 (together (take (met z disk h stage output all (length (together (b ∷ bs)))) (wholeRun z disk h stage output all)))
+
+-- ---- as a depot makes the calls: fresh, form, open, pieces, close
+
+-- contracts formed in turn
+unfoldable pub formedAll : ℕ → Host → List (List ℕ) → Host
+formedAll z h [] = h
+formedAll z h (id ∷ ids) = formedAll z (formed z h id .host) ids
+
+-- A host that was made and given contracts, refused or not, is in order and its arrays are as declared, so all that is said above of opening,
+-- pieces, interrupts and closing holds of it: a program that it opens takes pieces cut anywhere from the front of its data, and after them the
+-- output holds the first m records of the whole data's run.
+pub record Depots : Type 0 where
+  pub order : (z disk stage : ℕ) (ids : List (List ℕ)) → freshed z disk stage .number ≡ 0 → inOrder z (formedAll z (freshed z disk stage .host) ids) ≡ true
+  pub sound : (z disk stage : ℕ) (ids : List (List ℕ)) → 0 < z → Sound z (formedAll z (freshed z disk stage .host) ids)
+  pub cuttings : (z d s : ℕ) (ids : List (List ℕ)) (bytes : List ℕ) (budget : ℕ) (p : Prices) (room : ℕ) (disk stage input output all : List ℕ)
+      → 0 < z → Bytes bytes → let h = formedAll z (freshed z d s .host) ids in let after = opened z h bytes budget p room in
+      after .number ≡ 0 → areasRight z h disk stage ≡ true → length input ≡ decode bytes .head .length → length output ≡ room
+      → length all ≡ after .host .program .terms .head .length → Cutting z disk (after .host) stage input output all
+  pub records : (z d s : ℕ) (ids : List (List ℕ)) (bytes : List ℕ) (budget : ℕ) (p : Prices) (room : ℕ) (disk stage input output all : List ℕ)
+      → 0 < z → Sectors z → Bytes bytes → let h = formedAll z (freshed z d s .host) ids in let after = opened z h bytes budget p room in
+      after .number ≡ 0 → areasRight z h disk stage ≡ true → length input ≡ decode bytes .head .length → length output ≡ room
+      → length all ≡ after .host .program .terms .head .length
+      → (b : List ℕ) (bs : List (List ℕ)) (rest : List ℕ) → together (b ∷ bs) ++ rest ≡ all
+      → fed z disk (lentTo (after .host) stage input output) (b ∷ bs) .output
+      ≡ put output 0 (together (take (met z disk (after .host) stage output all (length (together (b ∷ bs)))) (wholeRun z disk (after .host) stage output all)))
+  -- all or nothing: pieces leave every contract; then a close that is answered with 0 to an agreement commits, and every other close leaves disk and contracts
+  pub closings : (z d s : ℕ) (ids : List (List ℕ)) (bytes : List ℕ) (budget : ℕ) (p : Prices) (room : ℕ) (disk stage input output : List ℕ) (bs : List (List ℕ))
+      (agree : Bool) (size : ℕ) (root : List ℕ) → 0 < z → let h = formedAll z (freshed z d s .host) ids in
+      let w = fed z disk (lentTo (opened z h bytes budget p room .host) stage input output) bs in let r = close z disk (w .host) (w .stage) agree size root in
+      (w .host .places ≡ h .places) × (r .number ≡ 0 → agree ≡ true → Committed z disk (w .host) (w .stage) r) × ((r .number ≡ 0 → ⊥) → Untouched disk (w .host) r)
+      × (agree ≡ false → Untouched disk (w .host) r)
+  -- the tally answered after pieces is Init and the costs of the instructions that succeeded, and is within the budget
+  pub tally : (z d s : ℕ) (ids : List (List ℕ)) (bytes : List ℕ) (budget : ℕ) (p : Prices) (room : ℕ) (disk stage input output all : List ℕ)
+      → 0 < z → Bytes bytes → let h = formedAll z (freshed z d s .host) ids in let after = opened z h bytes budget p room in
+      after .number ≡ 0 → areasRight z h disk stage ≡ true → length input ≡ decode bytes .head .length → length output ≡ room
+      → length all ≡ after .host .program .terms .head .length
+      → (b : List ℕ) (bs : List (List ℕ)) (rest : List ℕ) → together (b ∷ bs) ++ rest ≡ all → let w = fed z disk (lentTo (after .host) stage input output) (b ∷ bs) in
+      (w .tally ≡ p .init + charges z (settingOf (after .host) disk) all (length (together (b ∷ bs))) (after .host .program .terms .head .count) (turnOf (after .host) stage output))
+      × (w .tally ≤ budget)
