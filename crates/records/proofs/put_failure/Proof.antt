@@ -27,7 +27,7 @@ returns c =
     let start = front-laid .before .before .before in
     let p = pair (start .args .size) (start .args .root) in
     lay-same _ 0 _
-    (lay-two _ 0 _ _ 64 (front-laid .put-front .ensures) (c .before .before .store .ensures) (length-front _ 0 p 0 (start .good .1 .1 .0 .1 .0 .1)) refl)
+    (lay-two _ 0 _ _ 64 (front-laid .put-front .ensures) (c .before .before .store .ensures) (length-front _ _ p 0 (start .good .1 .1 .0 .1 .0 .1)) refl)
     (ap (λ (l : List ℕ). front (start .args .number) 0 p 0 ++ l) (sym (append-nil (le8 0))) ∙ sym (record-front (start .args .number) 0 p 0 (le8 0 ++ [])))
 
 pub put-failure-spec : {M : Type 1} → statement M
