@@ -1,5 +1,6 @@
 // The slots and bytes of a commit: which slots the parent has at its final size, and its staged sectors copied there. `slots[p]` is
 // the disk slot of position p, `staged[p]` its stage slot or NONE.
+// These are inner functions: what they require, their callers prove.
 ghost use mathlib.Core.Path.{_≡_};
 ghost use Prim.Native.Nat.{_-_, _/_, _≤_};
 ghost use lib.ListN.{length, take, set};

@@ -1,4 +1,5 @@
 // An instruction's inputs: whether it is well-formed, how many bytes it needs, and what the bytes that it names say.
+// These are inner functions: what they require, their callers prove.
 mod decode; // decode.rt: what the inputs say, and check 23
 mod operands; // operands.rt: checks 21 and 22, and the need
 mod sums; // sums.rt: a sum against a limit

@@ -1,5 +1,6 @@
 // Taking an instruction: whether it can run, and what it costs and changes then. Numbers alone, but for ReadSector, which looks a
 // root up.
+// These are inner functions: what they require, their callers prove.
 mod chain; // chain.rt: checks 21 to 42, and the plan of an instruction
 mod cost; // cost.rt: what an instruction is charged
 mod judge; // judge.rt: checks 26 to 42, in order

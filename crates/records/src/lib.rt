@@ -1,4 +1,5 @@
 // Records: the bytes that an instruction leaves in the output area. Each writer lays its bytes over the front of the part that it is lent.
+// These are inner functions: what they require, their callers prove.
 ghost use mathlib.Core.Path.{_≡_};
 ghost use mathlib.Core.Bool.{true};
 ghost use mathlib.Core.List.{[]};

@@ -1,4 +1,5 @@
 // What the machine sees of contracts: the bytes of a sector, in whichever area holds it, and roots and proofs of what is seen.
+// These are inner functions: what they require, their callers prove.
 
 mod roots; // roots.rt: roots and proofs of what is seen
 mod sectors; // sectors.rt: where a sector is, and its bytes
