@@ -1,5 +1,5 @@
-// Each kind of item, and its call. An item is malformed where bytes are missing, where it lends more than an area has, or where a number
-// does not fit: then no call is made.
+// Each kind of item, and its call. An item is malformed where it lends more than an area has, or where a number does not fit: then no call
+// is made.
 ghost use Prim.Native.Nat.{_+_, _≤_, _<_};
 ghost use lib.ListN.{length};
 use crate::pokes;
@@ -9,7 +9,6 @@ use host::Prices;
 // What an item answered, and the host that it left; `root` is shown for `reached` alone, whose size stands for the tally.
 pub struct Made {
     pub fine: bool,
-    pub used: usize,
     pub number: u64,
     pub tally: u64,
     pub growth: i64,
@@ -22,7 +21,6 @@ fn malformed(host: Host) -> Made {
     let root = [0u8; 32];
     Made {
         fine: false,
-        used: 0,
         number: 0,
         tally: 0,
         growth: 0,
@@ -32,11 +30,10 @@ fn malformed(host: Host) -> Made {
     }
 }
 
-fn answered(used: usize, number: u64, tally: u64, growth: i64, host: Host) -> Made {
+fn answered(number: u64, tally: u64, growth: i64, host: Host) -> Made {
     let root = [0u8; 32];
     Made {
         fine: true,
-        used,
         number,
         tally,
         growth,
@@ -46,7 +43,7 @@ fn answered(used: usize, number: u64, tally: u64, growth: i64, host: Host) -> Ma
     }
 }
 
-// Makes the call of the item that `item` begins with.
+// Makes the call of an item that is whole: a head or a piece stands at its end.
 pub fn make(
     item: &[u8],
     host: Host,
@@ -105,7 +102,7 @@ fn fresh(
     area::fill(input, 0, input.len(), byte);
     area::fill(output, 0, output.len(), byte);
     let after = made.host;
-    answered(18, made.number, 0, 0, after)
+    answered(made.number, 0, 0, after)
 }
 
 fn form(item: &[u8], host: Host) -> Made {
@@ -115,7 +112,7 @@ fn form(item: &[u8], host: Host) -> Made {
     let id = bytes_at(item, 1);
     let made = host::form(host, id);
     let after = made.host;
-    answered(33, made.number, 0, 0, after)
+    answered(made.number, 0, 0, after)
 }
 
 fn drop(item: &[u8], host: Host) -> Made {
@@ -125,7 +122,7 @@ fn drop(item: &[u8], host: Host) -> Made {
     let id = bytes_at(item, 1);
     let made = host::drop(host, id);
     let after = made.host;
-    answered(33, made.number, 0, 0, after)
+    answered(made.number, 0, 0, after)
 }
 
 // ---- opening
@@ -172,17 +169,12 @@ fn open(item: &[u8], host: Host) -> Made {
     if !prices_fit(item) {
         return malformed(host);
     }
-    let n = area::load(item, 73);
-    if ((item.len() - 81) as u64) < n {
-        return malformed(host);
-    }
     let room = area::load(item, 1);
     let budget = area::load(item, 9);
     let prices = prices_of(item);
-    let end = 81 + n as usize;
-    let made = machine::open(host, &item[81..end], budget, prices, room);
+    let made = machine::open(host, &item[81..], budget, prices, room);
     let after = made.host;
-    answered(end, made.number, made.tally, 0, after)
+    answered(made.number, made.tally, 0, after)
 }
 
 // ---- an open program
@@ -203,10 +195,6 @@ fn piece(
     let s = area::load(item, 9);
     let i = area::load(item, 17);
     let o = area::load(item, 25);
-    let n = area::load(item, 33);
-    if ((item.len() - 41) as u64) < n {
-        return malformed(host);
-    }
     if (disk.len() as u64) < d {
         return malformed(host);
     }
@@ -223,17 +211,16 @@ fn piece(
     let copies = s as usize;
     let data = i as usize;
     let room = o as usize;
-    let end = 41 + n as usize;
     let made = machine::piece(
         host,
         &disk[0..sectors],
         &mut stage[0..copies],
         &mut input[0..data],
         &mut output[0..room],
-        &item[41..end],
+        &item[41..],
     );
     let after = made.host;
-    answered(end, made.number, made.tally, 0, after)
+    answered(made.number, made.tally, 0, after)
 }
 
 // Lent lengths of disk and output.
@@ -253,7 +240,7 @@ fn interrupt(item: &[u8], host: Host, disk: &[u8], output: &mut [u8]) -> Made {
     let room = o as usize;
     let made = machine::interrupt(host, &disk[0..sectors], &mut output[0..room]);
     let after = made.host;
-    answered(17, made.number, made.tally, 0, after)
+    answered(made.number, made.tally, 0, after)
 }
 
 // ---- closing
@@ -264,7 +251,7 @@ fn give_up(item: &[u8], host: Host, disk: &mut [u8], stage: &[u8]) -> Made {
         return malformed(host);
     }
     let root = [0u8; 32];
-    close(item, host, disk, stage, 17, false, 0, root)
+    close(item, host, disk, stage, false, 0, root)
 }
 
 // Lent lengths of disk and stage; size; root.
@@ -274,7 +261,7 @@ fn agree(item: &[u8], host: Host, disk: &mut [u8], stage: &[u8]) -> Made {
     }
     let size = area::load(item, 17);
     let root = bytes_at(item, 25);
-    close(item, host, disk, stage, 57, true, size, root)
+    close(item, host, disk, stage, true, size, root)
 }
 
 fn close(
@@ -282,7 +269,6 @@ fn close(
     host: Host,
     disk: &mut [u8],
     stage: &[u8],
-    used: usize,
     agreed: bool,
     size: u64,
     root: [u8; 32],
@@ -308,7 +294,7 @@ fn close(
         root,
     );
     let after = made.host;
-    answered(used, made.number, made.tally, made.growth, after)
+    answered(made.number, made.tally, made.growth, after)
 }
 
 // Lent lengths of disk and stage.
@@ -330,7 +316,6 @@ fn reached<'a>(item: &[u8], host: Host, disk: &'a [u8], stage: &'a [u8]) -> Made
     let root = made.root;
     Made {
         fine: true,
-        used: 17,
         number: made.number,
         tally: made.size,
         growth: 0,
@@ -355,5 +340,5 @@ fn poke(item: &[u8], host: Host) -> Made {
         return malformed(host);
     }
     let after = pokes::poked(host, field, i, j, value);
-    answered(33, 0, 0, 0, after)
+    answered(0, 0, 0, after)
 }

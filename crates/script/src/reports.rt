@@ -17,6 +17,7 @@ pub fn write(
     report: &mut [u8],
 ) -> usize
     requires { ⌜ 5248 ≤ length (now report) ⌝ }
+    ensures { λ r. ⌜ r ≤ 5248 ⌝ }
 {
     let host = made.host;
     let one = answer(made, report);
