@@ -1,26 +1,21 @@
 // Plays a script of calls from standard input, item by item, and writes the report of each; docs/CALLS.md has the items and the report.
 // It stops at the end of input and at the first malformed item, for which it writes nothing.
-ghost use Prim.Native.Nat.{_+_, _≤_};
+ghost use Prim.Native.Nat.{_+_, _≤_, _<_};
 ghost use lib.ListN.{length};
 use host::Host;
 use libc::STDIN_FILENO;
 use libc::STDOUT_FILENO;
 use script::Played;
 
-// The longest item that is kept: a piece that is longer than any data, behind its lengths.
-const ITEM: usize = 65_578;
-
-// A head that is a byte longer than any head, and a piece that is a byte longer than any data, answer as all longer ones do.
-const HEAD: u64 = 2_897;
-
-const PIECE: u64 = 65_537;
+// Room for any item that is kept: its first byte, at most 80 that follow it, and at most 65,537 of a head or a piece.
+const ITEM: usize = 65_618;
 
 fn main() {
     let mut disk = [0u8; 262144];
     let mut stage = [0u8; 65536];
     let mut input = [0u8; 65536];
     let mut output = [0u8; 65536];
-    let mut item = [0u8; 65578];
+    let mut item = [0u8; 65618];
     let mut report = [0u8; 5248];
     play_all(
         &mut disk,
@@ -32,6 +27,7 @@ fn main() {
     );
 }
 
+// Item after item, up to one that is malformed or missing. No input has more items than `left` counts.
 fn play_all(
     disk: &mut [u8],
     stage: &mut [u8],
@@ -43,24 +39,45 @@ fn play_all(
     let mut host = script::no_host();
     let mut left: u64 = 18_446_744_073_709_551_615;
     while 0 < left {
-        let n = next(item);
-        if n == 0 {
-            return;
-        }
-        let played = script::play(&item[..n], host, disk, stage, input, output, report);
-        if !played.fine {
-            return;
-        }
-        let written = played.written;
-        io::write_all(STDOUT_FILENO, &report[..written]);
+        let played = play_next(host, disk, stage, input, output, item, report);
         let after = played.host;
         host = after;
-        left -= 1;
+        left = still(played.fine, left);
     }
 }
 
+// The turns that are left after an item.
+fn still(fine: bool, left: u64) -> u64
+    requires { ⌜ 0 < left ⌝ }
+    ensures { λ r. ⌜ r < left ⌝ }
+{
+    if fine {
+        return left - 1;
+    }
+    0
+}
+
+// Reads the next item, plays it, and writes its report.
+fn play_next(
+    host: Host,
+    disk: &mut [u8],
+    stage: &mut [u8],
+    input: &mut [u8],
+    output: &mut [u8],
+    item: &mut [u8],
+    report: &mut [u8],
+) -> Played {
+    let n = next(item);
+    let played = script::play(&item[0..n], host, disk, stage, input, output, report);
+    let written = played.written;
+    io::write_all(STDOUT_FILENO, &report[0..written]);
+    played
+}
+
 // Reads the next item to the front of `item`; answers its length, or 0 where there is no whole one.
-fn next(item: &mut [u8]) -> usize {
+fn next(item: &mut [u8]) -> usize
+    ensures { λ r. ⌜ r ≤ length (now (item .exit)) ⌝ }
+{
     if item.len() < ITEM {
         return 0;
     }
@@ -68,24 +85,26 @@ fn next(item: &mut [u8]) -> usize {
         return 0;
     }
     let kind = item[0];
-    let fixed = script::fixed(kind);
-    if fixed == 0 {
+    let n = script::fixed(kind);
+    if n < 8 {
         return 0;
     }
-    if !take(item, 1, fixed) {
+    if !take(item, 1, n) {
         return 0;
     }
-    if script::is_open(kind) {
-        return tail(item, 81, HEAD);
+    let most = script::most(kind);
+    if most == 0 {
+        return 1 + n;
     }
-    if script::is_piece(kind) {
-        return tail(item, 41, PIECE);
-    }
-    1 + fixed
+    tail(item, 1 + n, most)
 }
 
-// A head or a piece, whose length stands before `at`: at most `most` bytes are kept, and the length with them.
-fn tail(item: &mut [u8], at: usize, most: u64) -> usize {
+// A head or a piece, whose length stands before `at`. What is behind its first `most` bytes is dropped, and the length changed to theirs:
+// the call answers the same.
+fn tail(item: &mut [u8], at: usize, most: u64) -> usize
+    requires { ⌜ (8 ≤ at) × (at + most ≤ length (now item)) ⌝ }
+    ensures { λ r. ⌜ r ≤ length (now (item .exit)) ⌝ }
+{
     let n = area::load(item, at - 8);
     let keep = least(n, most);
     if !take(item, at, keep as usize) {
@@ -98,7 +117,9 @@ fn tail(item: &mut [u8], at: usize, most: u64) -> usize {
     at + keep as usize
 }
 
-fn least(a: u64, b: u64) -> u64 {
+fn least(a: u64, b: u64) -> u64
+    ensures { λ r. ⌜ (r ≤ a) × (r ≤ b) ⌝ }
+{
     if a < b {
         return a;
     }
@@ -106,7 +127,9 @@ fn least(a: u64, b: u64) -> u64 {
 }
 
 // Reads n bytes to `at`; whether all came.
-fn take(item: &mut [u8], at: usize, n: usize) -> bool {
+fn take(item: &mut [u8], at: usize, n: usize) -> bool
+    requires { ⌜ at + n ≤ length (now item) ⌝ }
+{
     let end = at + n;
     let got = io::read_full(STDIN_FILENO, &mut item[at..end]);
     got == n
@@ -131,5 +154,5 @@ fn some(n: u64) -> u64
 {
     let mut space = io::buffer();
     let most = least(n, 4096) as usize;
-    io::read_full(STDIN_FILENO, &mut space[..most]) as u64
+    io::read_full(STDIN_FILENO, &mut space[0..most]) as u64
 }
