@@ -45,7 +45,17 @@ pub fn run(
     if formed.number != 0 {
         return playing::refused(formed.number, ready);
     }
-    playing::begin(ready, prices, budget, head, bytes, disk, stage, input, output)
+    playing::begin(
+        ready,
+        prices,
+        budget,
+        head,
+        bytes,
+        disk,
+        stage,
+        input,
+        output,
+    )
 }
 
 // Plays what the whole input asks for: 9 if bytes ahead of the data are missing, the price count is not 7 or a price passes 65,535.

@@ -6,15 +6,23 @@ use Prim.Native.Nat.{ℕ, zero, suc, _+_, _-_, _*_, _/_, _≤_, _<_}
 use native.Mathlib.Numerals.{add-one}
 use native.Mathlib.Nat.{div-add-mod', mod-lt}
 use native.Mathlib.Omega.{arith}
-use lib.ListN.{length}
+use lib.ListN.{length, take, drop}
 use lib.Dec.{leb, ltb}
 use borrow.Author.Tests.{leb-true, ltb-false, not-false, lt-ltb, le-ltb}
 use Rattle.area.specs.Pick.{pick, either}
 use Rattle.area.specs.Area.{tab}
 use Rattle.area.proofs.Laws.Pick.{yes, no, both-left, both-right, either-left, either-right}
+use Rattle.area.proofs.Laws.Parts.{part-is}
+use Rattle.area.proofs.Laws.Lent.{rest-take}
 use Rattle.sia.specs.Encode.{every}
+use Rattle.host.specs.Calls.{freshed}
 use Rattle.machine.proofs.Laws.Hosts.{rest-less}
-use Rattle.single.specs.Input.{numberAt, idsEnd, headEnd, pricesRight, cutShort, wrong}
+use Rattle.single.specs.Single.{Ran, ran, leaves, run}
+use Rattle.single.specs.Input.{numberAt, pricesIn, budgetIn, idsEnd, headEnd, idsBytes, headBytes, dataBytes, pricesRight, cutShort, wrong, answered}
+use Rattle.single.proofs.Laws.Plays.{without}
+use Rattle.host.specs.declared.Prices.{Prices}
+use Rattle.host.specs.declared.Answer.{Answer}
+use Rattle.single.specs.declared.Outcome.{Outcome}
 
 -- ---- a list by its index, every entry of which passes a test
 
@@ -45,6 +53,9 @@ pub record Right (all : List ℕ) : Type 0 where
   pub prices : pricesRight all ≡ true
   pub ids : 80 + numberAt all 72 * 32 + 8 ≤ length all
   pub head : idsEnd all + 8 + numberAt all (idsEnd all) ≤ length all
+  pub past : 80 ≤ idsEnd all
+  pub sized : idsEnd all + 8 ≤ headEnd all
+  pub ends : headEnd all ≤ length all
 
 pub right : (all : List ℕ) → wrong all ≡ false → Right all
 unfolding wrong cutShort headEnd idsEnd
@@ -57,6 +68,9 @@ right all e =
       prices = not-false _ (either-left _ _ third);
       ids = ltb-false _ _ (either-left _ _ fourth);
       head = ltb-false _ _ (either-right _ _ fourth);
+      past = omega arith;
+      sized = omega arith;
+      ends = ltb-false _ _ (either-right _ _ fourth);
     }
 
 pub price-within : (all : List ℕ) (i : ℕ) → pricesRight all ≡ true → i < 7 → numberAt all (8 + i * 8) ≤ 65535
@@ -89,3 +103,34 @@ head-short all {count} {n} h e g w =
     (ap (λ (k : ℕ). ltb k n) rest
     ∙ ap (ltb _) (w ∙ ap (numberAt all) at)
     ∙ rest-less (length all) (80 + numberAt all 72 * 32 + 8) _ (omega arith))
+
+-- ---- the sections as parts of a slice
+
+module _ (all : List ℕ) where
+  pub ids-is : {e : ℕ} → e ≡ idsEnd all → take (e - 80) (drop 80 all) ≡ idsBytes all
+  unfolding idsBytes idsEnd
+  ids-is {e} h = part-is all 80 (numberAt all 72 * 32) e h
+
+  pub head-is : {at e : ℕ} → at ≡ idsEnd all → e ≡ headEnd all → take (e - (at + 8)) (drop (at + 8) all) ≡ headBytes all
+  unfolding headBytes headEnd
+  head-is {at} {e} g h = ap (λ (k : ℕ). take (e - (k + 8)) (drop (k + 8) all)) g ∙ part-is all (idsEnd all + 8) (numberAt all (idsEnd all)) e h
+
+  pub data-is : {e : ℕ} → e ≡ headEnd all → take (length all - e) (drop e all) ≡ dataBytes all
+  unfolding dataBytes
+  data-is {e} h = rest-take all e ∙ ap (λ (k : ℕ). drop k all) h
+
+-- ---- 9, or what the input asks for
+
+module _ (all disk stage input output : List ℕ) where
+  pub answered-nine : {f : Answer} {o : Outcome} → wrong all ≡ true → f ≡ freshed 4096 (length disk) (length stage) → o ≡ without 9 (f .host)
+      → leaves o disk stage input output ≡ answered 4096 all disk stage input output
+  unfolding answered
+  answered-nine w e q =
+      yes _ _ _ w
+      (ap (λ (x : Outcome). leaves x disk stage input output) q ∙ ap (λ (x : Answer). ran 9 0 (x .host) disk stage input output) e)
+
+  pub answered-run : {prices : Prices} {budget : ℕ} {ids head bytes : List ℕ} {x : Ran} → wrong all ≡ false → prices ≡ pricesIn all → budget ≡ budgetIn all
+      → ids ≡ idsBytes all → head ≡ headBytes all → bytes ≡ dataBytes all → x ≡ run 4096 prices budget ids head bytes disk stage input output
+      → x ≡ answered 4096 all disk stage input output
+  unfolding answered
+  answered-run w p b d h t q = no _ _ _ w (q ∙ (λ i. run 4096 (p i) (b i) (d i) (h i) (t i) disk stage input output))

@@ -1,112 +1,87 @@
+-- `single::answer` meets its contract. Assumes nothing.
+use mathlib.Core.Path.{sym, _∙_}
+use native.Mathlib.Omega.{arith}
+use Rattle.single.specs.Input.{numberAt}
+use Rattle.single.proofs.Laws.Input.{right, ids-is, head-is, data-is, answered-nine, answered-run}
 use borrow.Author.Needs.{needs}
 use Rattle.single.proofs.answer.Statement.{statement}
 use Rattle.single.proofs.answer.Tie as tie
-use Rattle.single.proofs.answer.Reads as reads
-use Rattle.single.proofs.answer.Lts as lts
-use Rattle.area.proofs.load.Reads as load-reads
-use Rattle.host.proofs.Host.fresh.Reads as fresh-reads
-use Rattle.single.proofs.playing.refused.Reads as refused-reads
-use Rattle.single.proofs.reading.head_end.Reads as head-end-reads
-use Rattle.single.proofs.reading.ids_end.Reads as ids-end-reads
-use Rattle.single.proofs.reading.prices.Reads as prices-reads
-use Rattle.single.proofs.reading.wrong.Reads as wrong-reads
-use Rattle.single.proofs.run.Reads as run-reads
 
--- src/lib.rt:62:8
 wrong-requires : tie.Need-wrong-requires
 wrong-requires c κs = search needs
 
--- src/lib.rt:63:13
 fresh-requires : tie.Need-fresh-requires
 fresh-requires c κs = search needs
 
--- src/lib.rt:65:9
 refused-requires : tie.Need-refused-requires
 refused-requires c κs = search needs
 
--- src/lib.rt:65:9
 returns : tie.Need-returns
-returns c = ?
+returns c = answered-nine _ _ _ _ _ (sym (c .before .before .before .before .wrong .ensures) ∙ c .before .before .before .if1 .taken) (c .before .before .fresh .ensures) (c .refused .ensures)
 
--- src/lib.rt:67:9
 prices-requires : tie.Need-prices-requires
-prices-requires c κs = ?
+prices-requires c κs = (sym (c .before .wrong .ensures) ∙ c .if1 .left)
 
--- src/lib.rt:68:9
 load-requires : tie.Need-load-requires
-load-requires c κs = ?
+load-requires c κs = let r = right _ (sym (c .before .before .wrong .ensures) ∙ c .before .if1 .left) in omega (arith, r .front, r .past, r .sized, r .ends)
 
--- src/lib.rt:69:9
 ids-end-requires : tie.Need-ids-end-requires
-ids-end-requires c κs = ?
+ids-end-requires c κs = (sym (c .before .before .before .wrong .ensures) ∙ c .before .before .if1 .left)
 
--- src/lib.rt:70:16
 add-from : tie.Need-add-from
-add-from c = ?
+add-from c = let r = right _ (sym (c .before .before .before .before .wrong .ensures) ∙ c .before .before .before .if1 .left) in omega (arith, r .front, r .past, r .sized, r .ends, c .ids-end .ensures)
 
--- src/lib.rt:71:9
 head-end-requires : tie.Need-head-end-requires
-head-end-requires c κs = ?
+head-end-requires c κs = (sym (c .before .before .before .before .wrong .ensures) ∙ c .before .before .before .if1 .left)
 
--- src/lib.rt:75:9
 sub-run : tie.Need-sub-run
-sub-run c = ?
+sub-run c = let r = right _ (sym (c .before .before .before .before .before .wrong .ensures) ∙ c .before .before .before .before .if1 .left) in omega (arith, r .front, r .past, r .sized, r .ends, c .before .ids-end .ensures, c .head-end .ensures)
 
--- src/lib.rt:75:9
 part-run-start : tie.Need-part-run-start
-part-run-start c = ?
+part-run-start c = let r = right _ (sym (c .before .before .before .before .before .wrong .ensures) ∙ c .before .before .before .before .if1 .left) in omega (arith, r .front, r .past, r .sized, r .ends, c .before .ids-end .ensures, c .head-end .ensures)
 
--- src/lib.rt:75:9
 part-run-end : tie.Need-part-run-end
-part-run-end c = ?
+part-run-end c = let r = right _ (sym (c .before .before .before .before .before .wrong .ensures) ∙ c .before .before .before .before .if1 .left) in omega (arith, r .front, r .past, r .sized, r .ends, c .before .ids-end .ensures, c .head-end .ensures)
 
--- src/lib.rt:76:9
 sub-run-2 : tie.Need-sub-run-2
-sub-run-2 c = ?
+sub-run-2 c = let r = right _ (sym (c .before .before .before .before .before .before .wrong .ensures) ∙ c .before .before .before .before .before .if1 .left) in omega (arith, r .front, r .past, r .sized, r .ends, c .before .before .ids-end .ensures, c .before .head-end .ensures)
 
--- src/lib.rt:76:9
 part-run-start-2 : tie.Need-part-run-start-2
-part-run-start-2 c = ?
+part-run-start-2 c = let r = right _ (sym (c .before .before .before .before .before .before .wrong .ensures) ∙ c .before .before .before .before .before .if1 .left) in omega (arith, r .front, r .past, r .sized, r .ends, c .before .before .ids-end .ensures, c .before .head-end .ensures)
 
--- src/lib.rt:76:9
 part-run-end-2 : tie.Need-part-run-end-2
-part-run-end-2 c = ?
+part-run-end-2 c = let r = right _ (sym (c .before .before .before .before .before .before .wrong .ensures) ∙ c .before .before .before .before .before .if1 .left) in omega (arith, r .front, r .past, r .sized, r .ends, c .before .before .ids-end .ensures, c .before .head-end .ensures)
 
--- src/lib.rt:77:9
 sub-run-3 : tie.Need-sub-run-3
-sub-run-3 c = ?
+sub-run-3 c = let r = right _ (sym (c .before .before .before .before .before .before .before .wrong .ensures) ∙ c .before .before .before .before .before .before .if1 .left) in omega (arith, r .front, r .past, r .sized, r .ends, c .before .before .before .ids-end .ensures, c .before .before .head-end .ensures)
 
--- src/lib.rt:77:9
 part-run-start-3 : tie.Need-part-run-start-3
-part-run-start-3 c = ?
+part-run-start-3 c = let r = right _ (sym (c .before .before .before .before .before .before .before .wrong .ensures) ∙ c .before .before .before .before .before .before .if1 .left) in omega (arith, r .front, r .past, r .sized, r .ends, c .before .before .before .ids-end .ensures, c .before .before .head-end .ensures)
 
--- src/lib.rt:77:9
 part-run-end-3 : tie.Need-part-run-end-3
 part-run-end-3 c = search needs
 
--- src/lib.rt:72:5
 run-requires : tie.Need-run-requires
 run-requires c κs = search needs
 
--- src/lib.rt:52:1
 same-length : tie.Need-same-length
 same-length c = search needs
 
--- src/lib.rt:52:1
 same-length-2 : tie.Need-same-length-2
 same-length-2 c = search needs
 
--- src/lib.rt:52:1
 same-length-3 : tie.Need-same-length-3
 same-length-3 c = search needs
 
--- src/lib.rt:52:1
 same-length-4 : tie.Need-same-length-4
 same-length-4 c = search needs
 
--- src/lib.rt:52:1
 returns-2 : tie.Need-returns-2
-returns-2 c = ?
+unfolding numberAt
+returns-2 c =
+    let all = c .before .before .before .before .before .before .before .before .before .before .before .before .before .before .before .before .before .before .before .before .before .before .before .before .before .before .before .args .all .now in
+    answered-run all _ _ _ _ (sym (c .before .before .before .before .before .before .before .before .before .before .before .before .before .before .before .before .before .before .before .before .before .wrong .ensures) ∙ c .before .before .before .before .before .before .before .before .before .before .before .before .before .before .before .before .before .before .before .before .if1 .left) (c .before .before .before .before .before .before .before .before .before .before .before .before .before .before .before .before .before .before .before .prices .ensures) (c .before .before .before .before .before .before .before .before .before .before .before .before .before .before .before .before .before .before .load .ensures) (ids-is all (c .before .before .before .before .before .before .before .before .before .before .before .before .before .before .before .before .before .ids-end .ensures))
+    (head-is all (c .before .before .before .before .before .before .before .before .before .before .before .before .before .before .before .before .before .ids-end .ensures) (c .before .before .before .before .before .before .before .before .before .before .before .before .before .before .before .before .head-end .ensures)) (data-is all (c .before .before .before .before .before .before .before .before .before .before .before .before .before .before .before .before .head-end .ensures)) (c .before .before .before .before .before .before .before .before .run .ensures)
 
 pub answer-spec : {M : Type 1} → statement M
 answer-spec =

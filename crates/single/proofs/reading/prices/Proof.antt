@@ -29,14 +29,14 @@ price-requires-7 c κs = let r = right _ (c .before .before .before .before .bef
 returns : tie.Need-returns
 unfolding pricesIn
 returns c = λ i. record {
-      init = c .before .before .before .before .before .before .price .ensures i;
-      memory = c .before .before .before .before .before .price2 .ensures i;
-      readbase = c .before .before .before .before .price3 .ensures i;
-      readlength = c .before .before .before .price4 .ensures i;
-      writebase = c .before .before .price5 .ensures i;
-      writelength = c .before .price6 .ensures i;
-      truncatebase = c .price7 .ensures i;
-    }
+  init = c .before .before .before .before .before .before .price .ensures i;
+  memory = c .before .before .before .before .before .price2 .ensures i;
+  readbase = c .before .before .before .before .price3 .ensures i;
+  readlength = c .before .before .before .price4 .ensures i;
+  writebase = c .before .before .price5 .ensures i;
+  writelength = c .before .price6 .ensures i;
+  truncatebase = c .price7 .ensures i;
+}
 
 pub prices-spec : {M : Type 1} → statement M
 prices-spec =
