@@ -1,12 +1,12 @@
 -- What is kept of an input, and the statement that it is enough, proved in proofs/Theorems. z is the sector size. Assumes nothing.
 use mathlib.Core.Path.{_≡_}
-use mathlib.Core.Bool.{false}
+use mathlib.Core.Bool.{true, false}
 use mathlib.Core.List.{List, _++_}
-use Prim.Native.Nat.{ℕ, _+_, _*_, _≤_, min}
+use Prim.Native.Nat.{ℕ, _+_, _*_, _≤_, _<_, min}
 use lib.ListN.{length, take}
 use Rattle.area.specs.Area.{part}
 use Rattle.area.specs.Little.{le8}
-use Rattle.single.specs.Input.{numberAt, idsEnd, dataBytes, cutShort, answered}
+use Rattle.single.specs.Input.{numberAt, idsEnd, headEnd, dataBytes, cutShort, wrong, answered}
 
 -- how many ids are kept, and how many bytes of head
 unfoldable pub idsKept : List ℕ → ℕ
@@ -26,3 +26,5 @@ pub record Kept : Type 0 where
   pub answers : (z : ℕ) (all disk stage input output : List ℕ) → 80 ≤ length all → cutShort all ≡ false
       → answered z (kept all) disk stage input output ≡ answered z all disk stage input output
   pub short : (all : List ℕ) → length (kept all) ≤ 68810
+  -- an input that ends ahead of its data is refused with 9: what is kept of one from which bytes are missing ends so
+  pub missing : (all : List ℕ) (k : ℕ) → 80 ≤ length all → cutShort all ≡ false → k < headEnd all → wrong (take k all) ≡ true
