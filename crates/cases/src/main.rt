@@ -79,9 +79,12 @@ fn one_case(
         line(place, b"depot", &shown[0..n]);
         return true;
     }
-    let n = scripts::play(length, disk, stage, input, output, all, shown);
-    line(place, b"calls", &shown[0..n]);
-    kind == b'c'
+    if kind == b'c' {
+        let n = scripts::play(length, disk, stage, input, output, all, shown);
+        line(place, b"calls", &shown[0..n]);
+        return true;
+    }
+    false
 }
 
 fn clear(area: &mut [u8]) {
