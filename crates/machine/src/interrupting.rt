@@ -10,8 +10,6 @@ ghost use Rattle.rules.specs.Calls as Says;
 ghost use Rattle.rules.specs.Calls.{stopped};
 ghost use Rattle.rules.specs.Run as Run;
 ghost use Rattle.machine.specs.Asks.{Stops, interruptLeaves};
-use crate::areas;
-use crate::going;
 use crate::opening;
 use host::Host;
 use rules::Answer;
@@ -46,18 +44,18 @@ pub fn interrupt(host: Host, disk: &[u8], output: &mut [u8]) -> Answer
     if !host::in_order(host) {
         return opening::refused(1, host);
     }
-    if !areas::lent(host.disk, disk) {
+    if !turns::lent(host.disk, disk) {
         return opening::refused(2, host);
     }
     let program = host.program;
     let terms = program.terms;
-    if areas::wrong(program.active, terms.room, output) {
+    if turns::wrong(program.active, terms.room, output) {
         return opening::refused(2, host);
     }
     if !program.active {
         return opening::refused(4, host);
     }
-    if going(program) {
+    if turns::going(program) {
         return stop(host, disk, output);
     }
     let progress = program.progress;

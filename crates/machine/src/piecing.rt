@@ -8,9 +8,7 @@ ghost use Rattle.area.specs.Pick.{both};
 ghost use Rattle.rules.specs.Calls as Says;
 ghost use Rattle.rules.specs.Calls.{accepted};
 ghost use Rattle.machine.specs.Asks.{Takes, pieceLeaves};
-use crate::areas;
 use crate::opening;
-use crate::running;
 use host::Host;
 use rules::Answer;
 
@@ -18,10 +16,10 @@ use rules::Answer;
 fn either_wrong(active: bool, declared: u64, input: &[u8], room: u64, output: &[u8]) -> bool
     ensures { λ r. ⌜ r ≡ both active (not (both (eqb (length (now (input .entry))) declared) (eqb (length (now (output .entry))) room))) ⌝ }
 {
-    if areas::wrong(active, declared, input) {
+    if turns::wrong(active, declared, input) {
         return true;
     }
-    areas::wrong(active, room, output)
+    turns::wrong(active, room, output)
 }
 
 // 12: whether a piece of n bytes passes the declared length.
@@ -52,7 +50,7 @@ fn accept(
     let came = program.came;
     area::copy_between(bytes, 0, input, came as usize, bytes.len());
     let k = came + bytes.len() as u64;
-    let progress = running::run(
+    let progress = turns::run(
         host.disk,
         host.stage,
         places,
@@ -90,7 +88,7 @@ pub fn piece(
     if !host::in_order(host) {
         return opening::refused(1, host);
     }
-    if !areas::areas_right(host.disk, host.stage, disk, &*stage) {
+    if !turns::areas_right(host.disk, host.stage, disk, &*stage) {
         return opening::refused(2, host);
     }
     let program = host.program;

@@ -2,8 +2,7 @@
 ghost use mathlib.Core.Path.{_≡_};
 ghost use Rattle.rules.specs.Calls as Says;
 ghost use Rattle.rules.specs.Calls.{reachedAt, reachedPair, noPair};
-ghost use Rattle.machine.specs.Asks.{Ready};
-use crate::areas;
+ghost use Rattle.turns.specs.Asks.{Ready};
 use host::Host;
 use rules::Reached;
 
@@ -53,7 +52,7 @@ pub fn reached<'a>(host: Host, disk: &'a [u8], stage: &'a [u8]) -> Reached
     if !host::in_order(host) {
         return unreached(1);
     }
-    if !areas::areas_right(host.disk, host.stage, disk, stage) {
+    if !turns::areas_right(host.disk, host.stage, disk, stage) {
         return unreached(2);
     }
     let program = host.program;

@@ -8,7 +8,8 @@ use Rattle.rules.specs.View.{settingOf, turnOf, withRun, parent}
 use Rattle.rules.specs.Record.{pairOf, startingPair, recordBytes, failureBytes}
 use Rattle.rules.specs.Run.{failing}
 use Rattle.rules.specs.Calls.{interrupted, stopped}
-use Rattle.machine.proofs.Laws.Hosts.{stands, room-left}
+use Rattle.turns.proofs.Laws.Hosts.{stands}
+use Rattle.machine.proofs.Laws.Hosts.{room-left}
 use Rattle.host.specs.declared.Place.{Place}
 use Rattle.host.specs.declared.Progress.{Progress}
 use borrow.Author.Needs.{needs}

@@ -8,7 +8,8 @@ use Rattle.area.proofs.Laws.Puts.{length-put}
 use Rattle.host.specs.With.{withProgram, withCame, withProgress}
 use Rattle.host.proofs.Laws.Lengths.{hosted}
 use Rattle.rules.specs.View.{settingOf, turnOf, withRun}
-use Rattle.machine.proofs.Laws.Hosts.{turns-right, input-long, accepted-is, declared-most}
+use Rattle.turns.proofs.Laws.Hosts.{turns-right}
+use Rattle.machine.proofs.Laws.Hosts.{input-long, accepted-is, declared-most}
 use borrow.Author.Needs.{needs}
 use Rattle.machine.proofs.piecing.accept.Statement.{statement}
 use Rattle.machine.proofs.piecing.accept.Tie as tie

@@ -9,7 +9,7 @@ use Rattle.rules.specs.View.{settingOf, parent, spotOf, parentSpots}
 use Rattle.rules.specs.Roots.{contractRoot}
 use Rattle.rules.specs.Record.{pairOf, startingPair, runningPair}
 use Rattle.rules.specs.Calls.{reachedAt, reachedPair}
-use Rattle.machine.proofs.Laws.Hosts.{areas-disk, stands, reads}
+use Rattle.turns.proofs.Laws.Hosts.{areas-disk, stands, reads}
 use Rattle.host.specs.declared.Place.{Place}
 use borrow.Author.Needs.{needs}
 use Rattle.machine.proofs.reaching.reach.Statement.{statement}
