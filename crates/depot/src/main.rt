@@ -5,7 +5,7 @@ use libc::STDOUT_FILENO;
 fn main() {
     let mut all = [0u8; 68_810];
     let n = intake::gather(u64::MAX, &mut all);
-    play(&all[..n]);
+    play(&all[0..n]);
 }
 
 fn play(all: &[u8]) {
@@ -32,6 +32,6 @@ fn say(number: u64) {
 fn show(output: &[u8], written: u64) {
     if written <= output.len() as u64 {
         let n = written as usize;
-        io::write_all(STDOUT_FILENO, &output[..n]);
+        io::write_all(STDOUT_FILENO, &output[0..n]);
     }
 }

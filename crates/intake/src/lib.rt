@@ -1,6 +1,6 @@
 // One input of the program of the bench, from standard input, kept as far as it can matter: nine ids (a host holds eight contracts), 2,897
-// bytes of head (the longest head has 2,896) and 65,537 bytes of data (at most 65,536 are declared). What is longer is counted and dropped, so
-// that an input of any length has its answer.
+// bytes of head (the longest head has 2,896) and 65,537 bytes of data (at most 65,536 are declared). What is longer is counted and dropped,
+// and the numbers ahead of it are lowered, so that an input of any length has its answer.
 ghost use Prim.Native.Nat.{_+_, _≤_};
 ghost use lib.ListN.{length};
 use libc::STDIN_FILENO;
@@ -19,7 +19,7 @@ const HEAD: u64 = 2_897;
 
 const DATA: usize = 65_537;
 
-// What has come: how many bytes stand in the area, how many more the input may use, and whether all came that was asked for last.
+// What has come: how many bytes stand in the area, how many more the input may use, and whether none is missing so far.
 struct Came {
     at: usize,
     left: u64,
@@ -37,18 +37,25 @@ fn fill(left: u64, area: &mut [u8]) -> usize
     io::read_full(STDIN_FILENO, &mut area[0..n])
 }
 
+// Reads at most n bytes and drops them. It answers how many came.
+fn skip_some(n: u64) -> u64
+    ensures { λ r. ⌜ r ≤ n ⌝ }
+{
+    let mut space = io::large_buffer();
+    fill(n, &mut space) as u64
+}
+
 // Reads n bytes and drops them. It answers how many came.
 fn skip(n: u64) -> u64
     ensures { λ r. ⌜ r ≤ n ⌝ }
 {
-    let mut space = io::large_buffer();
     let mut done: u64 = 0;
     while done < n {
-        let got = fill(n - done, &mut space);
+        let got = skip_some(n - done);
         if got == 0 {
             return done;
         }
-        done += got as u64;
+        done += got;
     }
     done
 }
@@ -68,67 +75,108 @@ fn more(came: Came, n: usize, all: &mut [u8]) -> Came
     }
 }
 
-// The bytes that the number ahead of them counts, in units, of which at most so many are kept. Where they are fewer, what was kept
-// is cut off again, so that it misses them too.
-fn section(came: Came, unit: u64, most: u64, all: &mut [u8]) -> Came
-    requires { ⌜ 8 ≤ came .at ⌝ }
+// The number that ends at a place. Where it is above what is kept, it is lowered to that.
+fn counted(all: &mut [u8], at: usize, most: u64) -> u64
+    requires { ⌜ 8 ≤ at ⌝ }
+    requires { ⌜ at ≤ length (now all) ⌝ }
 {
-    let at = came.at;
     let n = area::load(&*all, at - NUMBER);
-    if n <= most {
-        return more(came, (n * unit) as usize, all);
+    if most < n {
+        area::store(all, at - NUMBER, NUMBER, most);
     }
-    area::store(all, at - NUMBER, NUMBER, most);
-    let kept = more(came, (most * unit) as usize, all);
-    if kept.left / unit < n - most {
-        return Came {
-            at,
-            left: kept.left,
-            whole: false,
-        };
+    n
+}
+
+fn least(n: u64, most: u64) -> u64
+    ensures { λ r. ⌜ (r ≤ n) × (r ≤ most) ⌝ }
+{
+    if n < most {
+        return n;
     }
-    let rest = (n - most) * unit;
-    let got = skip(rest);
-    let left = kept.left - got;
-    if got < rest {
+    most
+}
+
+// n bytes more that are not kept. Where they are fewer, what was kept from a place on is cut off, so that bytes are missing there too.
+fn past(came: Came, n: u64, from: usize) -> Came
+    requires { ⌜ from ≤ came .at ⌝ }
+    ensures { λ r. ⌜ (from ≤ r .at) × (r .at ≤ came .at) ⌝ }
+{
+    let got = skip(least(n, came.left));
+    let left = came.left - got;
+    if got < n {
         return Came {
-            at,
+            at: from,
             left,
             whole: false,
         };
     }
     Came {
-        at: kept.at,
+        at: came.at,
         left,
-        whole: kept.whole,
+        whole: came.whole,
     }
 }
 
+// The ids that the number ahead of them counts.
+fn ids(came: Came, all: &mut [u8]) -> Came
+    requires { ⌜ 8 ≤ came .at ⌝ }
+    requires { ⌜ came .at + 288 ≤ length (now all) ⌝ }
+    ensures { λ r. ⌜ (came .at ≤ r .at) × (r .at ≤ came .at + 288) ⌝ }
+{
+    let at = came.at;
+    let n = counted(all, at, IDS);
+    let kept = least(n, IDS);
+    let got = more(came, (kept * ID) as usize, all);
+    if got.left / ID < n - kept {
+        return past(got, u64::MAX, at);
+    }
+    past(got, (n - kept) * ID, at)
+}
+
+// The head whose length stands ahead of it.
+fn head(came: Came, all: &mut [u8]) -> Came
+    requires { ⌜ 8 ≤ came .at ⌝ }
+    requires { ⌜ came .at + 2897 ≤ length (now all) ⌝ }
+    ensures { λ r. ⌜ (came .at ≤ r .at) × (r .at ≤ came .at + 2897) ⌝ }
+{
+    let at = came.at;
+    let n = counted(all, at, HEAD);
+    let kept = least(n, HEAD);
+    let got = more(came, kept as usize, all);
+    past(got, n - kept, at)
+}
+
 // What stands ahead of the data.
-fn ahead(left: u64, all: &mut [u8]) -> Came {
+fn ahead(left: u64, all: &mut [u8]) -> Came
+    requires { ⌜ 3273 ≤ length (now all) ⌝ }
+    ensures { λ r. ⌜ r .at ≤ 3273 ⌝ }
+{
     let none = Came {
         at: 0,
         left,
         whole: true,
     };
     let front = more(none, FRONT, all);
-    if !front.whole {
+    if front.at < FRONT {
         return front;
     }
-    let ids = section(front, ID, IDS, all);
-    if !ids.whole {
-        return ids;
+    let formed = ids(front, all);
+    if !formed.whole {
+        return formed;
     }
-    let length = more(ids, NUMBER, all);
+    let length = more(formed, NUMBER, all);
     if !length.whole {
         return length;
     }
-    section(length, 1, HEAD, all)
+    head(length, all)
 }
 
-// Reads an input that uses at most `left` bytes of standard input into the front of an area, and answers how many bytes stand there. Bytes
-// that the input does not need are dropped.
-pub fn gather(left: u64, all: &mut [u8; 68_810]) -> usize {
+// Reads an input that uses at most `left` bytes of standard input into the front of an area, and answers how many bytes stand there. All
+// bytes of the input are read.
+pub fn gather(left: u64, all: &mut [u8]) -> usize
+    requires { ⌜ 68810 ≤ length (now all) ⌝ }
+    ensures { λ r. ⌜ r ≤ 68810 ⌝ }
+{
     let front = ahead(left, all);
     if !front.whole {
         skip(front.left);
