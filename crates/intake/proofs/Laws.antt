@@ -1,0 +1,5 @@
+-- The laws, a file for each subject.
+pub mod Forms
+pub mod Heads
+pub mod Pieces
+pub mod Sections

@@ -1,0 +1,2 @@
+-- What is kept of an input, and that it is enough.
+pub mod Kept
