@@ -1,0 +1,4 @@
+-- The laws, a file for each subject.
+pub mod Turns
+pub mod Plays
+pub mod Input

@@ -1,0 +1,2 @@
+-- The laws that the proofs of a run share.
+pub mod Laws

@@ -1,0 +1,107 @@
+// Opening a program, giving it its data as one piece, and closing it.
+ghost use mathlib.Core.Path.{_≡_};
+ghost use Prim.Native.Nat.{min};
+ghost use Rattle.closing.specs.Asks.{closeLeaves};
+ghost use Rattle.single.specs.Single as Says;
+ghost use Rattle.single.specs.Single.{leaves, ended, given, begun};
+use crate::Outcome;
+use host::Host;
+use host::Prices;
+use machine::Closing;
+
+// A refusal shows no record.
+pub fn refused(number: u64, host: Host) -> Outcome
+    ensures { λ r. ⌜ r ≡ record { number = number; written = 0; host = host } ⌝ }
+{
+    Outcome {
+        number,
+        written: 0,
+        host,
+    }
+}
+
+// Agrees to the pair reached; gives up after a failure.
+fn finish(host: Host, disk: &mut [u8], stage: &[u8]) -> Closing
+    ensures { λ r. ⌜ closeLeaves r (now (disk .exit)) ≡ ended 4096 (now (disk .entry)) host (now (stage .entry)) ⌝ }
+{
+    let program = host.program;
+    let progress = program.progress;
+    let pair = machine::reached(host, &*disk, stage);
+    let root = pair.root;
+    machine::close(host, disk, stage, !progress.failed, pair.size, root)
+}
+
+// The records that a close shows: none where it is refused.
+fn shown(number: u64, written: u64) -> u64
+    ensures { λ r. ⌜ r ≡ Says.shown number written ⌝ }
+{
+    if number != 0 {
+        return 0;
+    }
+    written
+}
+
+// As much of a length as an area has.
+fn least(declared: u64, room: usize) -> usize
+    ensures { λ r. ⌜ r ≡ min declared room ⌝ }
+{
+    if declared < room as u64 {
+        return declared as usize;
+    }
+    room
+}
+
+// Gives the data as one piece, with the front part of the input area, and closes.
+fn give(
+    host: Host,
+    bytes: &[u8],
+    disk: &mut [u8],
+    stage: &mut [u8],
+    input: &mut [u8],
+    output: &mut [u8],
+) -> Outcome
+    ensures { λ r. ⌜ leaves r (now (disk .exit)) (now (stage .exit)) (now (input .exit)) (now (output .exit)) ≡
+        given 4096 host (now (bytes .entry)) (now (disk .entry)) (now (stage .entry)) (now (input .entry)) (now (output .entry)) ⌝ }
+{
+    let program = host.program;
+    let terms = program.terms;
+    let head = terms.head;
+    let n = least(head.length, input.len());
+    let taken = machine::piece(host, &*disk, stage, &mut input[0..n], output, bytes);
+    let after = taken.host;
+    if taken.number != 0 {
+        return refused(taken.number, after);
+    }
+    let running = after.program;
+    let progress = running.progress;
+    let done = finish(after, disk, &*stage);
+    let closed = done.host;
+    Outcome {
+        number: done.number,
+        written: shown(done.number, progress.written),
+        host: closed,
+    }
+}
+
+// Opens a head, with the output area's length as output length, and plays it.
+pub fn begin(
+    host: Host,
+    prices: Prices,
+    budget: u64,
+    head: &[u8],
+    bytes: &[u8],
+    disk: &mut [u8],
+    stage: &mut [u8],
+    input: &mut [u8],
+    output: &mut [u8],
+) -> Outcome
+    ensures { λ r. ⌜ leaves r (now (disk .exit)) (now (stage .exit)) (now (input .exit)) (now (output .exit)) ≡
+        begun 4096 host prices budget (now (head .entry)) (now (bytes .entry)) (now (disk .entry)) (now (stage .entry)) (now (input .entry)) (now (output .entry)) ⌝ }
+{
+    let opened = machine::open(host, head, budget, prices, output.len() as u64);
+    let after = opened.host;
+    if opened.number != 0 {
+        return refused(opened.number, after);
+    }
+    give(after, bytes, disk, stage, input, output)
+}
