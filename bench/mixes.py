@@ -15,9 +15,10 @@ STAGE = 16
 ID = bytes(range(1, 33))
 BUDGET = 1 << 62
 PRICES = [1] * 7
-# Compressions that a measured run is made to need: about a second of them.
-COMPRESSIONS = 5_000_000
-TURNS = 5
+# Compressions that the measured visits of a run are made to need: about half a second of them. Many short turns find a quiet moment
+# sooner than few long ones.
+COMPRESSIONS = 2_500_000
+TURNS = 15
 
 
 def number(n):
@@ -195,8 +196,8 @@ def measure(proved, model):
     directory = "target/bench/mixes"
     os.makedirs(directory, exist_ok=True)
     print(f"load at the start: {' '.join(f'{x:.2f}' for x in os.getloadavg())} on {os.cpu_count()} cores")
-    columns = f"{'instructions':<18} {'sectors':>7} {'visits':>7} {'roots':>6} {'proved, us':>11} {'Rust, us':>11} {'ratio':>6}"
-    print(columns)
+    print("processor time an instruction, in microseconds, the least of", TURNS, "turns")
+    print(f"{'mix':<18} {'sectors':>7} {'a visit':>8} {'visits':>7} {'proved':>9} {'Rust':>9} {'ratio':>6}")
     for name in MIXES:
         for sectors in (1, 8, 64):
             visit = MIXES[name](sectors)
@@ -209,7 +210,7 @@ def measure(proved, model):
                     target.write(made(name, sectors, n))
                 paths.append(path)
             a, b = ((with_it - without) / times / count * 1e6 for without, with_it in least(rivals, paths))
-            print(f"{name:<18} {sectors:>7} {times:>7} {count + 2:>6} {a:>11.1f} {b:>11.1f} {a / b:>6.2f}", flush=True)
+            print(f"{name:<18} {sectors:>7} {count:>8} {times:>7} {a:>9.1f} {b:>9.1f} {a / b:>6.2f}", flush=True)
     print(f"load at the end: {' '.join(f'{x:.2f}' for x in os.getloadavg())}")
 
 
