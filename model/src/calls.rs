@@ -42,6 +42,11 @@ fn only(answer: u64) -> Answered {
     Answered { answer, ..Answered::default() }
 }
 
+/// "The running tally is a number in the result": with 0 the tally of the open program, with a refusal 0.
+fn running(answer: u64, host: &Host) -> Answered {
+    Answered { answer, tally: if answer == 0 { host.program.tally } else { 0 }, ..Answered::default() }
+}
+
 /// A lent length: "a length above the area's is malformed".
 fn lent(reader: &mut Reader, area: usize) -> Option<u64> {
     reader.number().ok().filter(|&length| length <= area as u64)
@@ -217,16 +222,23 @@ impl Player {
             }
             Item::Form { id } => only(self.host.form(id)),
             Item::Drop { id } => only(self.host.drop(id)),
-            Item::Open { output_length, budget, prices, head } => only(self.host.open(*output_length, *budget, *prices, head)),
-            Item::Piece { disk, stage, input, output, piece } => only(self.host.piece(
-                &self.disk[front(disk)],
-                &mut self.stage[front(stage)],
-                &mut self.input[front(input)],
-                &mut self.output[front(output)],
-                piece,
-            )),
+            Item::Open { output_length, budget, prices, head } => {
+                let answer = self.host.open(*output_length, *budget, *prices, head);
+                running(answer, &self.host)
+            }
+            Item::Piece { disk, stage, input, output, piece } => {
+                let answer = self.host.piece(
+                    &self.disk[front(disk)],
+                    &mut self.stage[front(stage)],
+                    &mut self.input[front(input)],
+                    &mut self.output[front(output)],
+                    piece,
+                );
+                running(answer, &self.host)
+            }
             Item::Interrupt { disk, output } => {
-                only(self.host.interrupt(&self.disk[front(disk)], &mut self.output[front(output)]))
+                let answer = self.host.interrupt(&self.disk[front(disk)], &mut self.output[front(output)]);
+                running(answer, &self.host)
             }
             Item::GiveUp { disk, stage } => closed(self.host.give_up(&self.disk[front(disk)], &self.stage[front(stage)])),
             Item::Agree { disk, stage, size, root } => {

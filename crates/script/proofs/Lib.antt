@@ -1,0 +1,2 @@
+-- What proofs of this crate share.
+pub mod Laws

@@ -1,0 +1,344 @@
+// Each kind of item, and its call. An item is malformed where it lends more than an area has, or where a number does not fit: then no call
+// is made.
+ghost use Prim.Native.Nat.{_+_, _≤_, _<_};
+ghost use lib.ListN.{length};
+use crate::pokes;
+use host::Host;
+use host::Prices;
+
+// What an item answered, and the host that it left; `root` is shown for `reached` alone, whose size stands for the tally.
+pub struct Made {
+    pub fine: bool,
+    pub number: u64,
+    pub tally: u64,
+    pub growth: i64,
+    pub rooted: bool,
+    pub root: [u8; 32],
+    pub host: Host,
+}
+
+fn malformed(host: Host) -> Made {
+    let root = [0u8; 32];
+    Made {
+        fine: false,
+        number: 0,
+        tally: 0,
+        growth: 0,
+        rooted: false,
+        root,
+        host,
+    }
+}
+
+fn answered(number: u64, tally: u64, growth: i64, host: Host) -> Made {
+    let root = [0u8; 32];
+    Made {
+        fine: true,
+        number,
+        tally,
+        growth,
+        rooted: false,
+        root,
+        host,
+    }
+}
+
+// Makes the call of an item that is whole: a head or a piece stands at its end.
+pub fn make(
+    item: &[u8],
+    host: Host,
+    disk: &mut [u8],
+    stage: &mut [u8],
+    input: &mut [u8],
+    output: &mut [u8],
+) -> Made {
+    if item.len() < 1 {
+        return malformed(host);
+    }
+    match item[0] {
+        b'F' => fresh(item, host, disk, stage, input, output),
+        b'f' => form(item, host),
+        b'd' => drop(item, host),
+        b'o' => open(item, host),
+        b'p' => piece(item, host, &*disk, stage, input, output),
+        b'i' => interrupt(item, host, &*disk, output),
+        b'g' => give_up(item, host, disk, &*stage),
+        b'a' => agree(item, host, disk, &*stage),
+        b'r' => reached(item, host, &*disk, &*stage),
+        b'x' => poke(item, host),
+        _ => malformed(host),
+    }
+}
+
+// The 32 bytes from `at` on.
+fn bytes_at(item: &[u8], at: usize) -> [u8; 32]
+    requires { ⌜ at + 32 ≤ length (now item) ⌝ }
+{
+    let mut bytes = [0u8; 32];
+    area::copy_between(item, at, &mut bytes, 0, 32);
+    bytes
+}
+
+// ---- contracts
+
+// Disk length, stage length, fill: makes the host, and fills all four areas.
+fn fresh(
+    item: &[u8],
+    host: Host,
+    disk: &mut [u8],
+    stage: &mut [u8],
+    input: &mut [u8],
+    output: &mut [u8],
+) -> Made {
+    if item.len() < 18 {
+        return malformed(host);
+    }
+    let sectors = area::load(item, 1);
+    let copies = area::load(item, 9);
+    let byte = item[17];
+    let made = Host::fresh(sectors, copies);
+    area::fill(disk, 0, disk.len(), byte);
+    area::fill(stage, 0, stage.len(), byte);
+    area::fill(input, 0, input.len(), byte);
+    area::fill(output, 0, output.len(), byte);
+    let after = made.host;
+    answered(made.number, 0, 0, after)
+}
+
+fn form(item: &[u8], host: Host) -> Made {
+    if item.len() < 33 {
+        return malformed(host);
+    }
+    let id = bytes_at(item, 1);
+    let made = host::form(host, id);
+    let after = made.host;
+    answered(made.number, 0, 0, after)
+}
+
+fn drop(item: &[u8], host: Host) -> Made {
+    if item.len() < 33 {
+        return malformed(host);
+    }
+    let id = bytes_at(item, 1);
+    let made = host::drop(host, id);
+    let after = made.host;
+    answered(made.number, 0, 0, after)
+}
+
+// ---- opening
+
+// The price at place k of the seven.
+fn price(item: &[u8], k: usize) -> u64
+    requires { ⌜ (73 ≤ length (now item)) × (k < 7) ⌝ }
+{
+    area::load(item, 17 + 8 * k)
+}
+
+fn prices_fit(item: &[u8]) -> bool
+    requires { ⌜ 73 ≤ length (now item) ⌝ }
+{
+    let mut k: usize = 0;
+    while k < 7 {
+        if 65_535 < price(item, k) {
+            return false;
+        }
+        k += 1;
+    }
+    true
+}
+
+fn prices_of(item: &[u8]) -> Prices
+    requires { ⌜ 73 ≤ length (now item) ⌝ }
+{
+    Prices {
+        init: pokes::low16(price(item, 0)),
+        memory: pokes::low16(price(item, 1)),
+        readbase: pokes::low16(price(item, 2)),
+        readlength: pokes::low16(price(item, 3)),
+        writebase: pokes::low16(price(item, 4)),
+        writelength: pokes::low16(price(item, 5)),
+        truncatebase: pokes::low16(price(item, 6)),
+    }
+}
+
+// Output length, budget, seven prices, head length, head.
+fn open(item: &[u8], host: Host) -> Made {
+    if item.len() < 81 {
+        return malformed(host);
+    }
+    if !prices_fit(item) {
+        return malformed(host);
+    }
+    let room = area::load(item, 1);
+    let budget = area::load(item, 9);
+    let prices = prices_of(item);
+    let made = machine::open(host, &item[81..], budget, prices, room);
+    let after = made.host;
+    answered(made.number, made.tally, 0, after)
+}
+
+// ---- an open program
+
+// Lent lengths of disk, stage, input and output; piece length; piece.
+fn piece(
+    item: &[u8],
+    host: Host,
+    disk: &[u8],
+    stage: &mut [u8],
+    input: &mut [u8],
+    output: &mut [u8],
+) -> Made {
+    if item.len() < 41 {
+        return malformed(host);
+    }
+    let d = area::load(item, 1);
+    let s = area::load(item, 9);
+    let i = area::load(item, 17);
+    let o = area::load(item, 25);
+    if (disk.len() as u64) < d {
+        return malformed(host);
+    }
+    if (stage.len() as u64) < s {
+        return malformed(host);
+    }
+    if (input.len() as u64) < i {
+        return malformed(host);
+    }
+    if (output.len() as u64) < o {
+        return malformed(host);
+    }
+    let sectors = d as usize;
+    let copies = s as usize;
+    let data = i as usize;
+    let room = o as usize;
+    let made = machine::piece(
+        host,
+        &disk[0..sectors],
+        &mut stage[0..copies],
+        &mut input[0..data],
+        &mut output[0..room],
+        &item[41..],
+    );
+    let after = made.host;
+    answered(made.number, made.tally, 0, after)
+}
+
+// Lent lengths of disk and output.
+fn interrupt(item: &[u8], host: Host, disk: &[u8], output: &mut [u8]) -> Made {
+    if item.len() < 17 {
+        return malformed(host);
+    }
+    let d = area::load(item, 1);
+    let o = area::load(item, 9);
+    if (disk.len() as u64) < d {
+        return malformed(host);
+    }
+    if (output.len() as u64) < o {
+        return malformed(host);
+    }
+    let sectors = d as usize;
+    let room = o as usize;
+    let made = machine::interrupt(host, &disk[0..sectors], &mut output[0..room]);
+    let after = made.host;
+    answered(made.number, made.tally, 0, after)
+}
+
+// ---- closing
+
+// Lent lengths of disk and stage.
+fn give_up(item: &[u8], host: Host, disk: &mut [u8], stage: &[u8]) -> Made {
+    if item.len() < 17 {
+        return malformed(host);
+    }
+    let root = [0u8; 32];
+    close(item, host, disk, stage, false, 0, root)
+}
+
+// Lent lengths of disk and stage; size; root.
+fn agree(item: &[u8], host: Host, disk: &mut [u8], stage: &[u8]) -> Made {
+    if item.len() < 57 {
+        return malformed(host);
+    }
+    let size = area::load(item, 17);
+    let root = bytes_at(item, 25);
+    close(item, host, disk, stage, true, size, root)
+}
+
+fn close(
+    item: &[u8],
+    host: Host,
+    disk: &mut [u8],
+    stage: &[u8],
+    agreed: bool,
+    size: u64,
+    root: [u8; 32],
+) -> Made
+    requires { ⌜ 17 ≤ length (now item) ⌝ }
+{
+    let d = area::load(item, 1);
+    let s = area::load(item, 9);
+    if (disk.len() as u64) < d {
+        return malformed(host);
+    }
+    if (stage.len() as u64) < s {
+        return malformed(host);
+    }
+    let sectors = d as usize;
+    let copies = s as usize;
+    let made = machine::close(
+        host,
+        &mut disk[0..sectors],
+        &stage[0..copies],
+        agreed,
+        size,
+        root,
+    );
+    let after = made.host;
+    answered(made.number, made.tally, made.growth, after)
+}
+
+// Lent lengths of disk and stage.
+fn reached<'a>(item: &[u8], host: Host, disk: &'a [u8], stage: &'a [u8]) -> Made {
+    if item.len() < 17 {
+        return malformed(host);
+    }
+    let d = area::load(item, 1);
+    let s = area::load(item, 9);
+    if (disk.len() as u64) < d {
+        return malformed(host);
+    }
+    if (stage.len() as u64) < s {
+        return malformed(host);
+    }
+    let sectors = d as usize;
+    let copies = s as usize;
+    let made = machine::reached(host, &disk[0..sectors], &stage[0..copies]);
+    let root = made.root;
+    Made {
+        fine: true,
+        number: made.number,
+        tally: made.size,
+        growth: 0,
+        rooted: true,
+        root,
+        host,
+    }
+}
+
+// ---- damage
+
+// Field, i, j, value.
+fn poke(item: &[u8], host: Host) -> Made {
+    if item.len() < 33 {
+        return malformed(host);
+    }
+    let field = area::load(item, 1);
+    let i = area::load(item, 9);
+    let j = area::load(item, 17);
+    let value = area::load(item, 25);
+    if !pokes::fits(field, i, j, value) {
+        return malformed(host);
+    }
+    let after = pokes::poked(host, field, i, j, value);
+    answered(0, 0, 0, after)
+}

@@ -1,0 +1,73 @@
+// Scripts of calls: an item of a script is one call, with the areas that it lends, or a number that is put into the host's record to damage
+// it. Playing an item makes the call, and reports what it answered, the host, and digests of the whole areas. Numbers are 8 bytes, the
+// lowest first.
+ghost use mathlib.Core.Path.{_≡_};
+ghost use Prim.Native.Nat.{_≤_};
+ghost use lib.ListN.{length};
+
+mod items; // items.rt: each kind of item, and its call
+mod pokes; // pokes.rt: a number put into the host's record
+mod reports; // reports.rt: the bytes of a report
+mod shapes; // shapes.rt: where an item ends
+
+use host::Host;
+pub use shapes::fixed;
+pub use shapes::most;
+
+// The most bytes of a report: the answer of `reached` with its root, eight places with 64 slots each, an open program, four digests.
+pub const REPORT: usize = 5_248;
+
+// What an item did. Not fine: it is malformed, and nothing changed. `used` counts the bytes of the item, `written` those of its report.
+pub struct Played {
+    pub fine: bool,
+    pub used: usize,
+    pub written: usize,
+    pub host: Host,
+}
+
+// The host of a refused fresh, which stands before the first item.
+pub fn no_host() -> Host {
+    let made = Host::fresh(0, 0);
+    made.host
+}
+
+fn malformed(host: Host) -> Played
+    ensures { λ r. ⌜ (r .used ≡ 0) × (r .written ≡ 0) ⌝ }
+{
+    Played {
+        fine: false,
+        used: 0,
+        written: 0,
+        host,
+    }
+}
+
+// Plays the item that `item` begins with. The areas that its call lends are front parts of these.
+pub fn play(
+    item: &[u8],
+    host: Host,
+    disk: &mut [u8],
+    stage: &mut [u8],
+    input: &mut [u8],
+    output: &mut [u8],
+    report: &mut [u8],
+) -> Played
+    ensures { λ r. ⌜ (r .used ≤ length (now (item .entry))) × (r .written ≤ length (now (report .entry))) ⌝ }
+{
+    if report.len() < REPORT {
+        return malformed(host);
+    }
+    let used = shapes::whole(item);
+    let made = items::make(&item[0..used], host, disk, stage, input, output);
+    if !made.fine {
+        return malformed(host);
+    }
+    let written = reports::write(made, &*disk, &*stage, &*input, &*output, report);
+    let after = made.host;
+    Played {
+        fine: true,
+        used,
+        written,
+        host: after,
+    }
+}

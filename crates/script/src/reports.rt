@@ -1,0 +1,179 @@
+// The bytes of a report: the answer, the host, and digests of the whole areas. Each function writes from `at` on, and answers where it ended.
+ghost use mathlib.Core.Path.{_≡_};
+ghost use Prim.Native.Nat.{_+_, _*_, _≤_};
+ghost use lib.ListN.{length};
+use crate::items::Made;
+use host::Host;
+use host::Place;
+use host::Program;
+
+// A report at the front of an area; answers its length.
+pub fn write(
+    made: Made,
+    disk: &[u8],
+    stage: &[u8],
+    input: &[u8],
+    output: &[u8],
+    report: &mut [u8],
+) -> usize
+    requires { ⌜ 5248 ≤ length (now report) ⌝ }
+    ensures { λ r. ⌜ r ≤ 5248 ⌝ }
+{
+    let host = made.host;
+    let one = answer(made, report);
+    let two = whole_host(host, report, one);
+    digest(disk, report, two);
+    digest(stage, report, two + 32);
+    digest(input, report, two + 64);
+    digest(output, report, two + 96);
+    two + 128
+}
+
+// Eight bytes with a number.
+fn number(report: &mut [u8], at: usize, n: u64) -> usize
+    requires { ⌜ at + 8 ≤ length (now report) ⌝ }
+    ensures { λ r. ⌜ r ≡ at + 8 ⌝ }
+{
+    area::store(report, at, 8, n);
+    at + 8
+}
+
+fn flag(report: &mut [u8], at: usize, yes: bool) -> usize
+    requires { ⌜ at + 8 ≤ length (now report) ⌝ }
+    ensures { λ r. ⌜ r ≡ at + 8 ⌝ }
+{
+    if yes {
+        return number(report, at, 1);
+    }
+    number(report, at, 0)
+}
+
+// The 32 bytes of an id or a root.
+fn bytes(report: &mut [u8], at: usize, b: [u8; 32]) -> usize
+    requires { ⌜ at + 32 ≤ length (now report) ⌝ }
+    ensures { λ r. ⌜ r ≡ at + 32 ⌝ }
+{
+    area::copy_between(&b, 0, report, at, 32);
+    at + 32
+}
+
+// A signed count in two's complement.
+fn complement(n: i64) -> u64 {
+    if n < 0 {
+        return 18_446_744_073_709_551_615 - ((-1 - n) as u64);
+    }
+    n as u64
+}
+
+// Number, tally (the size, for `reached`) and growth, and the root of `reached`.
+fn answer(made: Made, report: &mut [u8]) -> usize
+    requires { ⌜ 56 ≤ length (now report) ⌝ }
+    ensures { λ r. ⌜ r ≤ 56 ⌝ }
+{
+    let one = number(report, 0, made.number);
+    let two = number(report, one, made.tally);
+    let three = number(report, two, complement(made.growth));
+    if made.rooted {
+        let root = made.root;
+        return bytes(report, three, root);
+    }
+    three
+}
+
+fn whole_host(host: Host, report: &mut [u8], at: usize) -> usize
+    requires { ⌜ at + 5064 ≤ length (now report) ⌝ }
+    ensures { λ r. ⌜ r ≤ at + 5064 ⌝ }
+{
+    let one = number(report, at, host.disk);
+    let two = number(report, one, host.stage);
+    let places = host.places;
+    let three = all_places(places, report, two);
+    let p = host.program;
+    program(p, report, three)
+}
+
+fn all_places(places: [Place; 8], report: &mut [u8], at: usize) -> usize
+    requires { ⌜ at + 4480 ≤ length (now report) ⌝ }
+    ensures { λ r. ⌜ r ≤ at + 4480 ⌝ }
+{
+    let mut end = at;
+    let mut i: usize = 0;
+    while i < 8 {
+        let p = places[i];
+        end = place(p, report, end);
+        i += 1;
+    }
+    end
+}
+
+// 0, or 1 with id, size, and the slots of its positions.
+fn place(p: Place, report: &mut [u8], at: usize) -> usize
+    requires { ⌜ at + 560 ≤ length (now report) ⌝ }
+    ensures { λ r. ⌜ r ≤ at + 560 ⌝ }
+{
+    let one = flag(report, at, p.held);
+    if !p.held {
+        return one;
+    }
+    let id = p.id;
+    let two = bytes(report, one, id);
+    let three = number(report, two, p.size);
+    let list = p.slots;
+    slots(list, positions(p.size), report, three)
+}
+
+// The positions of a size, at most as many as a place has slots.
+fn positions(size: u64) -> usize
+    ensures { λ r. ⌜ r ≤ 64 ⌝ }
+{
+    let n = size / Host::SECTOR;
+    if n < Place::SLOTS {
+        return n as usize;
+    }
+    64
+}
+
+// The first n of 64 slots.
+fn slots(list: [u8; 64], n: usize, report: &mut [u8], at: usize) -> usize
+    requires { ⌜ (n ≤ 64) × (at + 512 ≤ length (now report)) ⌝ }
+    ensures { λ r. ⌜ r ≤ at + 512 ⌝ }
+{
+    let mut end = at;
+    let mut i: usize = 0;
+    while i < n {
+        end = number(report, end, wide(list[i]));
+        i += 1;
+    }
+    end
+}
+
+fn wide(x: u8) -> u64 {
+    x as u64
+}
+
+// 0, or 1 with came, ran, tally, written, failed, running size, and the staged slots.
+fn program(p: Program, report: &mut [u8], at: usize) -> usize
+    requires { ⌜ at + 568 ≤ length (now report) ⌝ }
+    ensures { λ r. ⌜ r ≤ at + 568 ⌝ }
+{
+    let one = flag(report, at, p.active);
+    if !p.active {
+        return one;
+    }
+    let q = p.progress;
+    let two = number(report, one, p.came);
+    let three = number(report, two, q.ran);
+    let four = number(report, three, q.tally);
+    let five = number(report, four, q.written);
+    let six = flag(report, five, q.failed);
+    let seven = number(report, six, q.size);
+    let staged = q.staged;
+    slots(staged, 64, report, seven)
+}
+
+// The 32-byte digest of an area.
+fn digest(area: &[u8], report: &mut [u8], at: usize)
+    requires { ⌜ at + 32 ≤ length (now report) ⌝ }
+{
+    blake2b::digest(b"", area, &mut report[at..at + 32]);
+}
