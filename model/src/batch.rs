@@ -60,6 +60,30 @@ pub fn digests(path: &str) {
     }
 }
 
+/// A line for each input of standard input, as the project's `cases` writes it: place, program, length and digest of what the model writes.
+pub fn cases(file: &[u8]) {
+    let mut reader = Reader { rest: file };
+    let mut place = 0;
+    while let Some(input) = next(&mut reader) {
+        let written = play(&input);
+        let program = if input.for_calls { "calls" } else { "depot" };
+        println!("{place} {program} {} {}", written.len(), show::hex(&hash32(&written)));
+        place += 1;
+    }
+}
+
+/// A line for each input of a file: its kind, its length, and what it reaches.
+pub fn reach(path: &str) {
+    let file = std::fs::read(path).unwrap();
+    let mut reader = Reader { rest: &file };
+    while let Some(input) = next(&mut reader) {
+        coverage::clear();
+        let written = play(&input).len();
+        let kind = if input.for_calls { "c" } else { "d" };
+        println!("{kind}\t{}\t{written}\t{}", input.bytes.len(), coverage::reached().join("\t"));
+    }
+}
+
 /// Runs the model on all inputs of a file, compares, prints the counts.
 pub fn run(path: &str, label: &str) {
     let named = |variable: &str| std::env::var(variable).ok().filter(|path| !path.is_empty());

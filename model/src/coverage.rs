@@ -122,6 +122,24 @@ const DISORDERS_POSSIBLE: [&str; 23] = [
     "a stage slot of its own",
 ];
 
+/// Forgets all counts.
+pub fn clear() {
+    ANSWERS.with(|counts| counts.borrow_mut().clear());
+    RECORDS.with(|counts| counts.borrow_mut().clear());
+    EVENTS.with(|counts| counts.borrow_mut().clear());
+    DISORDERS.with(|counts| counts.borrow_mut().clear());
+}
+
+/// The names of all that occurred.
+pub fn reached() -> Vec<String> {
+    let mut all = Vec::new();
+    ANSWERS.with(|counts| all.extend(counts.borrow().keys().map(|(call, number)| format!("{call} {number}"))));
+    RECORDS.with(|counts| all.extend(counts.borrow().keys().map(|(name, number)| format!("record {name} {number}"))));
+    EVENTS.with(|counts| all.extend(counts.borrow().keys().map(|name| name.to_string())));
+    DISORDERS.with(|counts| all.extend(counts.borrow().keys().map(|name| format!("not in order: {name}"))));
+    all
+}
+
 /// Prints all counts; what could occur and did not is marked.
 pub fn print() {
     println!("answers by call (number:count):");

@@ -41,12 +41,14 @@ fn main() {
         ["gen", seed, count, directory] => batch::make(number(seed), number(count), directory),
         ["batch", inputs, label] => batch::run(inputs, label),
         ["digests", inputs] => batch::digests(inputs),
+        ["cases"] => batch::cases(&standard_input()),
+        ["reach", inputs] => batch::reach(inputs),
         ["show", "depot"] => show::depot_text(&standard_input()).iter().for_each(|line| println!("{line}")),
         ["show", "calls"] => show::script_text(&standard_input()).iter().for_each(|line| println!("{line}")),
         ["extract", inputs, which] => batch::extract(inputs, number(which) as usize),
         _ => {
             eprintln!("use: model depot | calls | mixes | check | show depot | show calls");
-            eprintln!("     model gen SEED N DIRECTORY | batch INPUTS LABEL | digests INPUTS | extract INPUTS I");
+            eprintln!("     model gen SEED N DIRECTORY | batch INPUTS LABEL | digests INPUTS | reach INPUTS | extract INPUTS I | cases");
             std::process::exit(2);
         }
     }

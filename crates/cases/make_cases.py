@@ -1,0 +1,134 @@
+#!/usr/bin/env python3
+"""Makes `stdin` and `stdout`. The cases are inputs that the model's generator makes, chosen so that all is reached that it can reach, and
+inputs at the edges of what each program reads; the lines are the model's. `model/run check` builds the model."""
+import pathlib, struct, subprocess, tempfile
+
+here = pathlib.Path(__file__).parent
+model = here.parent.parent / "target" / "model" / "model"
+SEED, MADE = 20, 8000
+TIMES = 3  # each thing that can be reached is reached by so many cases, where the generator has them
+DEPOTS, SCRIPTS = 330, 70  # at least so many of the generator's
+
+def number(*ns):
+    return struct.pack(f"<{len(ns)}Q", *ns)
+
+def generated():
+    """Inputs of the generator: kind, bytes, what each reaches, with its kind."""
+    with tempfile.TemporaryDirectory() as folder:
+        subprocess.run([model, "gen", str(SEED), str(MADE), folder], check=True)
+        data = pathlib.Path(folder, "inputs").read_bytes()
+        lines = subprocess.run([model, "reach", f"{folder}/inputs"], capture_output=True, text=True, check=True).stdout.splitlines()
+    at, all = 0, []
+    for line in lines:
+        kind, length, written, *reached = line.split("\t")
+        bytes_ = data[at + 9 : at + 9 + int(length)]
+        at += 9 + int(length)
+        if len(bytes_) <= 60_000 and int(written) <= 250_000:
+            all.append((kind, bytes_, {(kind, thing) for thing in reached}))
+    return all
+
+def chosen(inputs):
+    """The shortest inputs that reach all, then the shortest ones up to the numbers asked for, in the generator's order."""
+    def short(i):
+        return len(inputs[i][1]) + (0 if inputs[i][0] == "d" else 200 * inputs[i][1].count(b"\0" * 6) // 100)
+    order = sorted(range(len(inputs)), key=short)
+    times, kept = {}, set()
+    for thing in sorted(set().union(*(reached for _, _, reached in inputs))):
+        for i in order:
+            if times.get(thing, 0) >= TIMES:
+                break
+            if i not in kept and thing in inputs[i][2]:
+                kept.add(i)
+                for reached in inputs[i][2]:
+                    times[reached] = times.get(reached, 0) + 1
+    for kind, most in (("d", DEPOTS), ("c", SCRIPTS)):
+        rest = [i for i in order if inputs[i][0] == kind and i not in kept]
+        missing = most - sum(inputs[i][0] == kind for i in kept)
+        kept.update(rest[len(rest) // 3 :][: max(missing, 0)])
+    return [inputs[i][:2] for i in sorted(kept)]
+
+def program(contract, formed, *steps):
+    """An input of `depot` with these contracts and steps: a name and its inputs."""
+    data, head = b"", b""
+    for name, *inputs in steps:
+        head += name.ljust(16, b"\0") + number(len(inputs))
+        for one in inputs:
+            head += number(len(data), len(one))
+            data += one
+        head += b"\0"
+    head = contract + number(len(steps)) + head + number(len(data))
+    return number(7, 7, 1, 3, 2, 5, 4, 6, 10**9, len(formed)) + b"".join(formed) + number(len(head)) + head + data
+
+def depots():
+    """Inputs of `depot` that are cut off, or whose numbers pass what is read; and what the generator seldom meets: writing in read-only mode,
+    and records that just fit, and that do not."""
+    contract = bytes(range(1, 33))
+    writers = (
+        (b"Write", number(0), number(1) + b"a"),
+        (b"Copy", *map(number, (0, 1, 1))),
+        (b"Swap", *map(number, (0, 1, 1))),
+        (b"Truncate", number(4096)),
+    )
+    yield from (program(b"ReadOnly".ljust(32, b"\0"), [contract], step) for step in writers)
+    def read(n):
+        return b"Read", contract, number(0), number(n)
+    for n in (3592, 3593, 3664, 3665):
+        filled = (b"Truncate", number(4096)), *[read(4096)] * 3, read(n)
+        yield from (program(contract, [contract], *filled, step) for step in writers)
+        yield program(contract, [contract], *filled, read(1))
+    head = contract + number(1) + b"Truncate".ljust(16, b"\0") + number(1, 0, 8) + b"\0" + number(8)
+    front = number(7, 7, 1, 3, 2, 5, 4, 6, 10**9)
+    whole = front + number(1) + contract + number(len(head)) + head + number(4096)
+    yield whole
+    yield from (whole[:n] for n in (0, 1, 8, 63, 64, 71, 72, 79, 80, 111, 112, 119, 120, 160, 208, 209, 210, 216))
+    yield from (number(count) + whole[8:] for count in (0, 6, 8, 2**64 - 1))
+    yield from (whole[: 8 * k] + number(price) + whole[8 * k + 8 :] for k in (1, 7) for price in (65_535, 65_536, 2**64 - 1))
+    many = [bytes([k]) * 32 for k in range(1, 13)]
+    for count in (0, 8, 9, 10, 12):
+        yield front + number(count) + b"".join(many[:count]) + number(len(head)) + head + number(4096)
+    yield from (front + number(count) + contract + number(len(head)) + head for count in (2, 11, 2**59, 2**61, 2**64 - 1))
+    for length in (len(head) - 1, len(head) + 1, 2896, 2897, 2898, 2**32, 2**64 - 1):
+        yield front + number(1) + contract + number(length) + head + bytes(3000)
+    yield whole + b"\0"
+    for declared in (65_536, 65_537):
+        long = head[:-8] + number(declared)
+        yield front + number(1) + contract + number(len(long)) + long + number(4096)
+    long = head[:-8] + number(65_536)
+    yield from (front + number(1) + contract + number(len(long)) + long + number(4096) + bytes(n) for n in (65_528, 65_529, 66_000))
+
+def scripts():
+    """Scripts of `calls` that are cut off, that lend too much, or that poke past an array or a width."""
+    example = (here.parent / "calls" / "stdin").read_bytes()
+    yield from (example[:n] for n in (0, 1, 17, 18, 19, 51, 130, 400, 500, 620, len(example) - 1))
+    areas = {"p": (262_144, 65_536, 65_536, 65_536), "i": (262_144, 65_536)}
+    areas.update(dict.fromkeys("gar", (262_144, 65_536)))
+    rest = {"p": number(3) + b"abc", "a": number(0) + bytes(32)}
+    fresh = b"F" + number(262_144, 65_536) + b"\x55"
+    for kind, lengths in areas.items():
+        item = lambda ns: kind.encode() + number(*ns) + rest.get(kind, b"")
+        yield fresh + item(lengths) + item([0] * len(lengths))
+        yield from (fresh + item([n + (j == k) for j, n in enumerate(lengths)]) for k in range(len(lengths)))
+    any = 2**64 - 1
+    for field in range(26):
+        last_i = {2: 7, 3: 7, 4: 7, 5: 7, 13: 63, 16: 31, 19: 31, 20: 31, 21: 31, 22: 31, 23: 31, 24: 6}.get(field, any)
+        last_j = {3: 31, 5: 63, 19: 15, 21: 3, 22: 3}.get(field, any)
+        most = {2: 1, 6: 1, 11: 1, 23: 1, 3: 255, 5: 255, 13: 255, 16: 255, 19: 255, 24: 65_535}.get(field, any)
+        poke = lambda *ns: b"x" + number(field, *ns)
+        good = fresh + b"x" + number(2, 7, 0, 1) + b"x" + number(6, 0, 0, 1) + poke(last_i, last_j, most)
+        yield good + b"r" + number(262_144, 65_536)
+        for past in ((last_i + 1, last_j, most), (last_i, last_j + 1, most), (last_i, last_j, most + 1)):
+            if max(past) <= any:
+                yield good[:18] + poke(*past)
+    price = b"o" + number(72, 0, *[65_535] * 7)
+    head = bytes(32) + number(0, 0)
+    yield fresh + price + number(len(head)) + head
+    yield from (fresh + price[: 17 + 8 * k] + number(65_536) + price[25 + 8 * k :] + number(len(head)) + head for k in (0, 6))
+    yield from (fresh + b"o" + number(72, 99, *[0] * 7, n) + head + bytes(3000) for n in (47, 49, 2896, 2897, 2898, 3048, 3049, 2**64 - 1))
+    yield b"?" + fresh
+
+cases = chosen(generated()) + [("d", b) for b in depots()] + [("c", b) for b in scripts()]
+given = b"".join(kind.encode() + number(len(b)) + b for kind, b in cases)
+here.joinpath("stdin").write_bytes(given)
+lines = subprocess.run([model, "cases"], input=given, capture_output=True, check=True).stdout
+here.joinpath("stdout").write_bytes(lines)
+print(len(given), "bytes;", {kind: sum(k == kind for k, _ in cases) for kind in "dc"})
