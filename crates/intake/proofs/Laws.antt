@@ -3,3 +3,4 @@ pub mod Forms
 pub mod Heads
 pub mod Pieces
 pub mod Sections
+pub mod Missing

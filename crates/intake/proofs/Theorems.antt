@@ -3,20 +3,19 @@
 use mathlib.Core.Path.{_≡_, sym, ap, ap₂, _∙_}
 use mathlib.Core.Bool.{Bool, false}
 use mathlib.Core.List.{List}
-use Prim.Native.Nat.{ℕ, _+_, _*_, _≤_}
-use lib.ListN.{length, take}
+use Prim.Native.Nat.{ℕ, _+_, _≤_}
+use lib.ListN.{length}
 use Rattle.area.specs.Pick.{pick}
-use Rattle.area.specs.Area.{part}
 use Rattle.host.specs.Calls.{freshed}
 use Rattle.sia.specs.Decode.{decode}
 use Rattle.single.specs.Single.{Ran, ran, idsIn, formedInTurn, run}
-use Rattle.single.specs.Input.{numberAt, pricesIn, budgetIn, idsEnd, idsBytes, headBytes, dataBytes, cutShort, wrong, answered}
-use Rattle.intake.specs.Kept.{idsKept, headKept, kept, Kept}
+use Rattle.single.specs.Input.{numberAt, pricesIn, budgetIn, idsEnd, idsBytes, headBytes, dataBytes, cutShort, answered}
+use Rattle.intake.specs.Kept.{idsKept, headKept, dataKept, kept, Kept}
 use Rattle.intake.proofs.Laws.Forms.{first-ids, fresh-free}
 use Rattle.intake.proofs.Laws.Heads.{first-bytes}
 use Rattle.intake.proofs.Laws.Pieces.{run-alike}
 use Rattle.intake.proofs.Laws.Sections.{ids-first, part-least, ids-there, ids-kept, head-kept, data-kept, prices-kept, budget-kept, wrong-kept, kept-short}
-use Rattle.host.specs.declared.Prices.{Prices}
+use Rattle.intake.proofs.Laws.Missing.{ends-early}
 use Rattle.host.specs.declared.Host.{Host}
 
 module _ (all : List ℕ) (front : 80 ≤ length all) (whole : cutShort all ≡ false) where
@@ -37,6 +36,7 @@ module _ (all : List ℕ) (front : 80 ≤ length all) (whole : cutShort all ≡ 
   same-run : (z : ℕ) (disk stage input output : List ℕ)
       → run z (pricesIn (kept all)) (budgetIn (kept all)) (idsBytes (kept all)) (headBytes (kept all)) (dataBytes (kept all)) disk stage input output
       ≡ run z (pricesIn all) (budgetIn all) (idsBytes all) (headBytes all) (dataBytes all) disk stage input output
+  unfolding dataKept
   same-run z disk stage input output =
       let prices = prices-kept all front whole in
       let budget = budget-kept all front whole in
@@ -55,4 +55,5 @@ pub keeping-is-enough : Kept
 keeping-is-enough = record {
   answers = λ z all disk stage input output front whole. same-answer all front whole z disk stage input output;
   short = kept-short;
+  missing = ends-early;
 }

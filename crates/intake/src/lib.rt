@@ -19,6 +19,9 @@ const HEAD: u64 = 2_897;
 
 const DATA: usize = 65_537;
 
+// All that is kept.
+pub const KEPT: usize = 68_810;
+
 // What has come: how many bytes stand in the area, how many more the input may use, and whether none is missing so far.
 struct Came {
     at: usize,
@@ -173,9 +176,8 @@ fn ahead(left: u64, all: &mut [u8]) -> Came
 
 // Reads an input that uses at most `left` bytes of standard input into the front of an area, and answers how many bytes stand there. All
 // bytes of the input are read.
-pub fn gather(left: u64, all: &mut [u8]) -> usize
-    requires { ⌜ 68810 ≤ length (now all) ⌝ }
-    ensures { λ r. ⌜ r ≤ 68810 ⌝ }
+pub fn gather(left: u64, all: &mut [u8; KEPT]) -> usize
+    ensures { λ r. ⌜ r ≤ length (now (all .exit)) ⌝ }
 {
     let front = ahead(left, all);
     if !front.whole {

@@ -1,13 +1,13 @@
 -- A ninth contract is refused: of ids formed in turn those behind the first that has no free place do not matter. Assumes nothing.
 use mathlib.Core.Path.{_≡_, refl, sym, ap, _∙_}
-use mathlib.Core.Bool.{true, false, not}
+use mathlib.Core.Bool.{true, not}
 use mathlib.Core.List.{List, [], _∷_}
 use Prim.Native.Nat.{ℕ, zero, suc, _≤_}
 use native.Mathlib.Omega.{arith}
 use lib.ListN.{take}
 use lib.Dec.{eqb}
 use borrow.Author.Tests.{not-false, eqb-true}
-use Rattle.area.specs.Pick.{pick, either}
+use Rattle.area.specs.Pick.{pick}
 use Rattle.area.proofs.Laws.Pick.{by, picks, skips}
 use Rattle.host.specs.Lists.{some}
 use Rattle.host.specs.Empty.{noPlace, newPlace, bare}

@@ -6,18 +6,15 @@ use mathlib.Core.List.{List, [], _∷_}
 use Prim.Native.Nat.{ℕ, zero, suc, _+_, _-_, _*_, _≤_, _<_}
 use native.Mathlib.Nat.{suc-mul}
 use native.Mathlib.Omega.{arith}
-use lib.ListN.{length, take, drop, length-take, length-drop}
+use lib.ListN.{length, take, drop, length-drop}
 use lib.Seq.{take-all, take-take, take-add, drop-at, length-take-le}
-use lib.Dec.{leb, ltb, eqb}
+use lib.Dec.{leb, ltb}
 use borrow.Author.Tests.{le-ltb, leb-true, leb-false}
 use Rattle.area.specs.Pick.{pick}
-use Rattle.area.specs.Little.{valueOf}
 use Rattle.area.proofs.Laws.Pick.{by, skips}
-use Rattle.sia.specs.Empty.{noOperand, noInstruction, noHead, filled}
+use Rattle.sia.specs.Empty.{noOperand, noInstruction, noHead}
 use Rattle.sia.specs.Decode.{Reading, value, fault, after, bytes, number, limited, flag, several, entries, operand, operands, instruction, instructions, head, told, answer, decode}
 use Rattle.sia.proofs.Laws.Inverse.{split, past, same-value, limited-within}
-use Rattle.sia.specs.declared.Operand.{Operand}
-use Rattle.sia.specs.declared.Instruction.{Instruction}
 use Rattle.sia.specs.declared.Head.{Head}
 
 -- the last d bytes cut off

@@ -1,6 +1,6 @@
 -- A run with other ids, another head and other data that come to the same: what was read and formed decides, and of data that passes the
 -- declared length only that. Assumes nothing.
-use mathlib.Core.Path.{_≡_, refl, sym, ap, _∙_}
+use mathlib.Core.Path.{_≡_, sym, ap, _∙_}
 use mathlib.Core.Bool.{not}
 use mathlib.Core.List.{List, _++_}
 use Prim.Native.Nat.{ℕ, _+_, _≤_, _<_}
@@ -11,7 +11,6 @@ use lib.Seq.{take-all, length-take-le}
 use borrow.Author.Tests.{lt-ltb, eqb-true, leb-true, leb-false}
 use Rattle.area.specs.Pick.{pick, both}
 use Rattle.area.proofs.Laws.Pick.{by, picks, skips}
-use Rattle.host.specs.Empty.{started}
 use Rattle.host.specs.With.{withProgram}
 use Rattle.host.specs.Order.{inOrder}
 use Rattle.host.specs.Calls.{freshed}

@@ -1,15 +1,15 @@
 -- The sections of what is kept of an input. Assumes nothing.
 use mathlib.Core.Path.{_≡_, refl, sym, ap, ap₂, _∙_}
-use mathlib.Core.Bool.{Bool, false, not}
-use mathlib.Core.List.{List, [], _∷_, _++_}
-use Prim.Native.Nat.{ℕ, zero, suc, _+_, _-_, _*_, _/_, _^_, _≤_, _<_, min}
+use mathlib.Core.Bool.{false, not}
+use mathlib.Core.List.{List, _∷_, _++_}
+use Prim.Native.Nat.{ℕ, zero, suc, _+_, _-_, _*_, _/_, _≤_, _<_, min}
 use native.Mathlib.Nat.{mul-div-cancel}
 use native.Mathlib.Omega.{arith}
 use lib.ListN.{length, take, drop, length-append, length-take}
 use lib.Seq.{take-all, take-take, take-at, drop-append-le, take-append-le, drop-append-add, length-take-le}
 use lib.Dec.{leb, ltb, eqb}
 use borrow.Author.Tests.{leb-true, leb-false, ltb-false, le-ltb}
-use Rattle.area.specs.Pick.{pick, either}
+use Rattle.area.specs.Pick.{either}
 use Rattle.area.specs.Area.{part, tab}
 use Rattle.area.specs.Little.{valueOf, le8}
 use Rattle.area.proofs.Laws.Pick.{by, skips, either-left, either-right, either-join}
@@ -19,7 +19,7 @@ use Rattle.area.proofs.Laws.Tab.{length-tab}
 use Rattle.sia.specs.Encode.{every}
 use Rattle.single.specs.Single.{idsIn}
 use Rattle.single.specs.Input.{numberAt, pricesIn, budgetIn, idsEnd, headEnd, idsBytes, headBytes, dataBytes, pricesRight, cutShort, wrong}
-use Rattle.intake.specs.Kept.{idsKept, headKept, kept}
+use Rattle.intake.specs.Kept.{idsKept, headKept, dataKept, kept}
 
 -- ---- parts of lists that are joined
 
@@ -81,6 +81,11 @@ part-least all at n k =
     (λ u. let m : min n k ≡ n = omega (arith, leb-true n k u) in ap (λ (j : ℕ). take j (drop at all)) m ∙ sym (take-all k (take n (drop at all)) (omega (arith, leb-true n k u, length-take n (drop at all)))))
     (λ u. let m : min n k ≡ k = omega (arith, leb-false n k u) in ap (λ (j : ℕ). take j (drop at all)) m ∙ sym (take-take k n (drop at all) (omega (arith, leb-false n k u))))
 
+-- a number in the front part of an input
+pub number-front : (all : List ℕ) (k at : ℕ) → at + 8 ≤ k → numberAt (take k all) at ≡ numberAt all at
+unfolding numberAt part
+number-front all k at h = ap valueOf (part-part all 0 k at 8 h ∙ ap (λ (j : ℕ). part all j 8) (let e : 0 + at ≡ at = omega arith in e))
+
 -- ---- an input from which nothing is missing ahead of the data
 
 module _ (all : List ℕ) (front : 80 ≤ length all) (whole : cutShort all ≡ false) where
@@ -88,7 +93,7 @@ module _ (all : List ℕ) (front : 80 ≤ length all) (whole : cutShort all ≡ 
   unfolding cutShort
   ids-end = ltb-false _ _ (either-left _ _ whole)
 
-  head-end : idsEnd all + 8 + numberAt all (idsEnd all) ≤ length all
+  pub head-end : idsEnd all + 8 + numberAt all (idsEnd all) ≤ length all
   unfolding cutShort headEnd
   head-end = ltb-false _ _ (either-right _ _ whole)
 
@@ -120,11 +125,8 @@ module _ (all : List ℕ) (front : 80 ≤ length all) (whole : cutShort all ≡ 
   -- ---- found again in what is kept
 
   number-same : (at : ℕ) → at + 8 ≤ 72 → numberAt (kept all) at ≡ numberAt all at
-  unfolding numberAt kept part
-  number-same at h =
-      ap valueOf
-      (part-first (take 72 all) _ at 8 (let l = long-front in omega (arith, l))
-      ∙ part-part all 0 72 at 8 h ∙ ap (λ (k : ℕ). part all k 8) (let e : 0 + at ≡ at = omega arith in e))
+  unfolding numberAt kept
+  number-same at h = ap valueOf (part-first (take 72 all) _ at 8 (let l = long-front in omega (arith, l))) ∙ number-front all 72 at h
 
   count-kept : numberAt (kept all) 72 ≡ idsKept all
   unfolding numberAt kept
@@ -169,7 +171,7 @@ module _ (all : List ℕ) (front : 80 ≤ length all) (whole : cutShort all ≡ 
   unfolding headEnd
   head-end-kept = ap₂ (λ (k n : ℕ). k + 8 + n) ids-end-kept length-kept
 
-  pub data-kept : dataBytes (kept all) ≡ take 65537 (dataBytes all)
+  pub data-kept : dataBytes (kept all) ≡ dataKept all
   unfolding dataBytes kept
   data-kept =
       ap (λ (k : ℕ). drop k (kept all)) head-end-kept
@@ -184,7 +186,7 @@ module _ (all : List ℕ) (front : 80 ≤ length all) (whole : cutShort all ≡ 
   long-kept : headEnd (kept all) ≤ length (kept all)
   unfolding kept
   long-kept =
-      let given = take 65537 (dataBytes all) in
+      let given = dataKept all in
       let head = part all (idsEnd all + 8) (headKept all) in
       let ids = part all 80 (idsKept all * 32) in
       let m = le8 (headKept all) in
@@ -245,9 +247,9 @@ module _ (all : List ℕ) (front : 80 ≤ length all) (whole : cutShort all ≡ 
 
 -- how long it is at most
 pub kept-short : (all : List ℕ) → length (kept all) ≤ 68810
-unfolding kept part idsKept headKept
+unfolding kept part idsKept headKept dataKept
 kept-short all =
-    let given = take 65537 (dataBytes all) in
+    let given = dataKept all in
     let head = take (headKept all) (drop (idsEnd all + 8) all) in
     let ids = take (idsKept all * 32) (drop 80 all) in
     let m = le8 (headKept all) in

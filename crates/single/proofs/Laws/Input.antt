@@ -1,6 +1,6 @@
 -- The whole input in its bytes: what is known of one that is not refused with 9, and the loop over the prices. Assumes nothing.
 use mathlib.Core.Path.{_≡_, refl, sym, ap, _∙_}
-use mathlib.Core.Bool.{Bool, true, false, not}
+use mathlib.Core.Bool.{Bool, true, false}
 use mathlib.Core.List.{List}
 use Prim.Native.Nat.{ℕ, zero, suc, _+_, _-_, _*_, _/_, _≤_, _<_}
 use native.Mathlib.Numerals.{add-one}
@@ -9,7 +9,6 @@ use native.Mathlib.Omega.{arith}
 use lib.ListN.{length, take, drop}
 use lib.Dec.{leb, ltb}
 use borrow.Author.Tests.{leb-true, ltb-false, not-false, lt-ltb, le-ltb}
-use Rattle.area.specs.Pick.{pick, either}
 use Rattle.area.specs.Area.{tab}
 use Rattle.area.proofs.Laws.Pick.{yes, no, both-left, both-right, either-left, either-right}
 use Rattle.area.proofs.Laws.Parts.{part-is}

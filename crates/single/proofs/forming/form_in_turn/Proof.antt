@@ -1,7 +1,6 @@
 -- `single::forming::form_in_turn` meets its contract. The loop's invariant: what all ids come to is what those come to that are left, on the
 -- host that was made so far. Assumes nothing.
-use mathlib.Core.Path.{_≡_, refl, sym, ap, _∙_}
-use mathlib.Core.List.{List}
+use mathlib.Core.Path.{_≡_, sym, ap, _∙_}
 use Prim.Native.Nat.{ℕ, _-_, _*_, _/_}
 use native.Mathlib.Nat.{div-add-mod'}
 use native.Mathlib.Omega.{arith}

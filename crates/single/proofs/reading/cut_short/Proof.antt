@@ -1,5 +1,4 @@
 -- `single::reading::cut_short` meets its contract. Assumes nothing.
-use native.Mathlib.Omega.{arith}
 use Rattle.single.specs.Input.{numberAt}
 use Rattle.single.proofs.Laws.Input.{ids-short, number-short, head-short}
 use borrow.Author.Needs.{needs}

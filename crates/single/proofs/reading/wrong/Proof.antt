@@ -1,7 +1,6 @@
 -- `single::reading::wrong` meets its contract: a walk down the definition. Assumes nothing.
 use mathlib.Core.Path.{refl, sym, ap, _∙_}
 use mathlib.Core.Bool.{not}
-use lib.ListN.{length}
 use borrow.Author.Tests.{eq-eqb, ne-eqb, lt-ltb, le-ltb}
 use Rattle.area.proofs.Laws.Pick.{yes, no}
 use Rattle.single.specs.Input.{numberAt, wrong}

@@ -1,0 +1,2 @@
+-- What is written out.
+pub mod Spoken
