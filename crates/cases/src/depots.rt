@@ -9,15 +9,10 @@ pub fn play(
     stage: &mut [u8],
     input: &mut [u8],
     output: &mut [u8],
-    all: &mut [u8],
     shown: &mut [u8],
 ) -> usize
     ensures { λ r. ⌜ r ≤ length (now (shown .exit)) ⌝ }
 {
-    if all.len() < 68_810 {
-        return 0;
-    }
-    let n = intake::gather(many, all);
     if disk.len() < 32_768 {
         return 0;
     }
@@ -27,6 +22,8 @@ pub fn play(
     if output.len() < 16_384 {
         return 0;
     }
+    let mut all = [0u8; intake::KEPT];
+    let n = intake::gather(many, &mut all);
     let done = single::answer(
         &all[0..n],
         &mut disk[0..32_768],

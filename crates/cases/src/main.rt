@@ -75,7 +75,7 @@ fn one_case(
     let length = area::load(&ahead, 1);
     let kind = ahead[0];
     if kind == b'd' {
-        let n = depots::play(length, disk, stage, input, output, all, shown);
+        let n = depots::play(length, disk, stage, input, output, shown);
         line(place, b"depot", &shown[0..n]);
         return true;
     }
