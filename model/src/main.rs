@@ -12,6 +12,7 @@ mod head;
 mod host;
 mod instruction;
 mod memo;
+mod mixes;
 mod program;
 mod random;
 mod show;
@@ -35,6 +36,7 @@ fn main() {
     match words[..] {
         ["depot"] => std::io::stdout().write_all(&depot::play(&standard_input())).unwrap(),
         ["calls"] => std::io::stdout().write_all(&calls::play(&standard_input())).unwrap(),
+        ["mixes"] => std::io::stdout().write_all(mixes::play(&standard_input()).as_bytes()).unwrap(),
         ["check"] => check::run(),
         ["gen", seed, count, directory] => batch::make(number(seed), number(count), directory),
         ["batch", inputs, label] => batch::run(inputs, label),
@@ -45,7 +47,7 @@ fn main() {
         ["show", "calls"] => show::script_text(&standard_input()).iter().for_each(|line| println!("{line}")),
         ["extract", inputs, which] => batch::extract(inputs, number(which) as usize),
         _ => {
-            eprintln!("use: model depot | calls | check | show depot | show calls");
+            eprintln!("use: model depot | calls | mixes | check | show depot | show calls");
             eprintln!("     model gen SEED N DIRECTORY | batch INPUTS LABEL | digests INPUTS | reach INPUTS | extract INPUTS I | cases");
             std::process::exit(2);
         }

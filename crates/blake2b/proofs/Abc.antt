@@ -4,7 +4,8 @@ use mathlib.Core.List.{[], _∷_}
 use Rattle.area.specs.Pick.{pick}
 use Rattle.area.specs.Area.{part, tab}
 use Rattle.area.specs.Little.{valueOf, bytesOf}
-use Rattle.blake2b.specs.Blake2b.{rotr, words, bytes, sum3, sum2, turn, G, round, rounds, xorAt, local, F, padded, keyed, start, absorbed, blake2b, opened}
+use Rattle.compression.specs.Compression.{rotr, words, sum3, sum2, turn, G, round, rounds, xorAt, local, F}
+use Rattle.blake2b.specs.Blake2b.{bytes, padded, keyed, start, absorbed, blake2b, opened}
 
 pub abc : blake2b 64 [] (97 ∷ 98 ∷ 99 ∷ [])
     ≡ 0xBA ∷ 0x80 ∷ 0xA5 ∷ 0x3F ∷ 0x98 ∷ 0x1C ∷ 0x4D ∷ 0x0D ∷ 0x6A ∷ 0x27 ∷ 0x97 ∷ 0xB6 ∷ 0x9F ∷ 0x12 ∷ 0xF6 ∷ 0xE9

@@ -7,7 +7,8 @@ use lib.ListN.{length, take, drop}
 use lib.Seq.{length-take-le}
 use Rattle.area.specs.Little.{Bytes, bytesOf}
 use Rattle.area.proofs.Laws.Little.{bytes-below, append-below, take-below}
-use Rattle.blake2b.specs.Blake2b.{F, words, bytes, keyed, before, start, absorbed, finished, blake2b, opened}
+use Rattle.compression.specs.Compression.{F, words}
+use Rattle.blake2b.specs.Blake2b.{bytes, keyed, before, start, absorbed, finished, blake2b, opened}
 use Rattle.blake2b.specs.Promise.{Digest}
 use Rattle.blake2b.proofs.Laws.Data.{length-state}
 

@@ -3,15 +3,15 @@ ghost use mathlib.Core.Path.{_≡_};
 ghost use Prim.Native.Nat.{_≤_};
 ghost use lib.ListN.{length, take};
 ghost use Rattle.blake2b.specs.Blake2b as RFC;
-use crate::compression::IV0;
-use crate::compression::IV1;
-use crate::compression::IV2;
-use crate::compression::IV3;
-use crate::compression::IV4;
-use crate::compression::IV5;
-use crate::compression::IV6;
-use crate::compression::IV7;
-use crate::compression::compress;
+use compression::IV0;
+use compression::IV1;
+use compression::IV2;
+use compression::IV3;
+use compression::IV4;
+use compression::IV5;
+use compression::IV6;
+use compression::IV7;
+use compression::compress;
 
 // The state at the start, for a digest of nn bytes and a key of kk.
 pub fn start(nn: u64, kk: u64) -> [u64; 8]

@@ -2,10 +2,7 @@
 ghost use mathlib.Core.Path.{_≡_};
 ghost use Rattle.blake2b.specs.Answers.{left, digested};
 
-mod compression;
 mod data;
-mod mixing;
-mod schedule;
 
 // Done: 0. Refused: 2, for a digest or a key of another length.
 pub enum Answer {

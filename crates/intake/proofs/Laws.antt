@@ -4,3 +4,4 @@ pub mod Heads
 pub mod Pieces
 pub mod Sections
 pub mod Missing
+pub mod Lowered

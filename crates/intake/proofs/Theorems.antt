@@ -10,7 +10,7 @@ use Rattle.host.specs.Calls.{freshed}
 use Rattle.sia.specs.Decode.{decode}
 use Rattle.single.specs.Single.{Ran, ran, idsIn, formedInTurn, run}
 use Rattle.single.specs.Input.{numberAt, pricesIn, budgetIn, idsEnd, idsBytes, headBytes, dataBytes, cutShort, answered}
-use Rattle.intake.specs.Kept.{idsKept, headKept, kept, Kept}
+use Rattle.intake.specs.Kept.{idsKept, headKept, dataKept, kept, Kept}
 use Rattle.intake.proofs.Laws.Forms.{first-ids, fresh-free}
 use Rattle.intake.proofs.Laws.Heads.{first-bytes}
 use Rattle.intake.proofs.Laws.Pieces.{run-alike}
@@ -36,6 +36,7 @@ module _ (all : List ℕ) (front : 80 ≤ length all) (whole : cutShort all ≡ 
   same-run : (z : ℕ) (disk stage input output : List ℕ)
       → run z (pricesIn (kept all)) (budgetIn (kept all)) (idsBytes (kept all)) (headBytes (kept all)) (dataBytes (kept all)) disk stage input output
       ≡ run z (pricesIn all) (budgetIn all) (idsBytes all) (headBytes all) (dataBytes all) disk stage input output
+  unfolding dataKept
   same-run z disk stage input output =
       let prices = prices-kept all front whole in
       let budget = budget-kept all front whole in

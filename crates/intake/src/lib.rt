@@ -1,8 +1,11 @@
 // One input of the program of the bench, from standard input, kept as far as it can matter: nine ids (a host holds eight contracts), 2,897
 // bytes of head (the longest head has 2,896) and 65,537 bytes of data (at most 65,536 are declared). What is longer is counted and dropped,
 // and the numbers ahead of it are lowered, so that an input of any length has its answer.
-ghost use Prim.Native.Nat.{_+_, _≤_};
+ghost use mathlib.Core.Path.{_≡_};
+ghost use Prim.Native.Nat.{_+_, _-_, _≤_};
 ghost use lib.ListN.{length};
+ghost use Rattle.single.specs.Input.{numberAt};
+ghost use Rattle.intake.specs.Kept.{lowered};
 use libc::STDIN_FILENO;
 
 // The price count, prices, budget and contract count.
@@ -82,11 +85,13 @@ fn more(came: Came, n: usize, all: &mut [u8]) -> Came
 fn counted(all: &mut [u8], at: usize, most: u64) -> u64
     requires { ⌜ 8 ≤ at ⌝ }
     requires { ⌜ at ≤ length (now all) ⌝ }
+    ensures { λ r. ⌜ (r ≡ numberAt (now (all .entry)) (at - 8)) × (now (all .exit) ≡ lowered (now (all .entry)) (at - 8) most) ⌝ }
 {
     let n = area::load(&*all, at - NUMBER);
-    if most < n {
-        area::store(all, at - NUMBER, NUMBER, most);
+    if n <= most {
+        return n;
     }
+    area::store(all, at - NUMBER, NUMBER, most);
     n
 }
 

@@ -31,7 +31,9 @@ pub fn refusal(number: u64) {
         6 => text(b"id already present"),
         7 => text(b"contract not found"),
         8 => text(b"no free place for a contract"),
-        9 => text(b"bytes missing, a flag above 1 or bytes left over"),
+        9 => text(
+            b"bytes missing or left over, a flag above 1, or a price or their count not as stated",
+        ),
         10 => text(b"a count or the declared length above its limit"),
         11 => text(b"start price above budget"),
         12 => text(b"data passes the declared length"),

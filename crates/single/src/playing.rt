@@ -1,7 +1,7 @@
 // Opening a program, giving it its data as one piece, and closing it.
 ghost use mathlib.Core.Path.{_≡_};
 ghost use Prim.Native.Nat.{min};
-ghost use Rattle.machine.specs.Asks.{closeLeaves};
+ghost use Rattle.closing.specs.Asks.{closeLeaves};
 ghost use Rattle.single.specs.Single as Says;
 ghost use Rattle.single.specs.Single.{leaves, ended, given, begun};
 use crate::Outcome;

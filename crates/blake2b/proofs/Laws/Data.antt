@@ -11,7 +11,8 @@ use Rattle.area.specs.Area.{part, put, zeros}
 use Rattle.area.specs.Little.{bytesOf}
 use Rattle.area.proofs.Laws.Puts.{put-is, put-all, put-append}
 use Rattle.area.proofs.Laws.Little.{length-bytes}
-use Rattle.blake2b.specs.Blake2b.{F, words, bytes, padded, keyed, before, absorbed, finished}
+use Rattle.compression.specs.Compression.{F, words}
+use Rattle.blake2b.specs.Blake2b.{bytes, padded, keyed, before, absorbed, finished}
 
 -- ---- padding
 

@@ -19,7 +19,7 @@ use Rattle.area.proofs.Laws.Tab.{length-tab}
 use Rattle.sia.specs.Encode.{every}
 use Rattle.single.specs.Single.{idsIn}
 use Rattle.single.specs.Input.{numberAt, pricesIn, budgetIn, idsEnd, headEnd, idsBytes, headBytes, dataBytes, pricesRight, cutShort, wrong}
-use Rattle.intake.specs.Kept.{idsKept, headKept, kept}
+use Rattle.intake.specs.Kept.{idsKept, headKept, dataKept, kept}
 
 -- ---- parts of lists that are joined
 
@@ -171,7 +171,7 @@ module _ (all : List ℕ) (front : 80 ≤ length all) (whole : cutShort all ≡ 
   unfolding headEnd
   head-end-kept = ap₂ (λ (k n : ℕ). k + 8 + n) ids-end-kept length-kept
 
-  pub data-kept : dataBytes (kept all) ≡ take 65537 (dataBytes all)
+  pub data-kept : dataBytes (kept all) ≡ dataKept all
   unfolding dataBytes kept
   data-kept =
       ap (λ (k : ℕ). drop k (kept all)) head-end-kept
@@ -186,7 +186,7 @@ module _ (all : List ℕ) (front : 80 ≤ length all) (whole : cutShort all ≡ 
   long-kept : headEnd (kept all) ≤ length (kept all)
   unfolding kept
   long-kept =
-      let given = take 65537 (dataBytes all) in
+      let given = dataKept all in
       let head = part all (idsEnd all + 8) (headKept all) in
       let ids = part all 80 (idsKept all * 32) in
       let m = le8 (headKept all) in
@@ -247,9 +247,9 @@ module _ (all : List ℕ) (front : 80 ≤ length all) (whole : cutShort all ≡ 
 
 -- how long it is at most
 pub kept-short : (all : List ℕ) → length (kept all) ≤ 68810
-unfolding kept part idsKept headKept
+unfolding kept part idsKept headKept dataKept
 kept-short all =
-    let given = take 65537 (dataBytes all) in
+    let given = dataKept all in
     let head = take (headKept all) (drop (idsEnd all + 8) all) in
     let ids = take (idsKept all * 32) (drop 80 all) in
     let m = le8 (headKept all) in

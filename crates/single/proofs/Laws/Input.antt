@@ -15,7 +15,7 @@ use Rattle.area.proofs.Laws.Parts.{part-is}
 use Rattle.area.proofs.Laws.Lent.{rest-take}
 use Rattle.sia.specs.Encode.{every}
 use Rattle.host.specs.Calls.{freshed}
-use Rattle.machine.proofs.Laws.Hosts.{rest-less}
+use Rattle.taking.proofs.Laws.Hosts.{rest-less}
 use Rattle.single.specs.Single.{Ran, ran, leaves, run}
 use Rattle.single.specs.Input.{numberAt, pricesIn, budgetIn, idsEnd, headEnd, idsBytes, headBytes, dataBytes, pricesRight, cutShort, wrong, answered}
 use Rattle.single.proofs.Laws.Plays.{without}

@@ -11,15 +11,17 @@ use Rattle.area.specs.Pick.{pick}
 use Rattle.area.proofs.Laws.Pick.{yes, no, by}
 use Rattle.host.specs.Calls.{freshed}
 use Rattle.host.proofs.Laws.Slices.{take-min}
-use Rattle.rules.specs.Calls.{Pieced, opened, piece}
-use Rattle.rules.specs.Commit.{Closed}
-use Rattle.machine.specs.Asks.{pieceLeaves, closeLeaves}
+use Rattle.rules.specs.Calls.{Pieced, opened, piece, reached}
+use Rattle.rules.specs.Commit.{Closed, close}
+use Rattle.taking.specs.Asks.{pieceLeaves}
+use Rattle.closing.specs.Asks.{closeLeaves}
 use Rattle.single.specs.Single.{Ran, ran, leaves, idsIn, formedInTurn, ended, shown, given, begun, run}
 use Rattle.host.specs.declared.Prices.{Prices}
 use Rattle.host.specs.declared.Host.{Host}
 use Rattle.host.specs.declared.Answer as Made
 use Rattle.rules.specs.declared.Answer.{Answer}
-use Rattle.machine.specs.declared.closing.Closing.{Closing}
+use Rattle.rules.specs.declared.Reached.{Reached}
+use Rattle.closing.specs.declared.Closing.{Closing}
 use Rattle.single.specs.declared.Outcome.{Outcome}
 
 -- ---- a call that is refused ends it; one that is not goes on
@@ -34,6 +36,13 @@ module _ {A : Type 0} (number : A → ℕ) where
 
   goes : (left : Ran) (more : A → Ran) {r s : A} {x : Ran} → r ≡ s → number r ≡ 0 → x ≡ more r → x ≡ pick (not (eqb (number s) 0)) left (more s)
   goes left more e w q = no _ _ _ (ap not (eq-eqb _ 0 (sym (ap number e) ∙ w))) (q ∙ ap more e)
+
+-- ---- the close, with the pair reached
+
+pub ended-is : (disk : List ℕ) (h : Host) (stage : List ℕ) {pair : Reached} {x : Closed} → pair ≡ reached 4096 disk h stage
+    → x ≡ close 4096 disk h stage (not (h .program .progress .failed)) (pair .size) (pair .root) → x ≡ ended 4096 disk h stage
+unfolding ended
+ended-is disk h stage e q = q ∙ ap (λ (p : Reached). close 4096 disk h stage (not (h .program .progress .failed)) (p .size) (p .root)) e
 
 -- ---- the piece, with the front part of the input area, and the close
 

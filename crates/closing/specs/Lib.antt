@@ -1,0 +1,2 @@
+-- What closing leaves. What it means is crate rules'.
+pub mod Asks

@@ -1,0 +1,152 @@
+// Closing a program: giving up, or agreeing to the size and root that it has reached; and the commit.
+ghost use mathlib.Core.Path.{_≡_};
+ghost use mathlib.Core.Bool.{true, false};
+ghost use lib.IntN.{pos};
+ghost use lib.Dec.{eqb};
+ghost use Rattle.area.specs.Pick.{both, either};
+ghost use Rattle.area.specs.Area.{same};
+ghost use Rattle.host.specs.Empty.{noProgram};
+ghost use Rattle.host.specs.With.{withProgram};
+ghost use Rattle.rules.specs.Run as Run;
+ghost use Rattle.rules.specs.Commit as Says;
+ghost use Rattle.turns.specs.Asks.{Ready};
+ghost use Rattle.closing.specs.Asks.{closeLeaves};
+use host::Host;
+use host::Program;
+
+// What closing answers: document 01's number, the tally, the growth in bytes, and the host.
+pub struct Closing {
+    pub number: u64,
+    pub tally: u64,
+    pub growth: i64,
+    pub host: Host,
+}
+
+fn refused(number: u64, host: Host) -> Closing
+    ensures { λ r. ⌜ r ≡ record { number = number; tally = 0; growth = pos 0; host = host } ⌝ }
+{
+    Closing {
+        number,
+        tally: 0,
+        growth: 0,
+        host,
+    }
+}
+
+// The program is closed and nothing committed.
+fn give_up(number: u64, host: Host) -> Closing
+    ensures { λ r. ⌜ r ≡ record { number = number; tally = host .program .progress .tally; growth = pos 0; host = withProgram host noProgram } ⌝ }
+{
+    let program = host.program;
+    let progress = program.progress;
+    let mut left = host;
+    let none = Program::none();
+    left.program = none;
+    Closing {
+        number,
+        tally: progress.tally,
+        growth: 0,
+        host: left,
+    }
+}
+
+// 13: whether a program has failed, or has not ended.
+fn unfinished(program: Program) -> bool
+    ensures { λ r. ⌜ r ≡ either (program .progress .failed) (Run.going (program .terms) (program .progress)) ⌝ }
+{
+    let progress = program.progress;
+    if progress.failed {
+        return true;
+    }
+    turns::going(program)
+}
+
+// Whether two pairs are the same: the sizes, and all bytes of the roots.
+fn same_pair(size: u64, root: [u8; 32], other: u64, its: [u8; 32]) -> bool
+    ensures { λ r. ⌜ r ≡ both (eqb size other) (same root its) ⌝ }
+{
+    if size != other {
+        return false;
+    }
+    area::same(&root, &its)
+}
+
+// Staged sectors go to the parent's slots on the disk, and the parent takes its final size.
+fn commit(host: Host, disk: &mut [u8], stage: &[u8]) -> Closing
+    requires { ⌜ Ready (now disk) host (now stage) ⌝ }
+    ensures { λ r. ⌜ closeLeaves r (now (disk .exit)) ≡ Says.commit 4096 (now (disk .entry)) host (now (stage .entry)) ⌝ }
+{
+    let program = host.program;
+    let terms = program.terms;
+    let head = terms.head;
+    let id = head.contract;
+    let places = host.places;
+    let progress = program.progress;
+    let size = progress.size;
+    let staged = progress.staged;
+    let old = host::place_of(places, id);
+    let slots = commit::final_slots(host.disk, places, old, size);
+    let new = commit::final_place(old, size, slots);
+    let after_places = host::replaced_in(places, id, new);
+    let growth = commit::growth(size, old.size);
+    commit::copy_back(stage, staged, slots, (size / Host::SECTOR) as usize, disk);
+    let mut after = host;
+    after.places = after_places;
+    let none = Program::none();
+    after.program = none;
+    Closing {
+        number: 0,
+        tally: progress.tally,
+        growth,
+        host: after,
+    }
+}
+
+// An agreement: 14 drops the changes, and closes.
+fn agree_to(host: Host, disk: &mut [u8], stage: &[u8], size: u64, root: [u8; 32]) -> Closing
+    requires { ⌜ Ready (now disk) host (now stage) ⌝ }
+    ensures { λ r. ⌜ closeLeaves r (now (disk .exit)) ≡ Says.agreed 4096 (now (disk .entry)) host (now (stage .entry)) size root ⌝ }
+{
+    let program = host.program;
+    let terms = program.terms;
+    let head = terms.head;
+    let id = head.contract;
+    let places = host.places;
+    let parent = host::place_of(places, id);
+    let progress = program.progress;
+    let running = step::running_root(&*disk, stage, parent, progress);
+    if !same_pair(size, root, progress.size, running) {
+        return give_up(14, host);
+    }
+    commit(host, disk, stage)
+}
+
+// Closes the program: 1, 2, 4, 13, 14. Giving up always closes and commits nothing.
+pub fn close(
+    host: Host,
+    disk: &mut [u8],
+    stage: &[u8],
+    agree: bool,
+    size: u64,
+    root: [u8; 32],
+) -> Closing
+    ensures { λ r. ⌜ closeLeaves r (now (disk .exit)) ≡ Says.close 4096 (now (disk .entry)) host (now (stage .entry)) agree size root ⌝ }
+{
+    if !host::in_order(host) {
+        return refused(1, host);
+    }
+    if !turns::areas_right(host.disk, host.stage, &*disk, stage) {
+        return refused(2, host);
+    }
+    let program = host.program;
+    if !program.active {
+        return refused(4, host);
+    }
+    if !agree {
+        return give_up(0, host);
+    }
+    if unfinished(program) {
+        return refused(13, host);
+    }
+    agree_to(host, disk, stage, size, root)
+}

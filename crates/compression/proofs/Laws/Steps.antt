@@ -1,0 +1,78 @@
+-- One step after another: the mixings of a round, the rounds, the parts of F; and the local vector at a counter of one word.
+-- Assumes nothing.
+use mathlib.Core.Path.{_≡_, refl, sym, ap, _∙_}
+use mathlib.Core.Bool.{Bool}
+use mathlib.Core.Logic.{_⊎_, inl, inr}
+use mathlib.Core.List.{List, [], _∷_, _++_}
+use Prim.Native.Nat.{ℕ, zero, suc, _+_, _%_, _/_, _^_, _≤_, _<_, zero-le}
+use native.Mathlib.Numerals.{add-one}
+use native.Mathlib.Omega.{arith}
+use lib.ListN.{length, take, drop, getD, set}
+use lib.Seq.{take-all, drop-cons, set-getD}
+use lib.Bits.{xor-zero-r}
+use Rattle.compression.specs.Compression.{G, IV, chosen, round, rounds, xorAt, local, folded, words, F}
+
+-- a mixing of what was made before
+pub then : {v w r : List ℕ} (a b c d x y : ℕ) → r ≡ G v a b c d x y → v ≡ w → r ≡ G w a b c d x y
+then a b c d x y e p = e ∙ ap (λ (l : List ℕ). G l a b c d x y) p
+
+-- the row of a round's number
+pub as-row : {r : List ℕ} {i : ℕ} (k : ℕ) (m : List ℕ) → i ≡ k → r ≡ chosen k m → r ≡ chosen i m
+as-row k m e p = p ∙ ap (λ (n : ℕ). chosen n m) (sym e)
+
+-- a number past each of these, and below 12
+past : {i : ℕ} (k : ℕ) → k ≤ i → (i ≡ k → ⊥) → suc k ≤ i
+past k h n = omega arith
+
+pub ninth : (i : ℕ) → i < 12 → ((i ≡ 0) ⊎ (i ≡ 10) → ⊥) → ((i ≡ 1) ⊎ (i ≡ 11) → ⊥) → (i ≡ 2 → ⊥) → (i ≡ 3 → ⊥) → (i ≡ 4 → ⊥) → (i ≡ 5 → ⊥)
+    → (i ≡ 6 → ⊥) → (i ≡ 7 → ⊥) → (i ≡ 8 → ⊥) → i ≡ 9
+ninth i h a b n2 n3 n4 n5 n6 n7 n8 =
+    let p : 9 ≤ i =
+    past 8 (past 7 (past 6 (past 5 (past 4 (past 3 (past 2 (past 1 (past 0 zero-le (λ e. a (inl e))) (λ e. b (inl e))) n2) n3) n4) n5) n6) n7) n8 in
+    last i h p (λ e. a (inr e)) (λ e. b (inr e)) where
+      last : (i : ℕ) → i < 12 → 9 ≤ i → (i ≡ 10 → ⊥) → (i ≡ 11 → ⊥) → i ≡ 9
+      last i h p x y = omega arith
+
+-- one round more
+pub round-more : {v x r : List ℕ} (i : ℕ) (m v0 : List ℕ) → v ≡ rounds i m v0 → x ≡ chosen i m → r ≡ round x v → r ≡ rounds (i + 1) m v0
+unfolding rounds
+round-more i m v0 p q e = rw (add-one i) (e ∙ (λ k. round (q k) (p k)))
+
+-- the parts of F
+pub parts : {m v w r : List ℕ} (h b : List ℕ) (t : ℕ) (f : Bool) → m ≡ words b → v ≡ local h t f → w ≡ rounds 12 m v → r ≡ folded h w
+    → r ≡ F h (words b) t f
+unfolding F
+parts h b t f em ev ew er = er ∙ ap (folded h) (ew ∙ (λ i. rounds 12 (em i) (ev i)))
+
+-- the n elements from i on, written out
+listed : ℕ → ℕ → List ℕ → List ℕ
+listed zero i l = []
+listed (suc n) i l = getD l i 0 ∷ listed n (suc i) l
+
+front : (n i : ℕ) (l : List ℕ) → i + n ≤ length l → take n (drop i l) ≡ listed n i l
+unfolding listed
+front zero i l h = refl
+front (suc n) i l h = ap (take (suc n)) (drop-cons l i 0 (omega arith)) ∙ (ap (λ (r : List ℕ). getD l i 0 ∷ r) (front n (suc i) l (omega arith)))
+
+-- a state of eight words, written out
+eight : (h : List ℕ) → length h ≡ 8
+    → h ≡ getD h 0 0 ∷ getD h 1 0 ∷ getD h 2 0 ∷ getD h 3 0 ∷ getD h 4 0 ∷ getD h 5 0 ∷ getD h 6 0 ∷ getD h 7 0 ∷ []
+unfolding listed
+eight h e = sym (take-all 8 h (omega arith)) ∙ front 8 0 h (omega arith)
+
+-- at a counter of one word, v[13] stays
+counted : (v : List ℕ) (t : ℕ) → t < 2 ^ 64 → xorAt (xorAt v 12 (t % 2 ^ 64)) 13 (t / 2 ^ 64) ≡ xorAt v 12 t
+unfolding xorAt
+counted v t h =
+    let low : t % 2 ^ 64 ≡ t = omega arith in
+    let high : t / 2 ^ 64 ≡ 0 = omega arith in
+    ap (λ (n : ℕ). xorAt (xorAt v 12 (t % 2 ^ 64)) 13 n) high
+    ∙ ap (λ (n : ℕ). set (xorAt v 12 (t % 2 ^ 64)) 13 n) (xor-zero-r (getD (xorAt v 12 (t % 2 ^ 64)) 13 0))
+    ∙ set-getD (xorAt v 12 (t % 2 ^ 64)) 13 0
+    ∙ ap (xorAt v 12) low
+
+-- the vector with its counter, from the state written out
+pub vector : (h : List ℕ) (t : ℕ) → length h ≡ 8 → t < 2 ^ 64
+    → xorAt (getD h 0 0 ∷ getD h 1 0 ∷ getD h 2 0 ∷ getD h 3 0 ∷ getD h 4 0 ∷ getD h 5 0 ∷ getD h 6 0 ∷ getD h 7 0 ∷ IV) 12 t
+    ≡ xorAt (xorAt (h ++ IV) 12 (t % 2 ^ 64)) 13 (t / 2 ^ 64)
+vector h t e b = sym (counted (h ++ IV) t b ∙ ap (λ (l : List ℕ). xorAt (l ++ IV) 12 t) (eight h e))

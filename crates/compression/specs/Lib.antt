@@ -1,0 +1,2 @@
+-- The compression function of RFC 7693.
+pub mod Compression

@@ -1,0 +1,283 @@
+// Visits to one contract, each done as often as the input says: what bench/run measures. A visit opens a program under a head, gives it its
+// data in one piece, and agrees to the pair that it reached, or gives up after a failure. Standard input holds the contract's id (32 bytes), the
+// budget and the seven prices (8 bytes each; a price above 65,535 counts as 65,535), and then visits: how often (8 bytes), the head and the
+// data, each after its length (8 bytes). One line is written: how many visits were done, the number of the first refusal if there was
+// one, and the digests of the disk and of the records of the last visit.
+ghost use Prim.Native.Nat.{_+_, _≤_};
+ghost use lib.ListN.{length};
+use host::Host;
+use host::Prices;
+use libc::STDIN_FILENO;
+use libc::STDOUT_FILENO;
+use sia::Number;
+
+// The bytes ahead of the visits.
+const AHEAD: usize = 96;
+
+// The most visits that are counted.
+const MOST: u64 = 1_000_000_000;
+
+// Where the visits stand: whether another may follow, the number of a refusal (0: none), the visits done, the bytes of records that the
+// last one wrote, and the host.
+struct Course {
+    on: bool,
+    number: u64,
+    visits: u64,
+    written: u64,
+    host: Host,
+}
+
+fn main() {
+    let mut front = [0u8; 96];
+    let came = io::read_full(STDIN_FILENO, &mut front);
+    if came != AHEAD {
+        text(b"bytes missing ahead of the visits\n");
+        return;
+    }
+    let mut disk = [0u8; 262_144];
+    let mut output = io::large_buffer();
+    let start = formed(&front);
+    let end = each(start, &front, &mut disk, &mut output);
+    show(end, &disk, &output);
+}
+
+// A host of the largest areas, with the contract whose id stands in front.
+fn formed(front: &[u8; 96]) -> Course {
+    let mut id = [0u8; 32];
+    area::copy_between(front, 0, &mut id, 0, 32);
+    let made = Host::fresh(262_144, 65_536);
+    let bare = made.host;
+    let told = host::form(bare, id);
+    let host = told.host;
+    Course {
+        on: told.number == 0,
+        number: told.number,
+        visits: 0,
+        written: 0,
+        host,
+    }
+}
+
+// The visits of the input.
+fn each(start: Course, front: &[u8; 96], disk: &mut [u8], output: &mut [u8]) -> Course {
+    let mut course = start;
+    let mut left = MOST;
+    while 0 < left {
+        course = next(course, front, disk, output);
+        left = fewer(course.on, left - 1);
+    }
+    course
+}
+
+// How many are left, where more may follow.
+fn fewer(on: bool, left: u64) -> u64
+    ensures { λ r. ⌜ r ≤ left ⌝ }
+{
+    if on {
+        return left;
+    }
+    0
+}
+
+// The next visit of the input.
+fn next(course: Course, front: &[u8; 96], disk: &mut [u8], output: &mut [u8]) -> Course {
+    let Number::Is(times) = number() else {
+        return stopped(course);
+    };
+    let mut head = io::buffer();
+    let Number::Is(n) = counted(&mut head) else {
+        return stopped(course);
+    };
+    let mut bytes = io::large_buffer();
+    let Number::Is(m) = counted(&mut bytes) else {
+        return stopped(course);
+    };
+    let h = within(n, head.len());
+    let b = within(m, bytes.len());
+    let mut stage = io::large_buffer();
+    let mut input = io::large_buffer();
+    repeated(
+        course,
+        front,
+        times,
+        &head[0..h],
+        &bytes[0..b],
+        disk,
+        &mut stage,
+        &mut input,
+        output,
+    )
+}
+
+fn stopped(course: Course) -> Course {
+    let mut after = course;
+    after.on = false;
+    after
+}
+
+// The next number of the input.
+fn number() -> Number {
+    let mut bytes = [0u8; 8];
+    let came = io::read_full(STDIN_FILENO, &mut bytes);
+    if came != 8 {
+        return Number::Refused;
+    }
+    sia::number_of(&bytes)
+}
+
+// The next length of the input, and that many bytes into the front of the area.
+fn counted(area: &mut [u8]) -> Number {
+    let Number::Is(n) = number() else {
+        return Number::Refused;
+    };
+    let length = n as usize;
+    if area.len() < length {
+        return Number::Refused;
+    }
+    let came = io::read_full(STDIN_FILENO, &mut area[0..length]);
+    if came != length {
+        return Number::Refused;
+    }
+    Number::Is(n)
+}
+
+// As much of a length as there is.
+fn within(n: u64, most: usize) -> usize
+    ensures { λ r. ⌜ r ≤ most ⌝ }
+{
+    if (most as u64) < n {
+        return most;
+    }
+    n as usize
+}
+
+// One visit so many times.
+fn repeated(
+    start: Course,
+    front: &[u8; 96],
+    times: u64,
+    head: &[u8],
+    bytes: &[u8],
+    disk: &mut [u8],
+    stage: &mut [u8],
+    input: &mut [u8],
+    output: &mut [u8],
+) -> Course {
+    let mut course = start;
+    let mut left = fewer(start.on, times);
+    while 0 < left {
+        course = visit(course, front, head, bytes, disk, stage, input, output);
+        left = fewer(course.on, left - 1);
+    }
+    course
+}
+
+fn visit(
+    course: Course,
+    front: &[u8; 96],
+    head: &[u8],
+    bytes: &[u8],
+    disk: &mut [u8],
+    stage: &mut [u8],
+    input: &mut [u8],
+    output: &mut [u8],
+) -> Course {
+    let host = course.host;
+    let prices = prices_of(front);
+    let budget = area::load(front, 32);
+    let done = single::begin(
+        host,
+        prices,
+        budget,
+        head,
+        bytes,
+        disk,
+        stage,
+        input,
+        output,
+    );
+    let after = done.host;
+    Course {
+        on: done.number == 0,
+        number: done.number,
+        visits: more(course.visits, done.number),
+        written: done.written,
+        host: after,
+    }
+}
+
+// A visit more, unless it was refused.
+fn more(visits: u64, number: u64) -> u64 {
+    if number != 0 {
+        return visits;
+    }
+    if visits < MOST {
+        return visits + 1;
+    }
+    visits
+}
+
+// The prices, behind the id and the budget.
+fn prices_of(front: &[u8; 96]) -> Prices {
+    Prices {
+        init: price(front, 40),
+        memory: price(front, 48),
+        readbase: price(front, 56),
+        readlength: price(front, 64),
+        writebase: price(front, 72),
+        writelength: price(front, 80),
+        truncatebase: price(front, 88),
+    }
+}
+
+fn price(front: &[u8], at: usize) -> u16
+    requires { ⌜ at + 8 ≤ length (now front) ⌝ }
+{
+    let n = area::load(front, at);
+    if 65_535 < n {
+        return 65_535;
+    }
+    n as u16
+}
+
+fn text(words: &[u8]) {
+    io::write_all(STDOUT_FILENO, words);
+}
+
+// The line.
+fn show(end: Course, disk: &[u8], output: &[u8]) {
+    text(b"visits ");
+    io::print_decimal(STDOUT_FILENO, end.visits);
+    if end.number != 0 {
+        text(b" refused ");
+        io::print_decimal(STDOUT_FILENO, end.number);
+    }
+    text(b" disk ");
+    show_digest(disk);
+    text(b" records ");
+    let n = within(end.written, output.len());
+    show_digest(&output[0..n]);
+    text(b"\n");
+}
+
+// The digest of 32 bytes, with no key.
+fn show_digest(bytes: &[u8]) {
+    let mut digest = [0u8; 32];
+    let answer = blake2b::digest(b"", bytes, &mut digest);
+    match answer {
+        blake2b::Answer::Done => show_bytes(&digest),
+        blake2b::Answer::Refused => text(b"refused"),
+    }
+}
+
+fn show_bytes(bytes: &[u8]) {
+    let mut i: usize = 0;
+    while i < bytes.len() {
+        io::print_hex(STDOUT_FILENO, wide(bytes[i]), 2);
+        i += 1;
+    }
+}
+
+fn wide(x: u8) -> u64 {
+    x as u64
+}

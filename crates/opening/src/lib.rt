@@ -1,0 +1,130 @@
+// Opening a program. What it answers and leaves is crate rules' definition of it.
+ghost use mathlib.Core.Path.{_≡_};
+ghost use mathlib.Core.Bool.{not};
+ghost use Rattle.area.specs.Pick.{both};
+ghost use Rattle.area.specs.Area.{same};
+ghost use Rattle.sia.specs.Names.{readOnly};
+ghost use Rattle.host.specs.Empty as Empty;
+ghost use Rattle.host.specs.Places.{whose};
+ghost use Rattle.rules.specs.Calls as Says;
+ghost use Rattle.rules.specs.Calls.{roomRight, begun, opened};
+use host::Host;
+use host::Place;
+use host::Prices;
+use host::Program;
+use host::Progress;
+use host::Terms;
+use rules::Answer;
+use sia::Head;
+
+fn room_right(room: u64) -> bool
+    ensures { λ r. ⌜ r ≡ roomRight room ⌝ }
+{
+    if room < Terms::LEAST {
+        return false;
+    }
+    room <= Terms::MOST
+}
+
+// Whether the head names a contract that is not there.
+fn absent(places: [Place; 8], id: [u8; 32]) -> bool
+    ensures { λ r. ⌜ r ≡ both (not (same id readOnly)) (not (whose id places .held)) ⌝ }
+{
+    if sia::is_read_only(id) {
+        return false;
+    }
+    let parent = host::place_of(places, id);
+    !parent.held
+}
+
+// The progress of a program that has run nothing.
+fn started(tally: u64, size: u64) -> Progress
+    ensures { λ r. ⌜ r ≡ Empty.started tally size ⌝ }
+{
+    let staged = [255u8; 64];
+    Progress {
+        ran: 0,
+        tally,
+        written: 0,
+        size,
+        failed: false,
+        staged,
+    }
+}
+
+// The program as it is opened.
+fn begin(host: Host, head: Head, budget: u64, prices: Prices, room: u64) -> Program
+    ensures { λ r. ⌜ r ≡ begun host head budget prices room ⌝ }
+{
+    let places = host.places;
+    let id = head.contract;
+    let parent = host::place_of(places, id);
+    let terms = Terms {
+        head,
+        prices,
+        budget,
+        room,
+    };
+    let start = wide(prices.init);
+    let progress = started(start, parent.size);
+    Program {
+        active: true,
+        terms,
+        came: 0,
+        progress,
+    }
+}
+
+fn wide(x: u16) -> u64
+    ensures { λ r. ⌜ r ≡ x ⌝ }
+{
+    x as u64
+}
+
+pub fn refused(number: u64, host: Host) -> Answer
+    ensures { λ r. ⌜ r ≡ Says.answered number 0 host ⌝ }
+{
+    Answer {
+        number,
+        tally: 0,
+        host,
+    }
+}
+
+// Opens a program under a head in its bytes: 1, 2, 3, 9 and 10 in reading order, 7, 11; with 0 the start price is tallied.
+pub fn open(host: Host, bytes: &[u8], budget: u64, prices: Prices, room: u64) -> Answer
+    ensures { λ r. ⌜ r ≡ opened 4096 host (now (bytes .entry)) budget prices room ⌝ }
+{
+    if !host::in_order(host) {
+        return refused(1, host);
+    }
+    if !room_right(room) {
+        return refused(2, host);
+    }
+    let idle = host.program;
+    if idle.active {
+        return refused(3, host);
+    }
+    let told = sia::read_head(bytes);
+    if told.number != 0 {
+        return refused(told.number, host);
+    }
+    let head = told.head;
+    let places = host.places;
+    let id = head.contract;
+    if absent(places, id) {
+        return refused(7, host);
+    }
+    let start = wide(prices.init);
+    if budget < start {
+        return refused(11, host);
+    }
+    let mut after = host;
+    let program = begin(host, head, budget, prices, room);
+    after.program = program;
+    Answer {
+        number: 0,
+        tally: start,
+        host: after,
+    }
+}

@@ -1,0 +1,70 @@
+-- What a host in order gives the calls. Assumes nothing.
+use mathlib.Core.Path.{_≡_, refl, sym, ap, ap₂, _∙_}
+use mathlib.Core.Bool.{Bool, true, false, not}
+use mathlib.Core.List.{List}
+use Prim.Native.Nat.{ℕ, _+_, _-_, _≤_}
+use native.Mathlib.Omega.{arith}
+use lib.ListN.{length}
+use lib.Dec.{ltb}
+use borrow.Author.Tests.{leb-true, not-true, not-false, eqb-true, lt-ltb, le-ltb, ltb-true, ltb-false}
+use Rattle.area.specs.Pick.{pick, both}
+use Rattle.area.specs.Area.{put}
+use Rattle.area.proofs.Laws.Pick.{by, picks, skips, both-left, both-right, both-join, both-not-left}
+use Rattle.sia.specs.Encode.{within}
+use Rattle.host.specs.Order.{inOrder}
+use Rattle.host.proofs.Laws.Order.{order-facts}
+use Rattle.rules.specs.View.{Turn, turn, settingOf, turnOf, withRun}
+use Rattle.rules.specs.Run.{going, run}
+use Rattle.rules.specs.Calls.{inputRight, outputRight, pieced, accepted}
+use Rattle.taking.specs.Asks.{Stops}
+use Rattle.host.specs.declared.Progress.{Progress}
+use Rattle.host.specs.declared.Host.{Host}
+
+-- an area of an open program that is not wrong is right
+pub right-if : (active right : Bool) → active ≡ true → both active (not right) ≡ false → right ≡ true
+right-if active right a e = not-false _ (sym (picks active (not right) false a) ∙ e)
+
+-- "with 72 left unless it failed": there is room for the record of a failure
+pub room-left : {disk : List ℕ} {output : List ℕ} (h : Host) → Stops disk h output → h .program .progress .written + 72 ≤ length output
+unfolding outputRight going
+room-left {disk} {output} h s =
+    let f = order-facts 4096 h (s .order) .running (s .live) .progress in
+    let failed : h .program .progress .failed ≡ false = not-true _ (both-left _ _ (s .going)) in
+    let long : length output ≡ h .program .terms .room = eqb-true _ _ (s .output) in
+    omega (arith, f .fits, skips {A = ℕ} (h .program .progress .failed) 0 72 failed)
+
+-- one of two areas is wrong
+pub wrong-first : (active one two : Bool) → both active (not one) ≡ true → true ≡ both active (not (both one two))
+wrong-first active one two e = sym (both-join active _ (both-left _ _ e) (ap not (both-not-left one two (not-true _ (both-right _ _ e)))))
+
+pub wrong-second : (active one two : Bool) → both active (not one) ≡ false → both active (not two) ≡ both active (not (both one two))
+unfolding pick
+wrong-second true one two e = ap (λ (b : Bool). not b) (sym (picks one two false (not-false _ e)))
+wrong-second false one two e = refl
+
+-- what is left of a limit against a sum
+pub rest-less : (limit one n : ℕ) → one ≤ limit → ltb (limit - one) n ≡ ltb limit (one + n)
+rest-less limit one n h =
+    by (ltb (limit - one) n)
+    (λ e. e ∙ sym (lt-ltb limit (one + n) (omega (arith, ltb-true (limit - one) n e))))
+    (λ e. e ∙ sym (le-ltb limit (one + n) (omega (arith, ltb-false (limit - one) n e))))
+
+pub input-long : (h : Host) (input : List ℕ) → inputRight h input ≡ true → length input ≡ h .program .terms .head .length
+unfolding inputRight
+input-long h input e = eqb-true _ _ e
+
+-- a piece, from what its functions left
+pub accepted-is : (disk : List ℕ) (h : Host) (stage input output bytes : List ℕ) {area : List ℕ} {g : Progress} {st out : List ℕ} {k : ℕ} → area ≡ put input (h .program .came) bytes
+    → k ≡ h .program .came + length bytes → turn g st out ≡ run 4096 (settingOf h disk) area k (turnOf h stage output)
+    → pieced 0 (g .tally) (withRun h k g) st area out ≡ accepted 4096 disk h stage input output bytes
+unfolding accepted
+accepted-is disk h stage input output bytes {area} {g} {st} {out} {k} a e t =
+    ap (λ (x : Turn). pieced 0 (x .progress .tally) (withRun h k (x .progress)) (x .stage) area (x .output)) t
+    ∙ ap₂ (λ (n : ℕ) (l : List ℕ). let x = run 4096 (settingOf h disk) l n (turnOf h stage output) in pieced 0 (x .progress .tally) (withRun h n (x .progress)) (x .stage) l (x .output)) e a
+
+pub declared-most : (h : Host) → inOrder 4096 h ≡ true → h .program .active ≡ true → h .program .terms .head .length ≤ 65536
+unfolding within
+declared-most h o live = leb-true _ _ (both-left _ _ (both-right _ _ (order-facts 4096 h o .running live .terms .head)))
+
+pub came-within : (h : Host) → inOrder 4096 h ≡ true → h .program .active ≡ true → h .program .came ≤ h .program .terms .head .length
+came-within h o live = order-facts 4096 h o .running live .came

@@ -1,0 +1,63 @@
+// What a program has reached.
+ghost use mathlib.Core.Path.{_≡_};
+ghost use Rattle.rules.specs.Calls as Says;
+ghost use Rattle.rules.specs.Calls.{reachedAt, reachedPair, noPair};
+ghost use Rattle.turns.specs.Asks.{Ready};
+use host::Host;
+use rules::Reached;
+
+fn unreached(number: u64) -> Reached
+    ensures { λ r. ⌜ r ≡ reachedAt number noPair ⌝ }
+{
+    let root = [0u8; 32];
+    Reached {
+        number,
+        size: 0,
+        root,
+    }
+}
+
+// The pair that an agreement would name; after a failure the starting pair.
+fn reach<'a>(host: Host, disk: &'a [u8], stage: &'a [u8]) -> Reached
+    requires { ⌜ Ready (now disk) host (now stage) ⌝ }
+    ensures { λ r. ⌜ r ≡ reachedAt 0 (reachedPair 4096 (now (disk .entry)) host (now (stage .entry))) ⌝ }
+{
+    let program = host.program;
+    let terms = program.terms;
+    let head = terms.head;
+    let id = head.contract;
+    let places = host.places;
+    let parent = host::place_of(places, id);
+    let progress = program.progress;
+    if progress.failed {
+        let root = step::committed_root(disk, parent);
+        return Reached {
+            number: 0,
+            size: parent.size,
+            root,
+        };
+    }
+    let root = step::running_root(disk, stage, parent, progress);
+    Reached {
+        number: 0,
+        size: progress.size,
+        root,
+    }
+}
+
+// The size and root that the program has reached: 1, 2, 4. It changes nothing.
+pub fn reached<'a>(host: Host, disk: &'a [u8], stage: &'a [u8]) -> Reached
+    ensures { λ r. ⌜ r ≡ Says.reached 4096 (now (disk .entry)) host (now (stage .entry)) ⌝ }
+{
+    if !host::in_order(host) {
+        return unreached(1);
+    }
+    if !turns::areas_right(host.disk, host.stage, disk, stage) {
+        return unreached(2);
+    }
+    let program = host.program;
+    if !program.active {
+        return unreached(4);
+    }
+    reach(host, disk, stage)
+}

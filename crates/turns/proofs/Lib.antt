@@ -1,0 +1,2 @@
+-- The laws that the proofs share, and what callers use.
+pub mod Laws

@@ -1,0 +1,60 @@
+// Instructions in turn, while their need has come.
+ghost use mathlib.Core.Path.{_≡_};
+ghost use Prim.Native.Nat.{_≤_};
+ghost use Rattle.rules.specs.View.{setting, turn};
+ghost use Rattle.rules.specs.Run as Says;
+ghost use Rattle.turns.specs.Asks.{Runs, readyWith};
+use host::Place;
+use host::Progress;
+use host::Terms;
+
+// Whether the instruction whose turn it is has its need, with k bytes come.
+fn ready(terms: Terms, k: u64, progress: Progress) -> bool
+    requires { ⌜ terms .head .count ≤ 32 ⌝ }
+    ensures { λ r. ⌜ r ≡ readyWith terms k progress ⌝ }
+{
+    if progress.failed {
+        return false;
+    }
+    let head = terms.head;
+    if head.count <= progress.ran {
+        return false;
+    }
+    let list = head.instructions;
+    let i = list[progress.ran as usize];
+    inputs::need(head.length, i) <= k
+}
+
+// At most as many as the head has.
+pub fn run(
+    sectors: u64,
+    copies: u64,
+    places: [Place; 8],
+    terms: Terms,
+    disk: &[u8],
+    input: &[u8],
+    k: u64,
+    start: Progress,
+    stage: &mut [u8],
+    output: &mut [u8],
+) -> Progress
+    requires { ⌜ Runs (setting sectors copies places terms (now disk)) (turn start (now stage) (now output)) (now input) ⌝ }
+    ensures { λ r. ⌜ turn r (now (stage .exit)) (now (output .exit)) ≡
+        Says.run 4096 (setting sectors copies places terms (now (disk .entry))) (now (input .entry)) k (turn start (now (stage .entry)) (now (output .entry))) ⌝ }
+{
+    let mut progress = start;
+    while ready(terms, k, progress) {
+        progress = step::step(
+            sectors,
+            copies,
+            places,
+            terms,
+            disk,
+            input,
+            progress,
+            stage,
+            output,
+        );
+    }
+    progress
+}
