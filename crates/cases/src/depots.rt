@@ -3,35 +3,17 @@ ghost use Prim.Native.Nat.{_≤_};
 ghost use lib.ListN.{length};
 
 // Reads an input of so many bytes and plays it; answers how many bytes `depot` writes, which stand at the front of `shown`.
-pub fn play(
-    many: u64,
-    disk: &mut [u8],
-    stage: &mut [u8],
-    input: &mut [u8],
-    output: &mut [u8],
-    shown: &mut [u8],
-) -> usize
+pub fn play(many: u64, shown: &mut [u8]) -> usize
     ensures { λ r. ⌜ r ≤ length (now (shown .exit)) ⌝ }
 {
-    if disk.len() < 32_768 {
-        return 0;
-    }
-    if stage.len() < 16_384 {
-        return 0;
-    }
-    if output.len() < 16_384 {
-        return 0;
-    }
     let mut all = [0u8; intake::KEPT];
     let n = intake::gather(many, &mut all);
-    let done = single::answer(
-        &all[0..n],
-        &mut disk[0..32_768],
-        &mut stage[0..16_384],
-        input,
-        &mut output[0..16_384],
-    );
-    written(done.number, done.written, &*output, shown)
+    let mut disk = [0u8; 32_768];
+    let mut stage = [0u8; 16_384];
+    let mut input = [0u8; 65_536];
+    let mut output = [0u8; 16_384];
+    let done = single::answer(&all[0..n], &mut disk, &mut stage, &mut input, &mut output);
+    written(done.number, done.written, &output, shown)
 }
 
 // A refusal's number in 8 bytes, or the records.

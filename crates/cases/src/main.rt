@@ -9,35 +9,16 @@ use libc::STDIN_FILENO;
 use libc::STDOUT_FILENO;
 
 fn main() {
-    let mut disk = [0u8; 262_144];
-    let mut stage = [0u8; 65_536];
-    let mut input = [0u8; 65_536];
-    let mut output = [0u8; 65_536];
-    let mut all = [0u8; 131_072];
     let mut shown = [0u8; 262_144];
-    all_cases(
-        &mut disk,
-        &mut stage,
-        &mut input,
-        &mut output,
-        &mut all,
-        &mut shown,
-    );
+    all_cases(&mut shown);
 }
 
 // Case after case. No input has more than `left` counts.
-fn all_cases(
-    disk: &mut [u8],
-    stage: &mut [u8],
-    input: &mut [u8],
-    output: &mut [u8],
-    all: &mut [u8],
-    shown: &mut [u8],
-) {
+fn all_cases(shown: &mut [u8]) {
     let mut left: u64 = 18_446_744_073_709_551_615;
     while 0 < left {
         let place = 18_446_744_073_709_551_615 - left;
-        let whole = one_case(place, disk, stage, input, output, all, shown);
+        let whole = one_case(place, shown);
         left = still(whole, left);
     }
 }
@@ -53,42 +34,26 @@ pub fn still(whole: bool, left: u64) -> u64
     0
 }
 
-// Plays the next case on areas of zeros, and writes its line. It answers false where there is none, or none that is whole.
-fn one_case(
-    place: u64,
-    disk: &mut [u8],
-    stage: &mut [u8],
-    input: &mut [u8],
-    output: &mut [u8],
-    all: &mut [u8],
-    shown: &mut [u8],
-) -> bool {
+// Plays the next case, and writes its line. It answers false where there is none, or none that is whole.
+fn one_case(place: u64, shown: &mut [u8]) -> bool {
     let mut ahead = [0u8; 9];
     let got = io::read_full(STDIN_FILENO, &mut ahead);
     if got != 9 {
         return false;
     }
-    clear(disk);
-    clear(stage);
-    clear(input);
-    clear(output);
     let length = area::load(&ahead, 1);
     let kind = ahead[0];
     if kind == b'd' {
-        let n = depots::play(length, disk, stage, input, output, shown);
+        let n = depots::play(length, shown);
         line(place, b"depot", &shown[0..n]);
         return true;
     }
     if kind == b'c' {
-        let n = scripts::play(length, disk, stage, input, output, all, shown);
+        let n = scripts::play(length, shown);
         line(place, b"calls", &shown[0..n]);
         return true;
     }
     false
-}
-
-fn clear(area: &mut [u8]) {
-    area::fill(area, 0, area.len(), 0);
 }
 
 fn line(place: u64, kind: &[u8], shown: &[u8]) {

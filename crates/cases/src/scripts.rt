@@ -6,16 +6,15 @@ use crate::still;
 use host::Host;
 use libc::STDIN_FILENO;
 
-// Reads a script of so many bytes and plays it; answers how many bytes `calls` writes, which stand at the front of `shown`.
-pub fn play(
-    many: u64,
-    disk: &mut [u8],
-    stage: &mut [u8],
-    input: &mut [u8],
-    output: &mut [u8],
-    all: &mut [u8],
-    shown: &mut [u8],
-) -> usize
+// Reads a script of so many bytes and plays it on areas of zeros; answers how many bytes `calls` writes, which stand at the front of `shown`.
+pub fn play(many: u64, shown: &mut [u8]) -> usize
+    ensures { λ r. ⌜ r ≤ length (now (shown .exit)) ⌝ }
+{
+    let mut all = [0u8; 131_072];
+    read(many, &mut all, shown)
+}
+
+fn read(many: u64, all: &mut [u8], shown: &mut [u8]) -> usize
     ensures { λ r. ⌜ r ≤ length (now (shown .exit)) ⌝ }
 {
     if (all.len() as u64) < many {
@@ -26,7 +25,24 @@ pub fn play(
     if got != n {
         return 0;
     }
-    items(&all[0..n], disk, stage, input, output, shown)
+    on_zeros(&all[0..n], shown)
+}
+
+fn on_zeros(script: &[u8], shown: &mut [u8]) -> usize
+    ensures { λ r. ⌜ r ≤ length (now (shown .exit)) ⌝ }
+{
+    let mut disk = [0u8; 262_144];
+    let mut stage = [0u8; 65_536];
+    let mut input = [0u8; 65_536];
+    let mut output = [0u8; 65_536];
+    items(
+        script,
+        &mut disk,
+        &mut stage,
+        &mut input,
+        &mut output,
+        shown,
+    )
 }
 
 // Where a script stands: the items before `at` are played, and their reports end at `end`.

@@ -1,4 +1,4 @@
--- `cases::all_cases` is safe and ends: the areas stay as long as they are, and the turns are counted. Assumes nothing.
+-- `cases::all_cases` is safe and ends: the area stays as long as it is, and the turns are counted. Assumes nothing.
 use Prim.Native.Nat.{_≤_}
 use mathlib.Core.Path.{_≡_}
 use borrow.Author.Needs.{needs}
@@ -7,11 +7,11 @@ use Rattle.cases.proofs.all_cases.Statement.{statement}
 use Rattle.cases.proofs.all_cases.Tie as tie
 
 abbrev Inv-loop : tie.InvT-loop
-Inv-loop disk₀ stage₀ input₀ output₀ all₀ shown₀ left₀ disk stage input output all shown left =
-    (length disk ≡ length disk₀) × (length stage ≡ length stage₀) × (length input ≡ length input₀) × (length output ≡ length output₀) × (length all ≡ length all₀) × (length shown ≡ length shown₀) × (left ≤ 18446744073709551615)
+Inv-loop shown₀ left₀ shown left =
+    (length shown ≡ length shown₀) × (left ≤ 18446744073709551615)
 
 abbrev μ-loop : tie.MeasureT-loop
-μ-loop disk₀ stage₀ input₀ output₀ all₀ shown₀ left₀ disk stage input output all shown left = left
+μ-loop shown₀ left₀ shown left = left
 
 loop-holds : tie.Need-loop-holds Inv-loop μ-loop
 loop-holds c = search needs
@@ -34,21 +34,6 @@ loop-again c = search needs
 same-length : tie.Need-same-length Inv-loop μ-loop
 same-length c = search needs
 
-same-length-2 : tie.Need-same-length-2 Inv-loop μ-loop
-same-length-2 c = search needs
-
-same-length-3 : tie.Need-same-length-3 Inv-loop μ-loop
-same-length-3 c = search needs
-
-same-length-4 : tie.Need-same-length-4 Inv-loop μ-loop
-same-length-4 c = search needs
-
-same-length-5 : tie.Need-same-length-5 Inv-loop μ-loop
-same-length-5 c = search needs
-
-same-length-6 : tie.Need-same-length-6 Inv-loop μ-loop
-same-length-6 c = search needs
-
 returns : tie.Need-returns Inv-loop μ-loop
 returns c = search needs
 
@@ -65,9 +50,4 @@ all-cases-spec =
     loop-less
     loop-again
     same-length
-    same-length-2
-    same-length-3
-    same-length-4
-    same-length-5
-    same-length-6
     returns)
