@@ -38,6 +38,9 @@ part-here a b n e = take-at a b n e
 drop-next : (a b : List ℕ) (k at : ℕ) {j : ℕ} → length a ≡ k → j ≡ k + at → drop j (a ++ b) ≡ drop at b
 drop-next a b k at {j} e q = ap (λ (m : ℕ). drop m (a ++ b)) (q ∙ ap (λ (m : ℕ). m + at) (sym e)) ∙ drop-append-add a b at
 
+length-six : (a b c d e f : List ℕ) → length (a ++ (b ++ (c ++ (d ++ (e ++ f))))) ≡ length a + (length b + (length c + (length d + (length e + length f))))
+length-six a b c d e f = simp length-append
+
 -- fewer of a list by its index
 take-tab : {A : Type 0} (f : ℕ → A) (k i n : ℕ) → k ≤ n → take k (tab i n f) ≡ tab i k f
 unfolding tab
@@ -186,11 +189,6 @@ module _ (all : List ℕ) (front : 80 ≤ length all) (whole : cutShort all ≡ 
   long-kept : headEnd (kept all) ≤ length (kept all)
   unfolding kept
   long-kept =
-      let given = dataKept all in
-      let head = part all (idsEnd all + 8) (headKept all) in
-      let ids = part all 80 (idsKept all * 32) in
-      let m = le8 (headKept all) in
-      let i = le8 (idsKept all) in
       let e = head-end-kept in
       let l₁ = long-front in
       let l₂ = long-ids in
@@ -203,11 +201,7 @@ module _ (all : List ℕ) (front : 80 ≤ length all) (whole : cutShort all ≡ 
         l₃,
         length-bytes 8 (idsKept all),
         length-bytes 8 (headKept all),
-        length-append (take 72 all) (i ++ (ids ++ (m ++ (head ++ given)))),
-        length-append i (ids ++ (m ++ (head ++ given))),
-        length-append ids (m ++ (head ++ given)),
-        length-append m (head ++ given),
-        length-append head given,
+        length-six (take 72 all) (le8 (idsKept all)) (part all 80 (idsKept all * 32)) (le8 (headKept all)) (part all (idsEnd all + 8) (headKept all)) (dataKept all),
       )
 
   whole-kept : cutShort (kept all) ≡ false
@@ -246,25 +240,19 @@ module _ (all : List ℕ) (front : 80 ≤ length all) (whole : cutShort all ≡ 
       ∙ sym (skips (ltb (length all) 80) _ _ (le-ltb (length all) 80 front))
 
 -- how long it is at most
+at-most : (n : ℕ) (l : List ℕ) → length (take n l) ≤ n
+at-most n l = omega (arith, length-take n l)
+
+least-below : (n k : ℕ) → min n k ≤ k
+least-below n k = omega arith
+
 pub kept-short : (all : List ℕ) → length (kept all) ≤ 68810
 unfolding kept part idsKept headKept dataKept
 kept-short all =
-    let given = dataKept all in
-    let head = take (headKept all) (drop (idsEnd all + 8) all) in
-    let ids = take (idsKept all * 32) (drop 80 all) in
-    let m = le8 (headKept all) in
-    let i = le8 (idsKept all) in
-    omega (
-      arith,
-      length-bytes 8 (idsKept all),
-      length-bytes 8 (headKept all),
-      length-append (take 72 all) (i ++ (ids ++ (m ++ (head ++ given)))),
-      length-append i (ids ++ (m ++ (head ++ given))),
-      length-append ids (m ++ (head ++ given)),
-      length-append m (head ++ given),
-      length-append head given,
-      length-take 72 all,
-      length-take (idsKept all * 32) (drop 80 all),
-      length-take (headKept all) (drop (idsEnd all + 8) all),
-      length-take 65537 (dataBytes all),
-    )
+    let ids : length (part all 80 (idsKept all * 32)) ≤ idsKept all * 32 = at-most (idsKept all * 32) (drop 80 all) in
+    let head : length (part all (idsEnd all + 8) (headKept all)) ≤ headKept all = at-most (headKept all) (drop (idsEnd all + 8) all) in
+    below (length-six (take 72 all) (le8 (idsKept all)) (part all 80 (idsKept all * 32)) (le8 (headKept all)) (part all (idsEnd all + 8) (headKept all)) (dataKept all))
+    (at-most 72 all) (length-bytes 8 (idsKept all)) ids (length-bytes 8 (headKept all)) head (at-most 65537 (dataBytes all))
+    (least-below (numberAt all 72) 9) (least-below (numberAt all (idsEnd all)) 2897) where
+      below : {l a b c d e f i m : ℕ} → l ≡ a + (b + (c + (d + (e + f)))) → a ≤ 72 → b ≡ 8 → c ≤ i * 32 → d ≡ 8 → e ≤ m → f ≤ 65537 → i ≤ 9 → m ≤ 2897 → l ≤ 68810
+      below p q r s t u v w x = omega arith
