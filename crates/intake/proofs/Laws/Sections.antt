@@ -84,6 +84,19 @@ part-least all at n k =
     (λ u. let m : min n k ≡ n = omega (arith, leb-true n k u) in ap (λ (j : ℕ). take j (drop at all)) m ∙ sym (take-all k (take n (drop at all)) (omega (arith, leb-true n k u, length-take n (drop at all)))))
     (λ u. let m : min n k ≡ k = omega (arith, leb-false n k u) in ap (λ (j : ℕ). take j (drop at all)) m ∙ sym (take-take k n (drop at all) (omega (arith, leb-false n k u))))
 
+-- how much is kept at most
+few-ids : (all : List ℕ) → idsKept all ≤ 9
+unfolding idsKept
+few-ids all = omega arith
+
+few-bytes : (all : List ℕ) → headKept all ≤ 2897
+unfolding headKept
+few-bytes all = omega arith
+
+few-data : (all : List ℕ) → length (dataKept all) ≤ 65537
+unfolding dataKept
+few-data all = simp length-take (omega arith)
+
 -- a number in the front part of an input
 pub number-front : (all : List ℕ) (k at : ℕ) → at + 8 ≤ k → numberAt (take k all) at ≡ numberAt all at
 unfolding numberAt part
@@ -106,14 +119,6 @@ module _ (all : List ℕ) (front : 80 ≤ length all) (whole : cutShort all ≡ 
 
   -- ---- the sections as they are kept, and their lengths
 
-  few-ids : idsKept all ≤ 9
-  unfolding idsKept
-  few-ids = omega arith
-
-  few-bytes : headKept all ≤ 2897
-  unfolding headKept
-  few-bytes = omega arith
-
   long-front : length (take 72 all) ≡ 72
   long-front = length-take-le 72 all (omega arith)
 
@@ -135,7 +140,7 @@ module _ (all : List ℕ) (front : 80 ≤ length all) (whole : cutShort all ≡ 
   unfolding numberAt kept
   count-kept =
       ap valueOf (part-next (take 72 all) _ 72 0 8 long-front (omega arith) ∙ part-here (le8 (idsKept all)) _ 8 (length-bytes 8 (idsKept all)))
-      ∙ value-bytes 8 (idsKept all) (let h = few-ids in omega (arith, h))
+      ∙ value-bytes 8 (idsKept all) (omega (arith, few-ids all))
 
   ids-end-kept : idsEnd (kept all) ≡ 80 + idsKept all * 32
   unfolding idsEnd
@@ -158,7 +163,7 @@ module _ (all : List ℕ) (front : 80 ≤ length all) (whole : cutShort all ≡ 
       ∙ part-next (le8 (idsKept all)) _ 8 (idsKept all * 32) 8 (length-bytes 8 (idsKept all)) refl
       ∙ part-next (part all 80 (idsKept all * 32)) _ (idsKept all * 32) 0 8 long-ids (omega arith)
       ∙ part-here (le8 (headKept all)) _ 8 (length-bytes 8 (headKept all)))
-      ∙ value-bytes 8 (headKept all) (let h = few-bytes in omega (arith, h))
+      ∙ value-bytes 8 (headKept all) (omega (arith, few-bytes all))
 
   pub head-kept : headBytes (kept all) ≡ part all (idsEnd all + 8) (headKept all)
   unfolding headBytes kept
@@ -243,16 +248,11 @@ module _ (all : List ℕ) (front : 80 ≤ length all) (whole : cutShort all ≡ 
 at-most : (n : ℕ) (l : List ℕ) → length (take n l) ≤ n
 at-most n l = omega (arith, length-take n l)
 
-least-below : (n k : ℕ) → min n k ≤ k
-least-below n k = omega arith
-
 pub kept-short : (all : List ℕ) → length (kept all) ≤ 68810
-unfolding kept part idsKept headKept dataKept
+unfolding kept part
 kept-short all =
-    let ids : length (part all 80 (idsKept all * 32)) ≤ idsKept all * 32 = at-most (idsKept all * 32) (drop 80 all) in
-    let head : length (part all (idsEnd all + 8) (headKept all)) ≤ headKept all = at-most (headKept all) (drop (idsEnd all + 8) all) in
     below (length-six (take 72 all) (le8 (idsKept all)) (part all 80 (idsKept all * 32)) (le8 (headKept all)) (part all (idsEnd all + 8) (headKept all)) (dataKept all))
-    (at-most 72 all) (length-bytes 8 (idsKept all)) ids (length-bytes 8 (headKept all)) head (at-most 65537 (dataBytes all))
-    (least-below (numberAt all 72) 9) (least-below (numberAt all (idsEnd all)) 2897) where
+    (at-most 72 all) (length-bytes 8 (idsKept all)) (at-most (idsKept all * 32) (drop 80 all)) (length-bytes 8 (headKept all))
+    (at-most (headKept all) (drop (idsEnd all + 8) all)) (few-data all) (few-ids all) (few-bytes all) where
       below : {l a b c d e f i m : ℕ} → l ≡ a + (b + (c + (d + (e + f)))) → a ≤ 72 → b ≡ 8 → c ≤ i * 32 → d ≡ 8 → e ≤ m → f ≤ 65537 → i ≤ 9 → m ≤ 2897 → l ≤ 68810
       below p q r s t u v w x = omega arith
