@@ -1,7 +1,7 @@
 // The program of the bench: disk 8 sectors, stage 4, output 16,384. It reads one input, plays it, and writes the records, or a refusal's number
 // in 8 bytes.
 ghost use mathlib.Core.Path.{_≡_};
-ghost use Prim.Native.Nat.{_≤_, min};
+ghost use Prim.Native.Nat.{_≤_};
 ghost use lib.ListN.{length, take};
 ghost use Rattle.single.specs.Single.{spoken};
 ghost use Rattle.single.specs.Input.{answered};
@@ -34,16 +34,7 @@ fn play(all: &[u8], disk: &mut [u8], stage: &mut [u8], input: &mut [u8], output:
         area::store(output, 0, 8, done.number);
         return 8;
     }
-    least(done.written, output.len())
-}
-
-fn least(written: u64, room: usize) -> usize
-    ensures { λ r. ⌜ r ≡ min written room ⌝ }
-{
-    if written < room as u64 {
-        return written as usize;
-    }
-    room
+    single::least(done.written, output.len())
 }
 
 // Writes the first n bytes.

@@ -12,6 +12,7 @@ mod reading; // reading.rt: the whole input in its bytes
 use host::Host;
 use host::Prices;
 pub use playing::begin;
+pub use playing::least;
 
 // What a run answers: document 01's number, how many bytes of the output area are records to be written out, and the host.
 pub struct Outcome {

@@ -42,11 +42,11 @@ fn shown(number: u64, written: u64) -> u64
 }
 
 // As much of a length as an area has.
-fn least(declared: u64, room: usize) -> usize
-    ensures { λ r. ⌜ r ≡ min declared room ⌝ }
+pub fn least(length: u64, room: usize) -> usize
+    ensures { λ r. ⌜ r ≡ min length room ⌝ }
 {
-    if declared < room as u64 {
-        return declared as usize;
+    if length < room as u64 {
+        return length as usize;
     }
     room
 }

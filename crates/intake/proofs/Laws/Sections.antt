@@ -38,6 +38,9 @@ part-here a b n e = take-at a b n e
 drop-next : (a b : List ℕ) (k at : ℕ) {j : ℕ} → length a ≡ k → j ≡ k + at → drop j (a ++ b) ≡ drop at b
 drop-next a b k at {j} e q = ap (λ (m : ℕ). drop m (a ++ b)) (q ∙ ap (λ (m : ℕ). m + at) (sym e)) ∙ drop-append-add a b at
 
+length-six : (a b c d e f : List ℕ) → length (a ++ (b ++ (c ++ (d ++ (e ++ f))))) ≡ length a + (length b + (length c + (length d + (length e + length f))))
+length-six a b c d e f = simp length-append
+
 -- fewer of a list by its index
 take-tab : {A : Type 0} (f : ℕ → A) (k i n : ℕ) → k ≤ n → take k (tab i n f) ≡ tab i k f
 unfolding tab
@@ -81,6 +84,19 @@ part-least all at n k =
     (λ u. let m : min n k ≡ n = omega (arith, leb-true n k u) in ap (λ (j : ℕ). take j (drop at all)) m ∙ sym (take-all k (take n (drop at all)) (omega (arith, leb-true n k u, length-take n (drop at all)))))
     (λ u. let m : min n k ≡ k = omega (arith, leb-false n k u) in ap (λ (j : ℕ). take j (drop at all)) m ∙ sym (take-take k n (drop at all) (omega (arith, leb-false n k u))))
 
+-- how much is kept at most
+few-ids : (all : List ℕ) → idsKept all ≤ 9
+unfolding idsKept
+few-ids all = omega arith
+
+few-bytes : (all : List ℕ) → headKept all ≤ 2897
+unfolding headKept
+few-bytes all = omega arith
+
+few-data : (all : List ℕ) → length (dataKept all) ≤ 65537
+unfolding dataKept
+few-data all = simp length-take (omega arith)
+
 -- a number in the front part of an input
 pub number-front : (all : List ℕ) (k at : ℕ) → at + 8 ≤ k → numberAt (take k all) at ≡ numberAt all at
 unfolding numberAt part
@@ -103,14 +119,6 @@ module _ (all : List ℕ) (front : 80 ≤ length all) (whole : cutShort all ≡ 
 
   -- ---- the sections as they are kept, and their lengths
 
-  few-ids : idsKept all ≤ 9
-  unfolding idsKept
-  few-ids = omega arith
-
-  few-bytes : headKept all ≤ 2897
-  unfolding headKept
-  few-bytes = omega arith
-
   long-front : length (take 72 all) ≡ 72
   long-front = length-take-le 72 all (omega arith)
 
@@ -132,7 +140,7 @@ module _ (all : List ℕ) (front : 80 ≤ length all) (whole : cutShort all ≡ 
   unfolding numberAt kept
   count-kept =
       ap valueOf (part-next (take 72 all) _ 72 0 8 long-front (omega arith) ∙ part-here (le8 (idsKept all)) _ 8 (length-bytes 8 (idsKept all)))
-      ∙ value-bytes 8 (idsKept all) (let h = few-ids in omega (arith, h))
+      ∙ value-bytes 8 (idsKept all) (omega (arith, few-ids all))
 
   ids-end-kept : idsEnd (kept all) ≡ 80 + idsKept all * 32
   unfolding idsEnd
@@ -155,7 +163,7 @@ module _ (all : List ℕ) (front : 80 ≤ length all) (whole : cutShort all ≡ 
       ∙ part-next (le8 (idsKept all)) _ 8 (idsKept all * 32) 8 (length-bytes 8 (idsKept all)) refl
       ∙ part-next (part all 80 (idsKept all * 32)) _ (idsKept all * 32) 0 8 long-ids (omega arith)
       ∙ part-here (le8 (headKept all)) _ 8 (length-bytes 8 (headKept all)))
-      ∙ value-bytes 8 (headKept all) (let h = few-bytes in omega (arith, h))
+      ∙ value-bytes 8 (headKept all) (omega (arith, few-bytes all))
 
   pub head-kept : headBytes (kept all) ≡ part all (idsEnd all + 8) (headKept all)
   unfolding headBytes kept
@@ -186,11 +194,6 @@ module _ (all : List ℕ) (front : 80 ≤ length all) (whole : cutShort all ≡ 
   long-kept : headEnd (kept all) ≤ length (kept all)
   unfolding kept
   long-kept =
-      let given = dataKept all in
-      let head = part all (idsEnd all + 8) (headKept all) in
-      let ids = part all 80 (idsKept all * 32) in
-      let m = le8 (headKept all) in
-      let i = le8 (idsKept all) in
       let e = head-end-kept in
       let l₁ = long-front in
       let l₂ = long-ids in
@@ -203,11 +206,7 @@ module _ (all : List ℕ) (front : 80 ≤ length all) (whole : cutShort all ≡ 
         l₃,
         length-bytes 8 (idsKept all),
         length-bytes 8 (headKept all),
-        length-append (take 72 all) (i ++ (ids ++ (m ++ (head ++ given)))),
-        length-append i (ids ++ (m ++ (head ++ given))),
-        length-append ids (m ++ (head ++ given)),
-        length-append m (head ++ given),
-        length-append head given,
+        length-six (take 72 all) (le8 (idsKept all)) (part all 80 (idsKept all * 32)) (le8 (headKept all)) (part all (idsEnd all + 8) (headKept all)) (dataKept all),
       )
 
   whole-kept : cutShort (kept all) ≡ false
@@ -246,25 +245,14 @@ module _ (all : List ℕ) (front : 80 ≤ length all) (whole : cutShort all ≡ 
       ∙ sym (skips (ltb (length all) 80) _ _ (le-ltb (length all) 80 front))
 
 -- how long it is at most
+at-most : (n : ℕ) (l : List ℕ) → length (take n l) ≤ n
+at-most n l = omega (arith, length-take n l)
+
 pub kept-short : (all : List ℕ) → length (kept all) ≤ 68810
-unfolding kept part idsKept headKept dataKept
+unfolding kept part
 kept-short all =
-    let given = dataKept all in
-    let head = take (headKept all) (drop (idsEnd all + 8) all) in
-    let ids = take (idsKept all * 32) (drop 80 all) in
-    let m = le8 (headKept all) in
-    let i = le8 (idsKept all) in
-    omega (
-      arith,
-      length-bytes 8 (idsKept all),
-      length-bytes 8 (headKept all),
-      length-append (take 72 all) (i ++ (ids ++ (m ++ (head ++ given)))),
-      length-append i (ids ++ (m ++ (head ++ given))),
-      length-append ids (m ++ (head ++ given)),
-      length-append m (head ++ given),
-      length-append head given,
-      length-take 72 all,
-      length-take (idsKept all * 32) (drop 80 all),
-      length-take (headKept all) (drop (idsEnd all + 8) all),
-      length-take 65537 (dataBytes all),
-    )
+    below (length-six (take 72 all) (le8 (idsKept all)) (part all 80 (idsKept all * 32)) (le8 (headKept all)) (part all (idsEnd all + 8) (headKept all)) (dataKept all))
+    (at-most 72 all) (length-bytes 8 (idsKept all)) (at-most (idsKept all * 32) (drop 80 all)) (length-bytes 8 (headKept all))
+    (at-most (headKept all) (drop (idsEnd all + 8) all)) (few-data all) (few-ids all) (few-bytes all) where
+      below : {l a b c d e f i m : ℕ} → l ≡ a + (b + (c + (d + (e + f)))) → a ≤ 72 → b ≡ 8 → c ≤ i * 32 → d ≡ 8 → e ≤ m → f ≤ 65537 → i ≤ 9 → m ≤ 2897 → l ≤ 68810
+      below p q r s t u v w x = omega arith
