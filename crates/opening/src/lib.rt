@@ -105,7 +105,7 @@ pub fn open(host: Host, bytes: &[u8], budget: u64, prices: Prices, room: u64) ->
     if idle.active {
         return refused(3, host);
     }
-    let told = sia::read_head(bytes);
+    let told = reading::read_head(bytes);
     if told.number != 0 {
         return refused(told.number, host);
     }

@@ -1,19 +1,15 @@
 // Heads in Sia encoding: a contract's id, the instructions of a program with their operands, and the length of its data. Numbers
-// are 8 bytes, the lowest first. A head is read left to right, and what is read of it is written again as the same bytes.
+// are 8 bytes, the lowest first. What a head's bytes are, and how they are read, stands here; crate reading reads them, crate writing writes them.
 ghost use mathlib.Core.Path.{_≡_};
 ghost use lib.ListN.{length};
 ghost use Rattle.area.specs.Area.{same};
 ghost use Rattle.sia.specs.Number.{number};
 ghost use Rattle.sia.specs.Names.{nameOf, opOf, readOnly};
 ghost use Rattle.sia.specs.Empty.{noOperand, noInstruction, noHead};
-ghost use Rattle.sia.specs.Decode.{decode};
-ghost use Rattle.sia.specs.Encode as Says;
-ghost use Rattle.sia.specs.Encode.{left};
 
-mod read; // read.rt: the sections of a head, left to right
-mod write; // write.rt: the limits of a head, its length, and its bytes
+mod limits; // limits.rt: the limits of a head
 
-pub use write::within;
+pub use limits::within;
 
 // A part of the input that an instruction names.
 pub struct Operand {
@@ -200,48 +196,4 @@ pub fn number_of(part: &[u8]) -> Number
         return Number::Refused;
     }
     Number::Is(area::load(part, 0))
-}
-
-// The head that bytes are, with 0; or the empty head, with 9 (bytes missing, a flag above 1, bytes left over) or 10 (a count or the
-// declared length above its limit).
-pub fn read_head(bytes: &[u8]) -> Told
-    ensures { λ r. ⌜ r ≡ decode (now (bytes .entry)) ⌝ }
-{
-    let got = read::head(bytes);
-    if got.number != 0 {
-        return Told {
-            number: got.number,
-            head: Head::empty(),
-        };
-    }
-    if got.next != bytes.len() {
-        return Told {
-            number: 9,
-            head: Head::empty(),
-        };
-    }
-    let head = got.value;
-    Told { number: 0, head }
-}
-
-// The bytes of a head within limits, laid over the front of an area, with 0 and their length; 10 for a head above a limit, then 2 for
-// an area that is too short, with length 0 and the area as it was.
-pub fn write_head(head: Head, out: &mut [u8]) -> Written
-    ensures { λ r. ⌜ left r (now (out .exit)) ≡ Says.write head (now (out .entry)) ⌝ }
-{
-    if !write::within(head) {
-        return Written {
-            number: 10,
-            length: 0,
-        };
-    }
-    let length = write::head_length(head);
-    if out.len() < length {
-        return Written {
-            number: 2,
-            length: 0,
-        };
-    }
-    write::put_head(head, out);
-    Written { number: 0, length }
 }

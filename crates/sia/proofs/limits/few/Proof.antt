@@ -1,0 +1,67 @@
+-- `sia::limits::few` meets its contract. The loop's invariant: the answer is that of the instructions that are left to look at.
+-- Assumes nothing.
+use mathlib.Core.Path.{_≡_, refl, sym, _∙_}
+use Prim.Native.Nat.{_-_, _≤_}
+use native.Mathlib.Omega.{arith}
+use lib.ListN.{take, drop}
+use borrow.Author.Tests.{le-leb, lt-leb}
+use Rattle.sia.specs.Empty.{noInstruction}
+use Rattle.sia.specs.Encode.{every, fewOperands}
+use Rattle.sia.proofs.Laws.Every.{every-not, every-further, every-end}
+use borrow.Author.Needs.{needs}
+use Rattle.sia.proofs.limits.few.Statement.{statement}
+use Rattle.sia.proofs.limits.few.Tie as tie
+
+abbrev Inv-loop : tie.InvT-loop
+Inv-loop n list i₀ i = (i ≤ n) × (every fewOperands (take n list) ≡ every fewOperands (drop i (take n list)))
+
+abbrev μ-loop : tie.MeasureT-loop
+μ-loop n list i₀ i = n - i
+
+loop-holds : tie.Need-loop-holds Inv-loop μ-loop
+loop-holds c = (omega arith, refl)
+
+mul-x : tie.Need-mul-x Inv-loop μ-loop
+mul-x c = search needs
+
+array-copy-out-x : tie.Need-array-copy-out-x Inv-loop μ-loop
+array-copy-out-x c = omega arith
+
+returns : tie.Need-returns Inv-loop μ-loop
+returns c =
+    let l = c .before .before .before .before .loop in
+    let s = c .before .before .before .before .before in
+    sym (l .inv .1 ∙ every-not fewOperands _ _ (l .i) _ (c .before .before .before .loop-test .taken) (omega (arith, s .good .0 .1 .0 .1)) (lt-leb _ _ (c .if1 .taken)))
+
+add-i : tie.Need-add-i Inv-loop μ-loop
+add-i c = search needs
+
+loop-less : tie.Need-loop-less Inv-loop μ-loop
+loop-less c = omega arith
+
+loop-again : tie.Need-loop-again Inv-loop μ-loop
+loop-again c =
+    let l = c .before .before .before .before .loop in
+    let s = c .before .before .before .before .before in
+    (omega arith, l .inv .1 ∙ every-further fewOperands _ _ (l .i) _ (c .before .before .before .loop-test .taken) (omega (arith, s .good .0 .1 .0 .1)) (le-leb _ _ (c .if1 .left)))
+
+returns-2 : tie.Need-returns-2 Inv-loop μ-loop
+returns-2 c =
+    let l = c .before .loop in
+    let s = c .before .before in
+    sym (l .inv .1 ∙ every-end fewOperands _ _ (l .i) noInstruction (c .loop-test .left) (omega (arith, s .good .0 .1 .0 .1)))
+
+pub few-spec : {M : Type 1} → statement M
+few-spec =
+    tie.close
+    (tie.spec
+    Inv-loop
+    μ-loop
+    loop-holds
+    mul-x
+    array-copy-out-x
+    returns
+    add-i
+    loop-less
+    loop-again
+    returns-2)
