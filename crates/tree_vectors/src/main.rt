@@ -100,7 +100,7 @@ fn accepted(
     bytes: &[u8],
     hashes: &[u8],
 ) -> bool {
-    tree::check(root, n, first, end, bytes, hashes)
+    checking::check(root, n, first, end, bytes, hashes)
 }
 
 fn label(text: &[u8], a: usize, b: usize, c: usize, d: usize) {
@@ -123,7 +123,7 @@ fn range_line(bytes: &[u8], n: usize, first: usize, end: usize, out: &mut [u8]) 
         return;
     }
     let all = 64 * n;
-    let proved = tree::prove(&bytes[0..all], first, end, out);
+    let proved = proving::prove(&bytes[0..all], first, end, out);
     let count = proved.count;
     if out.len() / 32 < count {
         return;
@@ -218,7 +218,7 @@ fn within_line(
     let given = 32 * parts;
     let from = 4096 * at;
     let to = from + 4096;
-    let proved = tree::prove_in(&roots[0..given], at, &bytes[from..to], first, end, out);
+    let proved = proving::prove_in(&roots[0..given], at, &bytes[from..to], first, end, out);
     let joined = tree::join(&roots[0..given]);
     let root = joined.root;
     let count = proved.count;
@@ -275,7 +275,7 @@ fn taken(
     if all.len() < total {
         return false;
     }
-    tree::check(
+    checking::check(
         &all[0..root],
         n,
         first,
@@ -365,7 +365,7 @@ fn lay(bytes: &[u8], all: &mut [u8]) -> usize {
     let root = rooted.root;
     put_hash(&root, all, 0);
     area::copy_between(bytes, 4032, all, 32, 128);
-    let proved = tree::prove(&bytes[0..12800], 63, 65, &mut all[160..]);
+    let proved = proving::prove(&bytes[0..12800], 63, 65, &mut all[160..]);
     proved.count
 }
 

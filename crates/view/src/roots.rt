@@ -89,9 +89,9 @@ pub fn range_proof<'a>(
     let first = at % Seen::SECTOR / Seen::SEGMENT;
     let end = first + n / Seen::SEGMENT;
     if count == 1 {
-        tree::prove(bytes, first, end, out);
+        proving::prove(bytes, first, end, out);
         return;
     }
     let roots = sector_roots(disk, stage, seen);
-    tree::prove_in(&roots[..32 * count], place, bytes, first, end, out);
+    proving::prove_in(&roots[..32 * count], place, bytes, first, end, out);
 }

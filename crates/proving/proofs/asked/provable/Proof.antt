@@ -2,10 +2,10 @@
 use mathlib.Core.Path.{refl}
 use borrow.Author.Tests.{eq-eqb, ne-eqb}
 use Rattle.area.proofs.Laws.Pick.{yes, no}
 use Rattle.tree.specs.Answers.{provable, wholes}
 use borrow.Author.Needs.{needs}
-use Rattle.tree.proofs.asked.provable.Statement.{statement}
-use Rattle.tree.proofs.asked.provable.Tie as tie
+use Rattle.proving.proofs.asked.provable.Statement.{statement}
+use Rattle.proving.proofs.asked.provable.Tie as tie
 
 returns : tie.Need-returns
 unfolding provable wholes

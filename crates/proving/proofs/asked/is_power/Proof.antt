@@ -3,10 +3,10 @@
 use mathlib.Core.Path.{_≡_, refl, sym, _∙_}
 use Prim.Native.Nat.{_≤_}
 use native.Mathlib.Omega.{arith}
 use Rattle.tree.specs.Answers.{isPower}
 use Rattle.tree.proofs.Laws.Powers.{power-here, power-further, power-none}
-use Rattle.tree.proofs.asked.is_power.Statement.{statement}
-use Rattle.tree.proofs.asked.is_power.Tie as tie
+use Rattle.proving.proofs.asked.is_power.Statement.{statement}
+use Rattle.proving.proofs.asked.is_power.Tie as tie
 
 abbrev Inv-loop : tie.InvT-loop
 Inv-loop n d₀ d = (d ≤ 64) × (isPower 64 n ≡ isPower d n)

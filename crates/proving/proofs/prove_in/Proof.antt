@@ -4,10 +4,10 @@ use mathlib.Core.Path.{sym, _∙_}
 use native.Mathlib.Omega.{arith}
 use borrow.Author.Needs.{needs}
 use borrow.Author.Tests.{not-true, not-false}
 use Rattle.tree.specs.Answers.{provedIn}
 use Rattle.tree.proofs.Laws.Answered.{provable-in-tells, not-asked, no-room, all-laid}
-use Rattle.tree.proofs.prove_in.Statement.{statement}
-use Rattle.tree.proofs.prove_in.Tie as tie
+use Rattle.proving.proofs.prove_in.Statement.{statement}
+use Rattle.proving.proofs.prove_in.Tie as tie
 
 provable-in-requires : tie.Need-provable-in-requires
 provable-in-requires c κs = search needs

@@ -11,12 +11,12 @@ use borrow.Author.Tests.{not-true, not-false, le-leb, lt-leb, eq-eqb, ne-eqb}
 use Rattle.area.specs.Pick.{both}
 use Rattle.area.specs.Area.{same}
 use Rattle.area.proofs.Laws.Pick.{yes, no, both-join, both-not-left, both-not-right}
 use Rattle.tree.specs.Walk.{hashes, count}
 use Rattle.tree.specs.Checker.{limit, rebuild, verdict}
 use Rattle.tree.proofs.Laws.Counts.{hashes-few}
 use Rattle.tree.proofs.Laws.Answered.{ranged-tells, from-top}
-use Rattle.tree.proofs.check.Statement.{statement}
-use Rattle.tree.proofs.check.Tie as tie
+use Rattle.checking.proofs.check.Statement.{statement}
+use Rattle.checking.proofs.check.Tie as tie
 
 limited : (n : ℕ) → 1 ≤ n → n ≤ limit → both (leb 1 n) (leb n limit) ≡ true
 limited n a b = both-join _ _ (le-leb 1 n a) (le-leb n limit b)

@@ -4,11 +4,11 @@ use mathlib.Core.Path.{sym, _∙_}
 use native.Mathlib.Omega.{arith}
 use borrow.Author.Needs.{needs}
 use borrow.Author.Tests.{not-true, not-false}
 use Rattle.tree.specs.Answers.{proved}
 use Rattle.tree.proofs.Laws.Leaves.{segments-cover}
 use Rattle.tree.proofs.Laws.Answered.{provable-tells, from-top, proof-long, proof-put, not-asked, no-room, all-laid}
-use Rattle.tree.proofs.prove.Statement.{statement}
-use Rattle.tree.proofs.prove.Tie as tie
+use Rattle.proving.proofs.prove.Statement.{statement}
+use Rattle.proving.proofs.prove.Tie as tie
 
 provable-requires : tie.Need-provable-requires
 provable-requires c κs = search needs

@@ -1,24 +1,24 @@
--- `walks::write` meets its contract, by the depth, which is the measure: outside the part's root is laid, wholly inside nothing, else
+-- `hashes::write` meets its contract, by the depth, which is the measure: outside the part's root is laid, wholly inside nothing, else
 -- the calls one level down lay the left and then the right. Assumes nothing.
 use mathlib.Core.Path.{sym, _∙_}
 use Prim.Native.Nat.{_+_, _-_, ℕ, _<_}
 use native.Mathlib.Omega.{arith}
 use borrow.Author.Needs.{needs}
 use Rattle.tree.proofs.Laws.Leaves.{covers-less}
 use Rattle.tree.proofs.Laws.Levels.{Level, level, told-in, room-out, walked-less, walked-left, walked-right, room-less, room-left, room-right}
 use Rattle.tree.proofs.Laws.Laid.{root-long, laid-kept, laid-out, laid-in, laid-less, laid-more}
 use borrow.Fn.Kinds.{In}
 use borrow.Fn.PlainCycle.{Measures, is, falls, and}
-use Rattle.tree.proofs.walks.write.Reads as write
-use Rattle.tree.proofs.walks.write.Kinds as write-kinds
-use Rattle.tree.proofs.walks.+write.Lts-write as write-lts
+use Rattle.proving.proofs.hashes.write.Reads as write
+use Rattle.proving.proofs.hashes.write.Kinds as write-kinds
+use Rattle.proving.proofs.hashes.+write.Lts-write as write-lts
 use Rattle.area.proofs.copy_between.Reads as copy-between-reads
 use Rattle.tree.proofs.walks.inside.Reads as inside-reads
 use Rattle.tree.proofs.walks.outside.Reads as outside-reads
 use Rattle.tree.proofs.walks.over.Reads as over-reads
 use Rattle.tree.proofs.walks.power.Reads as power-reads
-use Rattle.tree.proofs.walks.+write.{statement}
-use Rattle.tree.proofs.walks.+write.Tie.{close}
+use Rattle.proving.proofs.hashes.+write.{statement}
+use Rattle.proving.proofs.hashes.+write.Tie.{close}
 
 abbrev μ-write : Measures 2 write-kinds.ps ℕ
 μ-write κs a = a .1 .1 .1 .1 .0

@@ -1,25 +1,25 @@
--- `walks::rebuild` meets its contract, by the depth, which is the measure: outside the next hash is read, wholly inside it is the root
+-- `rebuild` meets its contract, by the depth, which is the measure: outside the next hash is read, wholly inside it is the root
 -- over the leaves given, else the node of what the calls one level down give. Assumes nothing.
 use mathlib.Core.Path.{sym, _∙_}
 use Prim.Native.Nat.{_+_, _-_, ℕ, _<_}
 use native.Mathlib.Omega.{arith}
 use borrow.Author.Needs.{needs}
 use Rattle.tree.proofs.Laws.Sides.{in-tells}
 use Rattle.tree.proofs.Laws.Levels.{Level, level, told-in, room-out, walked-less, walked-left, walked-right, room-less, room-left, room-right}
 use Rattle.tree.proofs.Laws.Built.{given-cover, built-out, built-in, built-less, built-more}
 use borrow.Fn.Kinds.{In}
 use borrow.Fn.PlainCycle.{Measures, is, falls, and}
-use Rattle.tree.proofs.walks.rebuild.Reads as rebuild
-use Rattle.tree.proofs.walks.rebuild.Kinds as rebuild-kinds
-use Rattle.tree.proofs.walks.+rebuild.Lts-rebuild as rebuild-lts
+use Rattle.checking.proofs.rebuild.Reads as rebuild
+use Rattle.checking.proofs.rebuild.Kinds as rebuild-kinds
+use Rattle.checking.proofs.+rebuild.Lts-rebuild as rebuild-lts
 use Rattle.tree.proofs.hashing.node.Reads as node-reads
 use Rattle.tree.proofs.hashing.read.Reads as read-reads
 use Rattle.tree.proofs.walks.inside.Reads as inside-reads
 use Rattle.tree.proofs.walks.outside.Reads as outside-reads
 use Rattle.tree.proofs.walks.over.Reads as over-reads
 use Rattle.tree.proofs.walks.power.Reads as power-reads
-use Rattle.tree.proofs.walks.+rebuild.{statement}
-use Rattle.tree.proofs.walks.+rebuild.Tie.{close}
+use Rattle.checking.proofs.+rebuild.{statement}
+use Rattle.checking.proofs.+rebuild.Tie.{close}
 
 abbrev μ-rebuild : Measures 2 rebuild-kinds.ps ℕ
 μ-rebuild κs a = a .1 .1 .1 .1 .0

@@ -3,9 +3,10 @@ ghost use mathlib.Core.Path.{_≡_};
 ghost use Prim.Native.Nat.{_*_, _≤_};
 ghost use lib.ListN.{length};
 ghost use Rattle.area.specs.Area.{put};
 ghost use Rattle.tree.specs.Walk.{proofIn};
 ghost use Rattle.tree.specs.Asks.{Within};
-use crate::walks;
+use crate::hashes;
+use tree::walks;
 
 // How many hashes it has.
 pub fn count(roots: &[u8], at: usize, part: &[u8], first: usize, end: usize) -> usize
@@ -26,7 +27,7 @@ pub fn write(roots: &[u8], at: usize, part: &[u8], first: usize, end: usize, out
     ensures { λ _. ⌜ now (out .exit) ≡ put (now (out .entry)) 0 (proofIn (now (roots .entry)) at (now (part .entry)) first end) ⌝ }
 {
     let parts = roots.len() / 32;
-    let own = walks::write(roots, true, 0, parts, 64, at, parts, out, 0);
-    let right = walks::write(part, false, 0, part.len() / 64, 64, first, end, out, own);
-    walks::write(roots, true, 0, parts, 64, 0, at + 1, out, right);
+    let own = hashes::write(roots, true, 0, parts, 64, at, parts, out, 0);
+    let right = hashes::write(part, false, 0, part.len() / 64, 64, first, end, out, own);
+    hashes::write(roots, true, 0, parts, 64, 0, at + 1, out, right);
 }

@@ -2,10 +2,10 @@
 use mathlib.Core.Path.{refl, sym, _∙_}
 use borrow.Author.Tests.{eq-eqb, ne-eqb, lt-ltb, le-ltb}
 use Rattle.area.proofs.Laws.Pick.{yes, no}
 use Rattle.tree.specs.Answers.{provableIn, wholes}
 use borrow.Author.Needs.{needs}
-use Rattle.tree.proofs.asked.provable_in.Statement.{statement}
-use Rattle.tree.proofs.asked.provable_in.Tie as tie
+use Rattle.proving.proofs.asked.provable_in.Statement.{statement}
+use Rattle.proving.proofs.asked.provable_in.Tie as tie
 
 returns : tie.Need-returns
 unfolding provableIn wholes
