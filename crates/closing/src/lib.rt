@@ -132,7 +132,7 @@ pub fn close(
 ) -> Closing
     ensures { λ r. ⌜ closeLeaves r (now (disk .exit)) ≡ Says.close 4096 (now (disk .entry)) host (now (stage .entry)) agree size root ⌝ }
 {
-    if !host::in_order(host) {
+    if !order::in_order(host) {
         return refused(1, host);
     }
     if !turns::areas_right(host.disk, host.stage, &*disk, stage) {

@@ -1,29 +1,29 @@
-// The record of a host: plain data, so that a damaged record is a value like any other; whether it is in order, where its contracts
-// and slots are, and the calls that make a host, form a contract and drop one.
+// The record of a host: plain data, so that a damaged record is a value like any other; where its contracts and slots are. What it means
+// that a host is in order, and what the calls answer that make a host, form a contract and drop one, stands here; crate order decides the
+// one, crate forming makes the others.
+// These are inner functions: what they require, their callers prove.
 ghost use mathlib.Core.Path.{_≡_};
 ghost use Rattle.host.specs.Empty.{noPlace, noPrices, noTerms, noProgress, noProgram};
 ghost use Rattle.host.specs.Empty as Says;
-ghost use Rattle.host.specs.Calls.{lengthRight, freshed};
+ghost use Rattle.host.specs.Order as Order;
 
-mod calls; // calls.rt: forming a contract and dropping one
-mod order; // order.rt: whether a host is in order
 mod places; // places.rt: contracts by id, and their sizes
 mod slots; // slots.rt: the slots that contracts take, and the lowest free ones
-mod staged; // staged.rt: whether the staged positions of a program are in order
 
-pub use calls::drop;
-pub use calls::form;
-pub use calls::replaced_in;
-pub use order::in_order;
 pub use places::find;
 pub use places::place_of;
+pub use places::replaced_in;
 pub use places::sizes_fit;
 use sia::Head;
 pub use slots::Slots;
+pub use slots::below;
+pub use slots::distinct;
 pub use slots::free_copy;
 pub use slots::free_slot;
+pub use slots::sectors;
 pub use slots::slots_taken;
 pub use slots::staged_in;
+pub use slots::wide;
 
 // A place for a contract. Of the slots, those below its size in sectors: `slots[p]` is the disk slot of position p.
 pub struct Place {
@@ -192,7 +192,7 @@ impl Host {
     pub const PLACES: usize = 8;
 
     // A host with so many sectors that holds no contract and no open program.
-    fn bare(disk: u64, stage: u64) -> Host
+    pub fn bare(disk: u64, stage: u64) -> Host
         ensures { λ r. ⌜ r ≡ Says.bare disk stage ⌝ }
     {
         let none = Place::none();
@@ -205,31 +205,14 @@ impl Host {
             program,
         }
     }
-
-    // Makes a host for areas of these lengths in bytes, that holds no contract and no open program: 0; or 2 for a bad length, and a host
-    // with no slots, which every later call refuses with 1.
-    pub fn fresh(disk: u64, stage: u64) -> Answer
-        ensures { λ r. ⌜ r ≡ freshed 4096 disk stage ⌝ }
-    {
-        if !length_right(disk, Host::DISK) {
-            let host = Host::bare(0, 0);
-            return Answer { number: 2, host };
-        }
-        if !length_right(stage, Host::STAGE) {
-            let host = Host::bare(0, 0);
-            return Answer { number: 2, host };
-        }
-        let host = Host::bare(disk / Host::SECTOR, stage / Host::SECTOR);
-        Answer { number: 0, host }
-    }
 }
 
-// Whether an area of n bytes can be lent: whole sectors, one at least.
-fn length_right(n: u64, most: u64) -> bool
-    ensures { λ r. ⌜ r ≡ lengthRight 4096 most n ⌝ }
+// Whether an area of n sectors can be lent.
+pub fn lent(n: u64, most: u64) -> bool
+    ensures { λ r. ⌜ r ≡ Order.lent most n ⌝ }
 {
-    if n % Host::SECTOR != 0 {
+    if n < 1 {
         return false;
     }
-    order::lent(n / Host::SECTOR, most)
+    n <= most
 }

@@ -1,10 +1,12 @@
-// Contracts by id, and their sizes.
+// Contracts by id, and their sizes; the places with another one for a contract.
 use crate::Found;
 use crate::Place;
 ghost use mathlib.Core.Path.{_≡_};
 ghost use Prim.Native.Nat.{_+_};
 ghost use lib.Dec.{leb};
+ghost use Rattle.area.specs.Pick.{pick};
 ghost use Rattle.host.specs.Places.{hasId, whose, found, ownSize, others};
+ghost use Rattle.host.specs.Calls.{replaced};
 
 // Whether a place holds the contract of an id, all 32 bytes.
 pub fn has_id(p: Place, id: [u8; 32]) -> bool
@@ -81,4 +83,29 @@ pub fn sizes_fit(places: [Place; 8], id: [u8; 32], size: u64, limit: u64) -> boo
         i += 1;
     }
     true
+}
+
+// A place, or another one for the contract of an id.
+fn replacing(q: Place, id: [u8; 32], by: Place) -> Place
+    ensures { λ r. ⌜ r ≡ pick (hasId id q) by q ⌝ }
+{
+    if has_id(q, id) {
+        return by;
+    }
+    q
+}
+
+// The places with another one for the contract of an id.
+pub fn replaced_in(places: [Place; 8], id: [u8; 32], by: Place) -> [Place; 8]
+    ensures { λ r. ⌜ r ≡ replaced id by places ⌝ }
+{
+    let mut ps = places;
+    let mut i: usize = 0;
+    while i < 8 {
+        let q = places[i];
+        let r = replacing(q, id, by);
+        ps[i] = r;
+        i += 1;
+    }
+    ps
 }

@@ -1,7 +1,10 @@
-// The machine: the calls of document 01 on a host with its areas. `host` makes a host, forms contracts and drops them; opening, giving
+// The machine: the calls of document 01 on a host with its areas. Making a host, forming a contract and dropping one, opening, giving
 // pieces, interrupting, what a program has reached, and closing are passed on here from the crates that prove them.
 pub use closing::Closing;
 pub use closing::close;
+pub use forming::drop;
+pub use forming::form;
+pub use forming::fresh;
 pub use opening::open;
 pub use taking::interrupt;
 pub use taking::piece;

@@ -95,7 +95,7 @@ pub fn refused(number: u64, host: Host) -> Answer
 pub fn open(host: Host, bytes: &[u8], budget: u64, prices: Prices, room: u64) -> Answer
     ensures { λ r. ⌜ r ≡ opened 4096 host (now (bytes .entry)) budget prices room ⌝ }
 {
-    if !host::in_order(host) {
+    if !order::in_order(host) {
         return refused(1, host);
     }
     if !room_right(room) {

@@ -96,7 +96,7 @@ fn fresh(
     let sectors = area::load(item, 1);
     let copies = area::load(item, 9);
     let byte = item[17];
-    let made = Host::fresh(sectors, copies);
+    let made = machine::fresh(sectors, copies);
     area::fill(disk, 0, disk.len(), byte);
     area::fill(stage, 0, stage.len(), byte);
     area::fill(input, 0, input.len(), byte);
@@ -110,7 +110,7 @@ fn form(item: &[u8], host: Host) -> Made {
         return malformed(host);
     }
     let id = bytes_at(item, 1);
-    let made = host::form(host, id);
+    let made = machine::form(host, id);
     let after = made.host;
     answered(made.number, 0, 0, after)
 }
@@ -120,7 +120,7 @@ fn drop(item: &[u8], host: Host) -> Made {
         return malformed(host);
     }
     let id = bytes_at(item, 1);
-    let made = host::drop(host, id);
+    let made = machine::drop(host, id);
     let after = made.host;
     answered(made.number, 0, 0, after)
 }

@@ -27,7 +27,7 @@ pub struct Played {
 
 // The host of a refused fresh, which stands before the first item.
 pub fn no_host() -> Host {
-    let made = Host::fresh(0, 0);
+    let made = machine::fresh(0, 0);
     made.host
 }
 

@@ -37,7 +37,7 @@ pub fn run(
     ensures { λ r. ⌜ leaves r (now (disk .exit)) (now (stage .exit)) (now (input .exit)) (now (output .exit)) ≡
         Says.run 4096 prices budget (now (ids .entry)) (now (head .entry)) (now (bytes .entry)) (now (disk .entry)) (now (stage .entry)) (now (input .entry)) (now (output .entry)) ⌝ }
 {
-    let fresh = Host::fresh(disk.len() as u64, stage.len() as u64);
+    let fresh = machine::fresh(disk.len() as u64, stage.len() as u64);
     let empty = fresh.host;
     if fresh.number != 0 {
         return playing::refused(fresh.number, empty);
@@ -72,7 +72,7 @@ pub fn answer(
         answered 4096 (now (all .entry)) (now (disk .entry)) (now (stage .entry)) (now (input .entry)) (now (output .entry)) ⌝ }
 {
     if reading::wrong(all) {
-        let fresh = Host::fresh(disk.len() as u64, stage.len() as u64);
+        let fresh = machine::fresh(disk.len() as u64, stage.len() as u64);
         let empty = fresh.host;
         return playing::refused(9, empty);
     }

@@ -40,7 +40,7 @@ fn stop(host: Host, disk: &[u8], output: &mut [u8]) -> Answer
 pub fn interrupt(host: Host, disk: &[u8], output: &mut [u8]) -> Answer
     ensures { λ r. ⌜ interruptLeaves r (now (output .exit)) ≡ Says.interrupt 4096 (now (disk .entry)) host (now (output .entry)) ⌝ }
 {
-    if !host::in_order(host) {
+    if !order::in_order(host) {
         return opening::refused(1, host);
     }
     if !turns::lent(host.disk, disk) {

@@ -84,7 +84,7 @@ pub fn piece(
     ensures { λ r. ⌜ pieceLeaves r (now (stage .exit)) (now (input .exit)) (now (output .exit)) ≡
         Says.piece 4096 (now (disk .entry)) host (now (stage .entry)) (now (input .entry)) (now (output .entry)) (now (bytes .entry)) ⌝ }
 {
-    if !host::in_order(host) {
+    if !order::in_order(host) {
         return opening::refused(1, host);
     }
     if !turns::areas_right(host.disk, host.stage, disk, &*stage) {

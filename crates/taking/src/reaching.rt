@@ -49,7 +49,7 @@ fn reach<'a>(host: Host, disk: &'a [u8], stage: &'a [u8]) -> Reached
 pub fn reached<'a>(host: Host, disk: &'a [u8], stage: &'a [u8]) -> Reached
     ensures { λ r. ⌜ r ≡ Says.reached 4096 (now (disk .entry)) host (now (stage .entry)) ⌝ }
 {
-    if !host::in_order(host) {
+    if !order::in_order(host) {
         return unreached(1);
     }
     if !turns::areas_right(host.disk, host.stage, disk, stage) {

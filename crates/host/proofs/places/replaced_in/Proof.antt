@@ -1,0 +1,78 @@
+-- `host::places::replaced_in` meets its contract. The loop's invariant: the first i places are replaced, the others as they were.
+-- Assumes nothing.
+use mathlib.Core.Path.{_≡_, ap, _∙_}
+use mathlib.Core.List.{_++_}
+use Prim.Native.Nat.{_-_}
+use native.Mathlib.Omega.{arith}
+use lib.ListN.{length, take, drop, set, length-set}
+use Rattle.area.specs.Pick.{pick}
+use Rattle.host.specs.Lists.{each}
+use Rattle.host.specs.Places.{hasId}
+use Rattle.host.specs.Calls.{replaced}
+use Rattle.host.proofs.Laws.Places.{blank}
+use Rattle.host.proofs.Laws.Forming.{each-none, each-one, each-all}
+use borrow.Author.Needs.{needs}
+use Rattle.host.proofs.places.replaced_in.Statement.{statement}
+use Rattle.host.proofs.places.replaced_in.Tie as tie
+
+abbrev Inv-loop : tie.InvT-loop
+Inv-loop id by places ps₀ i₀ ps i = (length ps ≡ 8) × (ps ≡ each (λ q. pick (hasId id q) by q) (take i places) ++ drop i places)
+
+abbrev μ-loop : tie.MeasureT-loop
+μ-loop id by places ps₀ i₀ ps i = 8 - i
+
+loop-holds : tie.Need-loop-holds Inv-loop μ-loop
+loop-holds c = (c .good .0 .1 .0 .1, each-none _ _)
+
+mul-q : tie.Need-mul-q Inv-loop μ-loop
+mul-q c = search needs
+
+array-copy-out-q : tie.Need-array-copy-out-q Inv-loop μ-loop
+array-copy-out-q c = search needs
+
+replacing-requires : tie.Need-replacing-requires Inv-loop μ-loop
+replacing-requires c κs = tt
+
+mul-ps : tie.Need-mul-ps Inv-loop μ-loop
+mul-ps c = search needs
+
+array-set-from-ps : tie.Need-array-set-from-ps Inv-loop μ-loop
+array-set-from-ps c = search needs
+
+add-i : tie.Need-add-i Inv-loop μ-loop
+add-i c = search needs
+
+loop-less : tie.Need-loop-less Inv-loop μ-loop
+loop-less c = search needs
+
+loop-again : tie.Need-loop-again Inv-loop μ-loop
+loop-again c =
+    let l = c .before .before .before .loop in
+    let s = c .before .before .before .before in (
+      simp length-set (l .inv .0),
+      ap (set (l .ps) (l .i)) (c .replacing .ensures)
+          ∙ each-one (λ q. pick (hasId (s .args .id) q) (s .args .by) q) (s .args .t1) (l .ps) (l .i) blank (s .good .0 .1 .0 .1) (omega arith) (l .inv .1),
+    )
+
+returns : tie.Need-returns Inv-loop μ-loop
+unfolding replaced
+returns c =
+    let s = c .before .before in
+    each-all (λ q. pick (hasId (s .args .id) q) (s .args .by) q) (s .args .t1) (c .before .loop .ps) (c .before .loop .i) (s .good .0 .1 .0 .1) (omega arith) (c .before .loop .inv .1)
+
+pub replaced-in-spec : {M : Type 1} → statement M
+replaced-in-spec =
+    tie.close
+    (tie.spec
+    Inv-loop
+    μ-loop
+    loop-holds
+    mul-q
+    array-copy-out-q
+    replacing-requires
+    mul-ps
+    array-set-from-ps
+    add-i
+    loop-less
+    loop-again
+    returns)
