@@ -1,9 +1,4 @@
 -- The laws, a file for each subject.
-pub mod Sums
-pub mod Numbers
-pub mod Costs
-pub mod Room
-pub mod Weighed
 pub mod Lookup
 pub mod Alike
 pub mod Planned

@@ -13,8 +13,8 @@ use Rattle.sia.specs.declared.Op.{Op}
 use Rattle.sia.specs.declared.Instruction.{Instruction}
 use Rattle.host.specs.declared.Progress.{Progress}
 use Rattle.rules.specs.declared.Spot.{Spot}
-use Rattle.plan.specs.Numbers.{numbers}
-use Rattle.plan.specs.Weighed.{weighed}
+use Rattle.pricing.specs.Numbers.{numbers}
+use Rattle.judging.specs.Weighed.{weighed}
 use Rattle.inputs.specs.Given.{placed, noArgs, fromOf}
 use Rattle.inputs.specs.declared.Args.{Args}
 use Rattle.plan.specs.declared.Plan.{Plan}

@@ -1,9 +1,7 @@
 // Checks 21 to 42, in order, of one instruction, and its plan.
 use crate::Plan;
-use crate::judge::weighed;
 use crate::lookup::no_sectors;
 use crate::lookup::source_of;
-use crate::spans::changes;
 use host::Place;
 use host::Progress;
 use host::Terms;
@@ -11,6 +9,8 @@ use inputs::Args;
 use inputs::decoded;
 use inputs::ill_formed;
 use inputs::past_end;
+use judging::judge::weighed;
+use pricing::changes;
 use sia::Instruction;
 use sia::Op;
 ghost use mathlib.Core.Path.{_≡_};

@@ -2,27 +2,13 @@
 // root up.
 // These are inner functions: what they require, their callers prove.
 mod chain; // chain.rt: checks 21 to 42, and the plan of an instruction
-mod cost; // cost.rt: what an instruction is charged
-mod judge; // judge.rt: checks 26 to 42, in order
-mod room; // room.rt: what checks 40, 41 and 42 count
 mod lookup; // lookup.rt: what is read, and check 25
-mod spans; // spans.rt: checks 24, 26 and 27
-mod sums; // sums.rt: sums against a limit
 
 pub use chain::planned;
 use inputs::Args;
+pub use pricing::reads;
 use sia::Op;
-pub use spans::reads;
 use view::Seen;
-
-// Checks 26 to 42: the failure's number, or 0 with the cost, the new size, the hashes of the proof and the length of the record.
-pub struct Weighed {
-    pub number: u64,
-    pub cost: u64,
-    pub size: u64,
-    pub hashes: u64,
-    pub count: u64,
-}
 
 // What is read: whether it is there, and its sectors.
 pub struct Source {

@@ -17,9 +17,9 @@ use Rattle.sia.specs.declared.Op.the-variants.{Read, ReadSector, Write, Copy, S
 use Rattle.host.specs.declared.Progress.{Progress}
 use Rattle.inputs.specs.Given.{placed}
 use Rattle.inputs.specs.declared.Args as code
-use Rattle.plan.specs.Numbers.{sectorsOf, numbers}
-use Rattle.plan.specs.Weighed.{refused, fine, weighed}
-use Rattle.plan.proofs.Laws.Numbers.{sectors-many}
+use Rattle.pricing.specs.Numbers.{sectorsOf, numbers}
+use Rattle.judging.specs.Weighed.{refused, fine, weighed}
+use Rattle.pricing.proofs.Laws.Numbers.{sectors-many}
 
 module _ (z : ℕ) (f : Source) (a : Says.Args) (x n : ℕ) (long : length (spots f) ≡ n) where
   many : length (spots (sectorsOf n)) ≡ length (spots f)

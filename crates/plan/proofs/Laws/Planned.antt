@@ -21,12 +21,12 @@ use Rattle.sia.specs.declared.Op.the-variants.{Read, ReadSector, Write, Copy, S
 use Rattle.host.specs.declared.Progress.{Progress}
 use Rattle.rules.specs.declared.Spot.{Spot}
 use Rattle.inputs.specs.Given.{placed, fromOf}
-use Rattle.plan.specs.Numbers.{numbers}
-use Rattle.plan.specs.Weighed.{fine, weighed}
+use Rattle.pricing.specs.Numbers.{numbers}
+use Rattle.judging.specs.Weighed.{fine, weighed}
 use Rattle.plan.specs.Planned.{failed, argued, runs, planOf}
 use Rattle.inputs.specs.declared.Args as code
-use Rattle.plan.specs.declared.Weighed.{Weighed}
-use Rattle.plan.proofs.Laws.Weighed.{number-judged}
+use Rattle.judging.specs.declared.Weighed.{Weighed}
+use Rattle.judging.proofs.Laws.Weighed.{number-judged}
 use Rattle.plan.proofs.Laws.Alike.{weighed-real}
 
 -- ---- what is read does not look at the areas' numbers

@@ -14,11 +14,11 @@ use Rattle.rules.proofs.Laws.Spots.{few-spots}
 use Rattle.view.proofs.Laws.Roots.{seen-count}
 use Rattle.view.proofs.Callers.{slots-hold}
 use Rattle.rules.specs.declared.Spot.{Spot}
-use Rattle.plan.specs.Numbers.{numbers}
+use Rattle.pricing.specs.Numbers.{numbers}
 use Rattle.plan.specs.Source.{Shows}
-use Rattle.plan.specs.Weighed.{weighed}
+use Rattle.judging.specs.Weighed.{weighed}
 use Rattle.plan.specs.Planned.{failed, argued}
-use Rattle.plan.specs.declared.Weighed.{Weighed}
+use Rattle.judging.specs.declared.Weighed.{Weighed}
 use Rattle.plan.proofs.Laws.Planned.{source-same, size-few, length-most, room-most}
 use Rattle.plan.proofs.Laws.Alike.{weighed-at}
 use Rattle.plan.proofs.Laws.Lookup.{shows-as}

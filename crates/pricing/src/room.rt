@@ -1,0 +1,132 @@
+// What checks 40, 41 and 42 count: stage slots, the new size, and the record's length.
+use crate::kinds::reads;
+use host::Host;
+use host::Progress;
+use inputs::Args;
+use sia::Op;
+ghost use mathlib.Core.Path.{_≡_};
+ghost use mathlib.Core.Bool.{true};
+ghost use Prim.Native.Nat.{_≤_};
+ghost use lib.ListN.{getD};
+ghost use lib.Dec.{eqb};
+ghost use Rattle.area.specs.Pick.{pick};
+ghost use Rattle.sia.specs.declared.Op.the-variants.{Swap, Truncate};
+ghost use Rattle.host.specs.Lists.{count, unused};
+ghost use Rattle.host.specs.Empty.{none};
+ghost use Rattle.rules.specs.Plan.{newSize, proofCount, outputCount};
+ghost use Rattle.rules.specs.Plan as Says;
+ghost use Rattle.pricing.specs.Numbers.{sectorsOf, numbers};
+ghost use Rattle.view.specs.Seen.{Ranged};
+
+// One for a stage slot that no position has.
+fn free_at(staged: [u8; 64], x: u64) -> u64
+    ensures { λ r. ⌜ (r ≡ pick (unused staged x) 1 0) × (r ≤ 1) ⌝ }
+{
+    if host::staged_in(staged, x) {
+        return 0;
+    }
+    1
+}
+
+// How many stage slots no position has.
+pub fn free_copies(copies: u64, staged: [u8; 64]) -> u64
+    ensures { λ r. ⌜ r ≡ count (unused staged) 0 copies ⌝ }
+{
+    let mut free: u64 = 0;
+    let mut i: u64 = 0;
+    while i < copies {
+        free += free_at(staged, i);
+        i += 1;
+    }
+    free
+}
+
+// How many stage slots a position needs: one, unless it has one.
+fn lacks(staged: [u8; 64], at: u64) -> u64
+    ensures { λ r. ⌜ (r ≡ pick (eqb (getD staged at none) none) 1 0) × (r ≤ 1) ⌝ }
+{
+    if 64 <= at {
+        return 1;
+    }
+    if staged[at as usize] == Progress::NONE {
+        return 1;
+    }
+    0
+}
+
+// Of Swap: offset 2's position first.
+fn wanted_swap(p: Progress, args: Args) -> u64
+    ensures { λ r. ⌜ r ≡ Says.wanted 4096 p Swap (numbers args) ⌝ }
+{
+    let staged = p.staged;
+    let one = args.first / Host::SECTOR;
+    let two = args.second / Host::SECTOR;
+    if one == two {
+        return lacks(staged, two);
+    }
+    lacks(staged, two) + lacks(staged, one)
+}
+
+// Of Truncate: the position that growth adds.
+fn wanted_size(p: Progress, args: Args) -> u64
+    ensures { λ r. ⌜ r ≡ Says.wanted 4096 p Truncate (numbers args) ⌝ }
+{
+    let staged = p.staged;
+    if p.size < args.first {
+        return lacks(staged, p.size / Host::SECTOR);
+    }
+    0
+}
+
+// 40: how many stage slots an instruction needs.
+pub fn wanted(p: Progress, op: Op, args: Args) -> u64
+    ensures { λ r. ⌜ r ≡ Says.wanted 4096 p op (numbers args) ⌝ }
+{
+    let staged = p.staged;
+    match op {
+        Op::Read => 0,
+        Op::ReadSector => 0,
+        Op::Write => lacks(staged, args.first / Host::SECTOR),
+        Op::Copy => lacks(staged, args.first / Host::SECTOR),
+        Op::Swap => wanted_swap(p, args),
+        Op::Truncate => wanted_size(p, args),
+        Op::Unknown => 0,
+    }
+}
+
+// 41: the parent's size after the instruction.
+pub fn new_size(size: u64, op: Op, args: Args) -> u64
+    ensures { λ r. ⌜ r ≡ newSize size op (numbers args) ⌝ }
+{
+    match op {
+        Op::Read => size,
+        Op::ReadSector => size,
+        Op::Write => size,
+        Op::Copy => size,
+        Op::Swap => size,
+        Op::Truncate => args.first,
+        Op::Unknown => size,
+    }
+}
+
+// How many hashes a range of segments is proved by, 0 where no proof is asked.
+pub fn proof_count(asked: bool, seen: u64, args: Args) -> u64
+    requires { ⌜ seen ≤ 64 ⌝ }
+    requires { ⌜ (asked ≡ true → Ranged 4096 seen (args .first) (args .len)) ⌝ }
+    ensures { λ r. ⌜ r ≡ proofCount 4096 asked (sectorsOf seen) (numbers args) ⌝ }
+{
+    if !asked {
+        return 0;
+    }
+    view::range_count(seen as usize, args.first as usize, args.len as usize) as u64
+}
+
+// How many bytes are handed out.
+pub fn output_count(op: Op, args: Args) -> u64
+    ensures { λ r. ⌜ r ≡ outputCount op (numbers args) ⌝ }
+{
+    if reads(op) {
+        return args.len;
+    }
+    0
+}
