@@ -8,6 +8,7 @@ use lib.Bits.{bitXor}
 use Rattle.area.specs.Pick.{pick}
 use Rattle.area.specs.Area.{part, tab}
 use Rattle.area.specs.Little.{valueOf}
+use Rattle.schedule.specs.Schedule.{chosen}
 
 -- (2.3) x >>> n, the rotation to the right: (x >> n) ^ (x << (w - n))
 unfoldable pub rotr : ℕ → ℕ → ℕ
@@ -22,21 +23,6 @@ abbrev pub IV : List ℕ
 IV =
     0x6A09E667F3BCC908 ∷ 0xBB67AE8584CAA73B ∷ 0x3C6EF372FE94F82B ∷ 0xA54FF53A5F1D36F1
     ∷ 0x510E527FADE682D1 ∷ 0x9B05688C2B3E6C1F ∷ 0x1F83D9ABFB41BD6B ∷ 0x5BE0CD19137E2179 ∷ []
-
--- (2.7) the message schedule, a row a round
-abbrev pub SIGMA : List (List ℕ)
-SIGMA =
-    (0 ∷ 1 ∷ 2 ∷ 3 ∷ 4 ∷ 5 ∷ 6 ∷ 7 ∷ 8 ∷ 9 ∷ 10 ∷ 11 ∷ 12 ∷ 13 ∷ 14 ∷ 15 ∷ [])
-    ∷ (14 ∷ 10 ∷ 4 ∷ 8 ∷ 9 ∷ 15 ∷ 13 ∷ 6 ∷ 1 ∷ 12 ∷ 0 ∷ 2 ∷ 11 ∷ 7 ∷ 5 ∷ 3 ∷ [])
-    ∷ (11 ∷ 8 ∷ 12 ∷ 0 ∷ 5 ∷ 2 ∷ 15 ∷ 13 ∷ 10 ∷ 14 ∷ 3 ∷ 6 ∷ 7 ∷ 1 ∷ 9 ∷ 4 ∷ [])
-    ∷ (7 ∷ 9 ∷ 3 ∷ 1 ∷ 13 ∷ 12 ∷ 11 ∷ 14 ∷ 2 ∷ 6 ∷ 5 ∷ 10 ∷ 4 ∷ 0 ∷ 15 ∷ 8 ∷ [])
-    ∷ (9 ∷ 0 ∷ 5 ∷ 7 ∷ 2 ∷ 4 ∷ 10 ∷ 15 ∷ 14 ∷ 1 ∷ 11 ∷ 12 ∷ 6 ∷ 8 ∷ 3 ∷ 13 ∷ [])
-    ∷ (2 ∷ 12 ∷ 6 ∷ 10 ∷ 0 ∷ 11 ∷ 8 ∷ 3 ∷ 4 ∷ 13 ∷ 7 ∷ 5 ∷ 15 ∷ 14 ∷ 1 ∷ 9 ∷ [])
-    ∷ (12 ∷ 5 ∷ 1 ∷ 15 ∷ 14 ∷ 13 ∷ 4 ∷ 10 ∷ 0 ∷ 7 ∷ 6 ∷ 3 ∷ 9 ∷ 2 ∷ 8 ∷ 11 ∷ [])
-    ∷ (13 ∷ 11 ∷ 7 ∷ 14 ∷ 12 ∷ 1 ∷ 3 ∷ 9 ∷ 5 ∷ 0 ∷ 15 ∷ 4 ∷ 8 ∷ 6 ∷ 2 ∷ 10 ∷ [])
-    ∷ (6 ∷ 15 ∷ 14 ∷ 9 ∷ 11 ∷ 3 ∷ 0 ∷ 8 ∷ 12 ∷ 2 ∷ 13 ∷ 7 ∷ 1 ∷ 4 ∷ 10 ∷ 5 ∷ [])
-    ∷ (10 ∷ 2 ∷ 8 ∷ 4 ∷ 7 ∷ 6 ∷ 1 ∷ 5 ∷ 15 ∷ 11 ∷ 9 ∷ 14 ∷ 3 ∷ 12 ∷ 13 ∷ 0 ∷ [])
-    ∷ []
 
 -- (3.1) v[a] := (v[a] + v[b] + x) mod 2**w
 unfoldable pub sum3 : List ℕ → ℕ → ℕ → ℕ → List ℕ
@@ -61,10 +47,6 @@ G v a b c d x y =
     let v6 = turn v5 d a 16 in
     let v7 = sum2 v6 c d in
     turn v7 b c 63
-
--- (3.2) the words of m as round i takes them: m[s[0]] to m[s[15]], where s is row i mod 10 of the schedule
-abbrev pub chosen : ℕ → List ℕ → List ℕ
-chosen i m = map (λ k. getD m k 0) (getD SIGMA (i % 10) [])
 
 -- (3.2) a round of F, of the words x that it takes
 unfoldable pub round : List ℕ → List ℕ → List ℕ

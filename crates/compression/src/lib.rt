@@ -1,11 +1,11 @@
-// RFC 7693 (3.2): the compression function F, in its parts: the twelve rounds, the local vector, the words of a block, the new state.
+// RFC 7693 (3.2): the compression function F, in its parts: the twelve rounds, the local vector, the words of a block, the new state. An inner
+// crate: its callers prove what it requires.
 ghost use mathlib.Core.Path.{_≡_};
 ghost use mathlib.Core.Bool.{Bool};
 ghost use lib.ListN.{length};
 ghost use Rattle.compression.specs.Compression as RFC;
 
 mod mixing; // mixing.rt: sums, rotations and G
-mod schedule; // schedule.rt: the words of a round
 
 use mixing::g;
 use schedule::chosen;

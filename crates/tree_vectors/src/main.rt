@@ -209,26 +209,35 @@ fn within_line(
     out: &mut [u8],
 ) {
     part_roots(bytes, parts, roots);
+    label(b"within", parts, at, first, end);
     if roots.len() / 32 < parts {
         return;
     }
+    within_roots(bytes, &roots[0..32 * parts], at, first, end, out);
+}
+
+fn within_roots(bytes: &[u8], roots: &[u8], at: usize, first: usize, end: usize, out: &mut [u8]) {
     if bytes.len() / 4096 <= at {
         return;
     }
-    let given = 32 * parts;
     let from = 4096 * at;
-    let to = from + 4096;
-    let proved = proving::prove_in(&roots[0..given], at, &bytes[from..to], first, end, out);
-    let joined = tree::join(&roots[0..given]);
+    let proved = proving::prove_in(roots, at, &bytes[from..from + 4096], first, end, out);
+    join_word(roots);
+    front_line(out, proved.count);
+}
+
+fn join_word(roots: &[u8]) {
+    let joined = tree::join(roots);
     let root = joined.root;
-    let count = proved.count;
-    if out.len() / 32 < count {
+    hash_word(&root);
+}
+
+// The first n hashes that stand in an area.
+fn front_line(out: &[u8], n: usize) {
+    if out.len() / 32 < n {
         return;
     }
-    let used = 32 * count;
-    label(b"within", parts, at, first, end);
-    hash_word(&root);
-    hex_line(&out[0..used]);
+    hex_line(&out[0..32 * n]);
 }
 
 // Parts of 64 segments: how many, which one, and a range within it.
@@ -361,12 +370,18 @@ fn lay(bytes: &[u8], all: &mut [u8]) -> usize {
     if all.len() < 160 {
         return 0;
     }
-    let rooted = tree::root(&bytes[0..12800]);
-    let root = rooted.root;
-    put_hash(&root, all, 0);
+    lay_root(&bytes[0..12800], all);
     area::copy_between(bytes, 4032, all, 32, 128);
     let proved = proving::prove(&bytes[0..12800], 63, 65, &mut all[160..]);
     proved.count
+}
+
+fn lay_root(bytes: &[u8], all: &mut [u8])
+    requires { ⌜ 32 ≤ length (now all) ⌝ }
+{
+    let rooted = tree::root(bytes);
+    let root = rooted.root;
+    put_hash(&root, all, 0);
 }
 
 fn damaged(bytes: &[u8], all: &mut [u8]) {

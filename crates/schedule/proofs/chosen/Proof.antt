@@ -1,10 +1,10 @@
--- `compression::schedule::chosen` meets its contract: the row is that of i mod 10. Assumes nothing.
+-- `schedule::chosen` meets its contract: the row is that of i mod 10. Assumes nothing.
 use mathlib.Core.Logic.{⊎-elim}
 use native.Mathlib.Omega.{arith}
-use Rattle.compression.proofs.Laws.Steps.{as-row, ninth}
+use Rattle.schedule.proofs.Laws.Rows.{as-row, ninth}
 use borrow.Author.Needs.{needs}
-use Rattle.compression.proofs.schedule.chosen.Statement.{statement}
-use Rattle.compression.proofs.schedule.chosen.Tie as tie
+use Rattle.schedule.proofs.chosen.Statement.{statement}
+use Rattle.schedule.proofs.chosen.Tie as tie
 
 row-0-requires : tie.Need-row-0-requires
 row-0-requires c κs = search needs

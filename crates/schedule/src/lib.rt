@@ -1,7 +1,7 @@
-// (2.7) The message schedule. Its rows are written out, since a table that is indexed by a variable is many times slower.
+// RFC 7693 (2.7): the message schedule of BLAKE2b. An inner crate: its caller proves what it requires. Its rows are written out, since a table that is indexed by a variable is many times slower.
 ghost use mathlib.Core.Path.{_≡_};
 ghost use Prim.Native.Nat.{_<_};
-ghost use Rattle.compression.specs.Compression as RFC;
+ghost use Rattle.schedule.specs.Schedule as RFC;
 
 // The message's words as round i takes them.
 pub fn chosen(i: usize, m: [u64; 16]) -> [u64; 16]

@@ -1,0 +1,2 @@
+-- The message schedule of RFC 7693.
+pub mod Schedule
