@@ -61,10 +61,10 @@ fn contract_source(places: [Place; 8], terms: Terms, p: Progress, key: [u8; 32])
     let id = head.contract;
     if sia::same_id(key, id) {
         let staged = p.staged;
-        let seen = view::parent_seen(other, staged, p.size);
+        let seen = sights::parent_seen(other, staged, p.size);
         return Source { there: true, seen };
     }
-    let seen = view::committed_seen(other);
+    let seen = sights::committed_seen(other);
     Source { there: true, seen }
 }
 
@@ -73,7 +73,7 @@ fn sector_source(disk: &[u8], places: [Place; 8], terms: Terms, key: [u8; 32]) -
     requires { ⌜ every (holds 4096 (now disk)) (taken 4096 places) ≡ true ⌝ }
     ensures { λ r. ⌜ Shows r (sectorSource 4096 (setting 0 0 places terms (now (disk .entry))) key) ⌝ }
 {
-    let seen = view::find_root(disk, places, key);
+    let seen = sights::find_root(disk, places, key);
     let there = seen.count != 0;
     Source { there, seen }
 }

@@ -50,7 +50,7 @@ fn put_proof<'a>(
     ensures { λ _. ⌜ now (out .exit) ≡ put (now (out .entry)) 0 (shownProof asked (now (disk .entry)) (now (stage .entry)) seen at n) ⌝ }
 {
     if asked {
-        view::range_proof(disk, stage, seen, at, n, out);
+        roots::range_proof(disk, stage, seen, at, n, out);
     }
 }
 

@@ -17,8 +17,8 @@ pub fn committed_root(disk: &[u8], parent: Place) -> [u8; 32]
     requires { ⌜ Stands (now disk) parent ⌝ }
     ensures { λ r. ⌜ r ≡ contractRoot 4096 (now (disk .entry)) [] (committedSpots 4096 parent) ⌝ }
 {
-    let seen = view::committed_seen(parent);
-    view::contract_root(disk, b"", seen)
+    let seen = sights::committed_seen(parent);
+    roots::contract_root(disk, b"", seen)
 }
 
 // The root of the parent as it is read now.
@@ -32,8 +32,8 @@ pub fn running_root<'a>(
     ensures { λ r. ⌜ r ≡ contractRoot 4096 (now (disk .entry)) (now (stage .entry)) (tab 0 (progress .size / 4096) (spotOf (parent .slots) (progress .staged))) ⌝ }
 {
     let staged = progress.staged;
-    let seen = view::parent_seen(parent, staged, progress.size);
-    view::contract_root(disk, stage, seen)
+    let seen = sights::parent_seen(parent, staged, progress.size);
+    roots::contract_root(disk, stage, seen)
 }
 
 // A failure: it ends the program, and otherwise only writes its record.

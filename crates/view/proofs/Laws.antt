@@ -2,4 +2,3 @@
 pub mod Sectors
 pub mod Pieces
 pub mod Roots
-pub mod Sights

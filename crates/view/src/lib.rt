@@ -1,18 +1,15 @@
-// What the machine sees of contracts: the bytes of a sector, in whichever area holds it, and roots and proofs of what is seen.
+// What the machine sees of contracts: the bytes of a sector, in whichever area holds it, and its root. Crate sights says what is seen, crate roots
+// has roots and proofs of it.
 // These are inner functions: what they require, their callers prove.
 
-mod roots; // roots.rt: roots and proofs of what is seen
+mod roots; // roots.rt: the root of a sector, and the hashes of a proof
 mod sectors; // sectors.rt: where a sector is, and its bytes
-mod sights; // sights.rt: what is seen of the parent, of a committed contract, and of the sector with a root
 
-pub use roots::contract_root;
 pub use roots::range_count;
-pub use roots::range_proof;
+pub use roots::sector_root;
 pub use sectors::sector;
 pub use sectors::span;
-pub use sights::committed_seen;
-pub use sights::find_root;
-pub use sights::parent_seen;
+pub use sectors::spot_of;
 
 // What is seen: the first `count` positions. `slots[p]` is the disk slot of position p, `staged[p]` its stage slot, or Progress::NONE.
 pub struct Seen {

@@ -1,13 +1,10 @@
-// Roots and proofs of what is seen, from the roots of its sectors.
+// The root of a sector, and how many hashes a range of segments is proved by.
 ghost use mathlib.Core.Path.{_≡_};
 ghost use mathlib.Core.Bool.{true};
 ghost use Prim.Native.Nat.{_+_, _*_, _/_, _≤_};
-ghost use lib.ListN.{length, take};
-ghost use Rattle.area.specs.Area.{put};
-ghost use Rattle.sia.specs.Encode.{joined};
 ghost use Rattle.tree.specs.Walk.{count};
-ghost use Rattle.rules.specs.Roots.{sectorRoot, contractRoot, rangeProof};
-ghost use Rattle.view.specs.Seen.{lies, spotsOf, Lies, Ranged};
+ghost use Rattle.rules.specs.Roots.{sectorRoot};
+ghost use Rattle.view.specs.Seen.{lies, Ranged};
 use crate::Seen;
 use crate::sectors;
 use rules::Spot;
@@ -22,39 +19,6 @@ pub fn sector_root<'a>(disk: &'a [u8], stage: &'a [u8], spot: Spot) -> [u8; 32]
     rooted.root
 }
 
-// The roots of the sectors that are seen, one after another.
-fn sector_roots<'a>(disk: &'a [u8], stage: &'a [u8], seen: Seen) -> [u8; 2048]
-    requires { ⌜ Lies 4096 (now disk) (now stage) seen ⌝ }
-    ensures { λ r. ⌜ take (32 * seen .count) r ≡ joined (sectorRoot 4096 (now (disk .entry)) (now (stage .entry))) (spotsOf seen) ⌝ }
-{
-    let slots = seen.slots;
-    let staged = seen.staged;
-    let count = seen.count;
-    let mut roots = [0u8; 2048];
-    let mut i: usize = 0;
-    while i < count {
-        let spot = sectors::spot_of(slots, staged, i);
-        let root = sector_root(disk, stage, spot);
-        area::copy_between(&root, 0, &mut roots, 32 * i, 32);
-        i += 1;
-    }
-    roots
-}
-
-// The root of all that is seen; of nothing it is 32 zero bytes.
-pub fn contract_root<'a>(disk: &'a [u8], stage: &'a [u8], seen: Seen) -> [u8; 32]
-    requires { ⌜ Lies 4096 (now disk) (now stage) seen ⌝ }
-    ensures { λ r. ⌜ r ≡ contractRoot 4096 (now (disk .entry)) (now (stage .entry)) (spotsOf seen) ⌝ }
-{
-    let count = seen.count;
-    if count == 0 {
-        return [0u8; 32];
-    }
-    let roots = sector_roots(disk, stage, seen);
-    let rooted = tree::join(&roots[..32 * count]);
-    rooted.root
-}
-
 // How many hashes prove the n bytes from `at` on, of so many sectors.
 pub fn range_count(sectors: usize, at: usize, n: usize) -> usize
     requires { ⌜ sectors ≤ 64 ⌝ }
@@ -64,34 +28,4 @@ pub fn range_count(sectors: usize, at: usize, n: usize) -> usize
     let segments = sectors * (Seen::SECTOR / Seen::SEGMENT);
     let counted = tree::count(segments, at / Seen::SEGMENT, (at + n) / Seen::SEGMENT);
     counted.count
-}
-
-// The proof of the n bytes from `at` on, which lie in one sector, laid over the front of out. Of one sector no root is needed.
-pub fn range_proof<'a>(
-    disk: &'a [u8],
-    stage: &'a [u8],
-    seen: Seen,
-    at: usize,
-    n: usize,
-    out: &mut [u8],
-)
-    requires { ⌜ Lies 4096 (now disk) (now stage) seen ⌝ }
-    requires { ⌜ Ranged 4096 (seen .count) at n ⌝ }
-    requires { ⌜ length (rangeProof 4096 (now disk) (now stage) (spotsOf seen) at n) ≤ length (now out) ⌝ }
-    ensures { λ _. ⌜ now (out .exit) ≡ put (now (out .entry)) 0 (rangeProof 4096 (now (disk .entry)) (now (stage .entry)) (spotsOf seen) at n) ⌝ }
-{
-    let slots = seen.slots;
-    let staged = seen.staged;
-    let count = seen.count;
-    let place = at / Seen::SECTOR;
-    let spot = sectors::spot_of(slots, staged, place);
-    let bytes = sectors::sector(disk, stage, spot);
-    let first = at % Seen::SECTOR / Seen::SEGMENT;
-    let end = first + n / Seen::SEGMENT;
-    if count == 1 {
-        proving::prove(bytes, first, end, out);
-        return;
-    }
-    let roots = sector_roots(disk, stage, seen);
-    proving::prove_in(&roots[..32 * count], place, bytes, first, end, out);
 }

@@ -1,0 +1,12 @@
+-- `parent_seen` meets its contract. Assumes nothing.
+use mathlib.Core.Path.{refl}
+use Rattle.view.specs.Seen.{spotsOf}
+use Rattle.sights.proofs.parent_seen.Statement.{statement}
+use Rattle.sights.proofs.parent_seen.Tie as tie
+
+returns : tie.Need-returns
+unfolding spotsOf
+returns c = (refl, refl)
+
+pub parent-seen-spec : {M : Type 1} → statement M
+parent-seen-spec = tie.close (tie.spec returns)

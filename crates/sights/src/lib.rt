@@ -1,0 +1,135 @@
+// What is seen: of the parent, of a committed contract, and of the sector that has a root.
+// These are inner functions: what they require, their callers prove.
+ghost use mathlib.Core.Path.{_≡_};
+ghost use mathlib.Core.Bool.{true};
+ghost use mathlib.Core.List.{[], _∷_};
+ghost use Prim.Native.Nat.{_/_, _≤_, _<_};
+ghost use lib.ListN.{length, getD};
+ghost use Rattle.area.specs.Area.{same, tab};
+ghost use Rattle.sia.specs.Encode.{every};
+ghost use Rattle.host.specs.Lists.{each};
+ghost use Rattle.host.specs.Places.{taken};
+ghost use Rattle.host.specs.Listed.{listed};
+ghost use Rattle.host.specs.Order.{placeInOrder};
+ghost use Rattle.rules.specs.View.{spotOf, committedSpots};
+ghost use Rattle.rules.specs.Roots.{sectorRoot, firstRoot};
+ghost use Rattle.rules.specs.declared.Spot.the-variants.{OnDisk};
+ghost use Rattle.view.specs.Seen.{spotsOf, holds};
+use host::Host;
+use host::Place;
+use host::Progress;
+use host::Slots;
+use rules::Spot;
+use view::Seen;
+
+// No sector.
+fn nothing() -> Seen
+    ensures { λ r. ⌜ (spotsOf r ≡ []) × (r .count ≤ 1) ⌝ }
+{
+    let slots = [0u8; 64];
+    let staged = [Progress::NONE; 64];
+    Seen {
+        count: 0,
+        slots,
+        staged,
+    }
+}
+
+// The sector in disk slot n.
+fn one(n: u8) -> Seen
+    ensures { λ r. ⌜ (spotsOf r ≡ OnDisk n ∷ []) × (r .count ≤ 1) ⌝ }
+{
+    let slots = [n; 64];
+    let staged = [Progress::NONE; 64];
+    Seen {
+        count: 1,
+        slots,
+        staged,
+    }
+}
+
+// The parent up to a size: from the stage where it has a copy there, else from the disk.
+pub fn parent_seen(place: Place, staged: [u8; 64], size: u64) -> Seen
+    ensures { λ r. ⌜ (spotsOf r ≡ tab 0 (size / 4096) (spotOf (place .slots) staged)) × (r .count ≡ size / 4096) ⌝ }
+{
+    let count = (size / Host::SECTOR) as usize;
+    let slots = place.slots;
+    Seen {
+        count,
+        slots,
+        staged,
+    }
+}
+
+// The committed sectors of a contract.
+pub fn committed_seen(place: Place) -> Seen
+    requires { ⌜ placeInOrder 4096 place ≡ true ⌝ }
+    ensures { λ r. ⌜ (spotsOf r ≡ committedSpots 4096 place) × (r .count ≤ 64) ⌝ }
+{
+    if !place.held {
+        return nothing();
+    }
+    let staged = [Progress::NONE; 64];
+    let size = place.size;
+    parent_seen(place, staged, size)
+}
+
+// Whether the sector in disk slot n has that root, all 32 bytes.
+fn has_root(disk: &[u8], n: usize, key: [u8; 32]) -> bool
+    requires { ⌜ holds 4096 (now disk) n ≡ true ⌝ }
+    ensures { λ r. ⌜ r ≡ same (sectorRoot 4096 (now (disk .entry)) [] (OnDisk n)) key ⌝ }
+{
+    let root = view::sector_root(disk, disk, Spot::OnDisk(n));
+    agrees(&root, &key)
+}
+
+// Whether two roots are the same, all bytes of both.
+fn agrees(one: &[u8], two: &[u8]) -> bool
+    ensures { λ r. ⌜ r ≡ same (now (one .entry)) (now (two .entry)) ⌝ }
+{
+    area::same(one, two)
+}
+
+// Slot i of those listed.
+fn slot_at(slots: &[u8], i: usize) -> u8
+    requires { ⌜ i < length (now slots) ⌝ }
+    ensures { λ r. ⌜ r ≡ getD (now (slots .entry)) i 0 ⌝ }
+{
+    slots[i]
+}
+
+// The first sector with that root, of those in the disk slots listed; no sector where none has it.
+fn first_root(disk: &[u8], slots: &[u8], key: [u8; 32]) -> Seen
+    requires { ⌜ every (holds 4096 (now disk)) (now slots) ≡ true ⌝ }
+    ensures { λ r. ⌜ (spotsOf r ≡ firstRoot 4096 (now (disk .entry)) key (each OnDisk (now (slots .entry)))) × (r .count ≤ 1) ⌝ }
+{
+    let mut i: usize = 0;
+    while i < slots.len() {
+        let n = slot_at(slots, i);
+        if has_root(disk, n as usize, key) {
+            return one(n);
+        }
+        i += 1;
+    }
+    nothing()
+}
+
+// The same, of the slots that an array lists.
+fn first_listed(disk: &[u8], all: Slots, key: [u8; 32]) -> Seen
+    requires { ⌜ all .count ≤ 512 ⌝ }
+    requires { ⌜ every (holds 4096 (now disk)) (listed all) ≡ true ⌝ }
+    ensures { λ r. ⌜ (spotsOf r ≡ firstRoot 4096 (now (disk .entry)) key (each OnDisk (listed all))) × (r .count ≤ 1) ⌝ }
+{
+    let items = all.items;
+    let count = all.count;
+    first_root(disk, &items[..count], key)
+}
+
+// The first committed sector with that root, by contract place, then position; no sector where none has it.
+pub fn find_root(disk: &[u8], places: [Place; 8], key: [u8; 32]) -> Seen
+    requires { ⌜ every (holds 4096 (now disk)) (taken 4096 places) ≡ true ⌝ }
+    ensures { λ r. ⌜ (spotsOf r ≡ firstRoot 4096 (now (disk .entry)) key (each OnDisk (taken 4096 places))) × (r .count ≤ 1) ⌝ }
+{
+    let all = host::slots_taken(places);
+    first_listed(disk, all, key)
+}
