@@ -1,13 +1,13 @@
--- `inputs::decode::size_args` meets its contract. Assumes nothing.
+-- `decoding::size_args` meets its contract. Assumes nothing.
 use mathlib.Core.Path.{sym, _∙_}
 use native.Mathlib.Omega.{arith}
 use Rattle.rules.specs.Inputs.{wellFormed}
 use Rattle.inputs.specs.Given.{inputAt, one}
 use Rattle.inputs.proofs.Laws.Given.{number-refused, size-accepted, refused, ends-within}
 use Rattle.sia.specs.declared.Op.the-variants.{Truncate}
 use borrow.Author.Needs.{needs}
-use Rattle.inputs.proofs.decode.size_args.Statement.{statement}
-use Rattle.inputs.proofs.decode.size_args.Tie as tie
+use Rattle.decoding.proofs.size_args.Statement.{statement}
+use Rattle.decoding.proofs.size_args.Tie as tie
 
 array-copy-out-one : tie.Need-array-copy-out-one
 array-copy-out-one c = search needs

@@ -1,17 +1,17 @@
--- `inputs::decode::decoded` meets its contract, arm by arm. Assumes nothing.
+-- `decoding::decoded` meets its contract, arm by arm. Assumes nothing.
 use mathlib.Core.Path.{sym, ap, _∙_}
 use mathlib.Core.List.{List}
 use Prim.Native.Nat.{ℕ}
 use Rattle.area.proofs.Laws.Pick.{never}
 use Rattle.rules.specs.Inputs.{known, operandsOf, inputsOf}
 use Rattle.inputs.specs.Given.{given, fromOf, dataFrom}
 use Rattle.inputs.proofs.Laws.Given.{count-right, reads-alike, swaps-alike, name-known, within-count, inputs-one, inputs-two, inputs-three}
 use Rattle.sia.specs.declared.Op.{Op}
 use Rattle.sia.specs.declared.Op.the-variants.{Read, ReadSector, Write, Copy, Swap, Truncate}
 use Rattle.sia.proofs.Laws.Known.{known-instruction}
 use borrow.Author.Needs.{needs}
-use Rattle.inputs.proofs.decode.decoded.Statement.{statement}
-use Rattle.inputs.proofs.decode.decoded.Tie as tie
+use Rattle.decoding.proofs.decoded.Statement.{statement}
+use Rattle.decoding.proofs.decoded.Tie as tie
 
 enum-told : tie.Need-enum-told
 enum-told c = search needs

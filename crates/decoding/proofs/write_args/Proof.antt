@@ -1,4 +1,4 @@
--- `inputs::decode::write_args` meets its contract: the two inputs in turn. Assumes nothing.
+-- `decoding::write_args` meets its contract: the two inputs in turn. Assumes nothing.
 use mathlib.Core.Path.{sym, _∙_}
 use native.Mathlib.Omega.{arith}
 use lib.ListN.{getD}
@@ -6,12 +6,12 @@ use Rattle.area.proofs.Laws.Pick.{both-not-left, both-not-right}
 use Rattle.area.proofs.Laws.Parts.{length-part}
 use Rattle.sia.specs.Empty.{noOperand}
 use Rattle.rules.specs.Inputs.{wellFormed}
 use Rattle.inputs.specs.Given.{inputAt, two}
 use Rattle.inputs.proofs.Laws.Given.{number-refused, data-refused, data-told, data-long, write-accepted, refused, ends-within}
 use Rattle.sia.specs.declared.Op.the-variants.{Write}
 use borrow.Author.Needs.{needs}
-use Rattle.inputs.proofs.decode.write_args.Statement.{statement}
-use Rattle.inputs.proofs.decode.write_args.Tie as tie
+use Rattle.decoding.proofs.write_args.Statement.{statement}
+use Rattle.decoding.proofs.write_args.Tie as tie
 
 array-copy-out-one : tie.Need-array-copy-out-one
 array-copy-out-one c = search needs

@@ -1,4 +1,4 @@
--- `inputs::decode::key_of` meets its contract: 32 bytes are laid over all of 32. Assumes nothing.
+-- `decoding::key_of` meets its contract: 32 bytes are laid over all of 32. Assumes nothing.
 use mathlib.Core.Path.{refl, sym, ap, _∙_}
 use mathlib.Core.Bool.{true}
 use mathlib.Core.List.{List}
@@ -9,10 +9,10 @@ use Rattle.area.proofs.Laws.Pick.{yes, no}
 use Rattle.area.proofs.Laws.Puts.{put-part}
 use Rattle.area.proofs.Laws.Parts.{part-whole}
 use Rattle.rules.specs.Inputs.{told, isKey}
 use Rattle.inputs.specs.Given.{keyOf}
 use borrow.Author.Needs.{needs}
-use Rattle.inputs.proofs.decode.key_of.Statement.{statement}
-use Rattle.inputs.proofs.decode.key_of.Tie as tie
+use Rattle.decoding.proofs.key_of.Statement.{statement}
+use Rattle.decoding.proofs.key_of.Tie as tie
 
 returns : tie.Need-returns
 unfolding keyOf isKey

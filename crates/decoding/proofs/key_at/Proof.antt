@@ -1,10 +1,10 @@
--- `inputs::decode::key_at` meets its contract. Assumes nothing.
+-- `decoding::key_at` meets its contract. Assumes nothing.
 use mathlib.Core.Path.{refl, ap, _∙_}
 use Rattle.area.proofs.Laws.Parts.{part-is}
 use Rattle.inputs.specs.Given.{keyOf}
 use borrow.Author.Needs.{needs}
-use Rattle.inputs.proofs.decode.key_at.Statement.{statement}
-use Rattle.inputs.proofs.decode.key_at.Tie as tie
+use Rattle.decoding.proofs.key_at.Statement.{statement}
+use Rattle.decoding.proofs.key_at.Tie as tie
 
 add-e : tie.Need-add-e
 add-e c = search needs

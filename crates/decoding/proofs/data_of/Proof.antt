@@ -1,13 +1,13 @@
--- `inputs::decode::data_of` meets its contract: fewer than 8 bytes, another count, or the length of the rest. Assumes nothing.
+-- `decoding::data_of` meets its contract: fewer than 8 bytes, another count, or the length of the rest. Assumes nothing.
 use mathlib.Core.Path.{refl}
 use borrow.Author.Tests.{lt-leb}
 use Rattle.area.proofs.Laws.Pick.{no, both-not-left}
 use Rattle.rules.specs.Inputs.{isData}
 use Rattle.inputs.specs.Given.{dataOf}
 use Rattle.inputs.proofs.Laws.Given.{data-other, data-right}
 use borrow.Author.Needs.{needs}
-use Rattle.inputs.proofs.decode.data_of.Statement.{statement}
-use Rattle.inputs.proofs.decode.data_of.Tie as tie
+use Rattle.decoding.proofs.data_of.Statement.{statement}
+use Rattle.decoding.proofs.data_of.Tie as tie
 
 returns : tie.Need-returns
 unfolding dataOf isData

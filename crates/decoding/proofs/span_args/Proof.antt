@@ -1,14 +1,14 @@
--- `inputs::decode::span_args` meets its contract: the three inputs in turn. Assumes nothing.
+-- `decoding::span_args` meets its contract: the three inputs in turn. Assumes nothing.
 use mathlib.Core.Path.{sym, _∙_}
 use native.Mathlib.Omega.{arith}
 use Rattle.area.proofs.Laws.Pick.{both-not-left, both-not-right}
 use Rattle.rules.specs.Inputs.{wellFormed}
 use Rattle.inputs.specs.Given.{inputAt, three}
 use Rattle.inputs.proofs.Laws.Given.{number-refused, span-accepted, refused, ends-within}
 use Rattle.sia.specs.declared.Op.the-variants.{Copy}
 use borrow.Author.Needs.{needs}
-use Rattle.inputs.proofs.decode.span_args.Statement.{statement}
-use Rattle.inputs.proofs.decode.span_args.Tie as tie
+use Rattle.decoding.proofs.span_args.Statement.{statement}
+use Rattle.decoding.proofs.span_args.Tie as tie
 
 array-copy-out-one : tie.Need-array-copy-out-one
 array-copy-out-one c = search needs

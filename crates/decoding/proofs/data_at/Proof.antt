@@ -1,10 +1,10 @@
--- `inputs::decode::data_at` meets its contract. Assumes nothing.
+-- `decoding::data_at` meets its contract. Assumes nothing.
 use mathlib.Core.Path.{refl, ap, _∙_}
 use Rattle.area.proofs.Laws.Parts.{part-is}
 use Rattle.inputs.specs.Given.{dataOf}
 use borrow.Author.Needs.{needs}
-use Rattle.inputs.proofs.decode.data_at.Statement.{statement}
-use Rattle.inputs.proofs.decode.data_at.Tie as tie
+use Rattle.decoding.proofs.data_at.Statement.{statement}
+use Rattle.decoding.proofs.data_at.Tie as tie
 
 add-e : tie.Need-add-e
 add-e c = search needs

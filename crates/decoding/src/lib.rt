@@ -1,6 +1,8 @@
-// The inputs of an instruction. An operand selects a part of the input area, which is passed on to the decoder of its kind.
-use crate::Args;
-use crate::Given;
+// What an instruction's inputs say, and check 23. An operand selects a part of the input area, which is passed on to the decoder of its kind.
+// These are inner functions: what they require, their callers prove.
+use inputs::Args;
+use inputs::Given;
+use inputs::Key;
 use sia::Instruction;
 use sia::Number;
 use sia::Op;
@@ -15,14 +17,8 @@ ghost use Rattle.sia.specs.Number.{number};
 ghost use Rattle.sia.specs.declared.Op.the-variants.{Read, Write, Copy, Truncate};
 ghost use Rattle.host.specs.Lists.{some};
 ghost use Rattle.rules.specs.Inputs.{illFormed, pastEnd, inputsOf};
 ghost use Rattle.inputs.specs.Ends.{endsPast};
-ghost use Rattle.inputs.specs.Given.{keyOf, dataOf, noArgs, malformed, given, one, two, three, dataFrom, fromOf};
-
-// What 32 bytes are: an id or a root. Of other lengths nothing is told.
-pub struct Key {
-    pub told: bool,
-    pub bytes: [u8; 32],
-}
+ghost use Rattle.inputs.specs.Given.{keyOf, dataOf, given, one, two, three, dataFrom, fromOf};
 
 // The id or root that a part of an input is.
 fn key_of(part: &[u8]) -> Key
@@ -79,31 +75,6 @@ fn data_at(input: &[u8], o: Operand) -> Number
     let a = o.offset as usize;
     let e = a + o.len as usize;
     data_of(&input[a..e])
-}
-
-impl Given {
-    // 23, with no arguments.
-    fn malformed() -> Given
-        ensures { λ r. ⌜ r ≡ malformed ⌝ }
-    {
-        let args = Args::none();
-        Given { told: false, args }
-    }
-}
-
-impl Args {
-    pub fn none() -> Args
-        ensures { λ r. ⌜ r ≡ noArgs ⌝ }
-    {
-        let key = [0u8; 32];
-        Args {
-            key,
-            first: 0,
-            second: 0,
-            len: 0,
-            from: 0,
-        }
-    }
 }
 
 // Of Read and ReadSector: contract or root, offset, length.

@@ -1,15 +1,15 @@
--- `inputs::decode::read_args` meets its contract: the three inputs in turn. Assumes nothing.
+-- `decoding::read_args` meets its contract: the three inputs in turn. Assumes nothing.
 use mathlib.Core.Path.{sym, _∙_}
 use native.Mathlib.Omega.{arith}
 use borrow.Author.Tests.{not-true, not-false}
 use Rattle.area.proofs.Laws.Pick.{both-not-left, both-not-right}
 use Rattle.rules.specs.Inputs.{wellFormed}
 use Rattle.inputs.specs.Given.{inputAt, three}
 use Rattle.inputs.proofs.Laws.Given.{key-told, number-refused, read-accepted, refused, ends-within}
 use Rattle.sia.specs.declared.Op.the-variants.{Read}
 use borrow.Author.Needs.{needs}
-use Rattle.inputs.proofs.decode.read_args.Statement.{statement}
-use Rattle.inputs.proofs.decode.read_args.Tie as tie
+use Rattle.decoding.proofs.read_args.Statement.{statement}
+use Rattle.decoding.proofs.read_args.Tie as tie
 
 array-copy-out-one : tie.Need-array-copy-out-one
 array-copy-out-one c = search needs

@@ -1,10 +1,10 @@
--- `inputs::decode::number_at` meets its contract. Assumes nothing.
+-- `decoding::number_at` meets its contract. Assumes nothing.
 use mathlib.Core.Path.{refl, ap, _∙_}
 use Rattle.area.proofs.Laws.Parts.{part-is}
 use Rattle.sia.specs.Number.{number}
 use borrow.Author.Needs.{needs}
-use Rattle.inputs.proofs.decode.number_at.Statement.{statement}
-use Rattle.inputs.proofs.decode.number_at.Tie as tie
+use Rattle.decoding.proofs.number_at.Statement.{statement}
+use Rattle.decoding.proofs.number_at.Tie as tie
 
 add-e : tie.Need-add-e
 add-e c = search needs
