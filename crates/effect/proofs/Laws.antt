@@ -1,7 +1,3 @@
 -- The laws, a file for each subject.
-pub mod Slots
-pub mod Copies
-pub mod Kept
-pub mod Spans
 pub mod Cases
 pub mod Passed

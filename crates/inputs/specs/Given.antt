@@ -16,7 +16,7 @@ use Rattle.sia.specs.declared.Op.{Op}
 use Rattle.sia.specs.declared.Op.the-variants.{Read, ReadSector, Write, Copy, Swap, Truncate, Unknown}
 use Rattle.inputs.specs.declared.Args.{Args}
 use Rattle.inputs.specs.declared.Given.{Given}
-use Rattle.inputs.specs.declared.decode.Key.{Key}
+use Rattle.inputs.specs.declared.Key.{Key}
 
 -- the input that operand k names
 abbrev pub inputAt : List ℕ → List Operand → ℕ → List ℕ

@@ -1,10 +1,11 @@
-// An instruction's inputs: whether it is well-formed, how many bytes it needs, and what the bytes that it names say.
+// An instruction's inputs: whether it is well-formed, and how many bytes it needs. Crate decoding tells what the bytes that it names say.
 // These are inner functions: what they require, their callers prove.
-mod decode; // decode.rt: what the inputs say, and check 23
+ghost use mathlib.Core.Path.{_≡_};
+ghost use Rattle.inputs.specs.Given.{noArgs, malformed};
+
 mod operands; // operands.rt: checks 21 and 22, and the need
 mod sums; // sums.rt: a sum against a limit
 
-pub use decode::decoded;
 pub use operands::ill_formed;
 pub use operands::need;
 pub use operands::past_end;
@@ -20,8 +21,39 @@ pub struct Args {
     pub from: u64,
 }
 
+impl Args {
+    pub fn none() -> Args
+        ensures { λ r. ⌜ r ≡ noArgs ⌝ }
+    {
+        let key = [0u8; 32];
+        Args {
+            key,
+            first: 0,
+            second: 0,
+            len: 0,
+            from: 0,
+        }
+    }
+}
+
 // The decoder's answer: the arguments, or nothing told, which is 23.
 pub struct Given {
     pub told: bool,
     pub args: Args,
+}
+
+impl Given {
+    // 23, with no arguments.
+    pub fn malformed() -> Given
+        ensures { λ r. ⌜ r ≡ malformed ⌝ }
+    {
+        let args = Args::none();
+        Given { told: false, args }
+    }
+}
+
+// What 32 bytes are: an id or a root. Of other lengths nothing is told.
+pub struct Key {
+    pub told: bool,
+    pub bytes: [u8; 32],
 }

@@ -2,11 +2,11 @@
 use crate::Plan;
 use crate::lookup::no_sectors;
 use crate::lookup::source_of;
+use decoding::decoded;
 use host::Place;
 use host::Progress;
 use host::Terms;
 use inputs::Args;
-use inputs::decoded;
 use inputs::ill_formed;
 use inputs::past_end;
 use judging::judge::weighed;

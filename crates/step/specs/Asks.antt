@@ -13,8 +13,8 @@ use Rattle.rules.specs.Plan.{reads}
 use Rattle.rules.specs.Run.{going}
 use Rattle.rules.specs.Facts.{Solid, Good}
 use Rattle.view.specs.Seen.{holds, lies}
-use Rattle.effect.specs.Parts.{ground, staging, args}
-use Rattle.effect.specs.Asks as Effect
+use Rattle.staging.specs.Parts.{ground, staging, args}
+use Rattle.staging.specs.Asks as Effect
 use Rattle.records.specs.Shown.{Shows}
 use Rattle.step.specs.Ran.{stageAfter, progressAfter}
 use Rattle.host.specs.declared.Place.{Place}

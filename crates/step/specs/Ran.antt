@@ -10,7 +10,7 @@ use Rattle.rules.specs.Plan.{reads}
 use Rattle.rules.specs.Effect.{Staging, effect}
 use Rattle.rules.specs.Record.{recordBytes}
 use Rattle.rules.specs.Run.{ranProgress}
-use Rattle.effect.specs.Parts.{ground, staging, args}
+use Rattle.staging.specs.Parts.{ground, staging, args}
 use Rattle.records.specs.Front.{pair}
 use Rattle.records.specs.Shown.{shownProof, shownBytes}
 use Rattle.host.specs.declared.Place.{Place}

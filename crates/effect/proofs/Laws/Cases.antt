@@ -11,8 +11,8 @@ use Rattle.rules.specs.Inputs.{Args}
 use Rattle.rules.specs.Effect.{Ground, Staging, newCopy, resized, effect}
 use Rattle.sia.specs.declared.Op.{Op}
 use Rattle.sia.specs.declared.Op.the-variants.{Read, ReadSector, Write, Copy, Swap, Truncate, Unknown}
-use Rattle.effect.specs.Parts.{alone, args}
-use Rattle.effect.specs.Asks.{Lent, Sized}
+use Rattle.staging.specs.Parts.{alone, args}
+use Rattle.staging.specs.Asks.{Lent, Sized}
 
 -- the code's arm
 pub arm : {x : Staging} {op known : Op} (z : ℕ) (e : Ground) (size : ℕ) (a : Args) (g : Staging) → op ≡ known → x ≡ effect z e size known a g

@@ -23,10 +23,10 @@ use Rattle.rules.proofs.Laws.Spots.{unstaged, committed-slot}
 use Rattle.sia.specs.declared.Op.{Op}
 use Rattle.sia.specs.declared.Op.the-variants.{Write, Copy, Swap, Truncate}
 use Rattle.host.specs.declared.Progress.{Progress}
-use Rattle.effect.specs.Parts.{ground, staging, args}
-use Rattle.effect.specs.Asks.{bare, Lent, Lies, From, Over, Two, Sized, Stands}
-use Rattle.effect.proofs.Laws.Slots.{slot-ends}
-use Rattle.effect.proofs.Laws.Kept.{lies-copied}
+use Rattle.staging.specs.Parts.{ground, staging, args}
+use Rattle.staging.specs.Asks.{bare, Lent, Lies, From, Over, Two, Sized, Stands}
+use Rattle.staging.proofs.Laws.Slots.{slot-ends}
+use Rattle.staging.proofs.Laws.Kept.{lies-copied}
 use Rattle.effect.proofs.Laws.Cases.{effect-args}
 
 -- what `badSpan` rules out

@@ -26,7 +26,7 @@ use Rattle.inputs.specs.Ends.{endsPast}
 use Rattle.inputs.specs.Given.{inputAt, one, two, three, keyOf, dataOf, placed, malformed, given, dataFrom, fromOf, bytesGiven, argsGiven}
 use Rattle.inputs.specs.declared.Args.{Args}
 use Rattle.inputs.specs.declared.Given.{Given}
-use Rattle.inputs.specs.declared.decode.Key.{Key}
+use Rattle.inputs.specs.declared.Key.{Key}
 
 -- ---- keys
 

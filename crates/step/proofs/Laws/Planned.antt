@@ -32,8 +32,8 @@ use Rattle.rules.proofs.Laws.Steps.{not-failed, left-going}
 use Rattle.view.specs.Seen.{lies, spotsOf, Lies, Inside, Ranged}
 use Rattle.view.proofs.Laws.Roots.{seen-count}
 use Rattle.view.proofs.Callers.{every-lies, seen-valid, span-inside, range-ranged, span-output, proof-room}
-use Rattle.effect.specs.Parts.{ground, staging, args}
-use Rattle.effect.specs.Asks as Effect
+use Rattle.staging.specs.Parts.{ground, staging, args}
+use Rattle.staging.specs.Asks as Effect
 use Rattle.effect.proofs.Laws.Passed.{stands-with, effect-with}
 use Rattle.inputs.specs.Given.{placed, fromOf, argsGiven, bytesGiven}
 use Rattle.plan.specs.Planned.{Said, said, failed, runs, planOf}

@@ -1,0 +1,40 @@
+// Truncate: what a change of size does to the stage.
+// These are inner functions: what they require, their callers prove.
+ghost use mathlib.Core.Path.{_≡_};
+ghost use Prim.Native.Nat.{_<_};
+ghost use Rattle.rules.specs.Effect as Says;
+ghost use Rattle.staging.specs.Parts.{alone, staging, grown};
+ghost use Rattle.staging.specs.Asks.{Lent, Free, Sized};
+use host::Progress;
+
+const SECTOR: usize = 4096;
+
+// Position `at` in the lowest free slot, with zeros.
+fn new_zeros(copies: u64, staged: [u8; 64], stage: &mut [u8], at: usize) -> [u8; 64]
+    requires { ⌜ Lent 4096 (alone copies) (staging staged (now stage)) ⌝ }
+    requires { ⌜ Free (alone copies) (staging staged (now stage)) ⌝ }
+    requires { ⌜ at < 64 ⌝ }
+    ensures { λ r. ⌜ staging r (now (stage .exit)) ≡ grown 4096 (alone copies) at (staging staged (now (stage .entry))) ⌝ }
+{
+    let slot = host::free_copy(copies, staged);
+    area::fill(stage, slot as usize * SECTOR, SECTOR, 0);
+    let mut after = staged;
+    after[at] = slot as u8;
+    after
+}
+
+// A sector of zeros is added, or the last one is dropped and its slot is free again.
+pub fn resized(copies: u64, staged: [u8; 64], stage: &mut [u8], size: usize, new: usize) -> [u8; 64]
+    requires { ⌜ Lent 4096 (alone copies) (staging staged (now stage)) ⌝ }
+    requires { ⌜ Sized 4096 (alone copies) (staging staged (now stage)) size new ⌝ }
+    ensures { λ r. ⌜ staging r (now (stage .exit)) ≡ Says.resized 4096 (alone copies) size new (staging staged (now (stage .entry))) ⌝ }
+{
+    if size < new {
+        return new_zeros(copies, staged, stage, size / SECTOR);
+    }
+    let mut after = staged;
+    if new < size {
+        after[new / SECTOR] = Progress::NONE;
+    }
+    after
+}

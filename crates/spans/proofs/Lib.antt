@@ -1,0 +1,2 @@
+-- The laws that tie the code to the definitions.
+pub mod Laws
