@@ -2,20 +2,9 @@
 // is made.
 ghost use Prim.Native.Nat.{_+_, _≤_, _<_};
 ghost use lib.ListN.{length};
-use crate::pokes;
 use host::Host;
 use host::Prices;
-
-// What an item answered, and the host that it left; `root` is shown for `reached` alone, whose size stands for the tally.
-pub struct Made {
-    pub fine: bool,
-    pub number: u64,
-    pub tally: u64,
-    pub growth: i64,
-    pub rooted: bool,
-    pub root: [u8; 32],
-    pub host: Host,
-}
+use reports::Made;
 
 fn malformed(host: Host) -> Made {
     let root = [0u8; 32];

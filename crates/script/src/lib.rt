@@ -6,8 +6,6 @@ ghost use Prim.Native.Nat.{_≤_};
 ghost use lib.ListN.{length};
 
 mod items; // items.rt: each kind of item, and its call
-mod pokes; // pokes.rt: a number put into the host's record
-mod reports; // reports.rt: the bytes of a report
 mod shapes; // shapes.rt: where an item ends
 
 use host::Host;

@@ -1,10 +1,10 @@
--- `script::reports::slots` is safe and ends: after i slots at most 8 × i bytes are written. Assumes nothing.
+-- `reports::slots` is safe and ends: after i slots at most 8 × i bytes are written. Assumes nothing.
 use Prim.Native.Nat.{_+_, _*_, _-_, _≤_}
 use mathlib.Core.Path.{_≡_}
 use borrow.Author.Needs.{needs}
 use lib.ListN.{length}
-use Rattle.script.proofs.reports.slots.Statement.{statement}
-use Rattle.script.proofs.reports.slots.Tie as tie
+use Rattle.reports.proofs.slots.Statement.{statement}
+use Rattle.reports.proofs.slots.Tie as tie
 
 abbrev Inv-loop : tie.InvT-loop
 Inv-loop n report₀ at list end₀ i₀ report end i = (length report ≡ length report₀) × (i ≤ n) × (end ≡ at + 8 * i)

@@ -1,10 +1,10 @@
--- `script::reports::all_places` is safe and ends: after i places at most 560 × i bytes are written. Assumes nothing.
+-- `reports::all_places` is safe and ends: after i places at most 560 × i bytes are written. Assumes nothing.
 use Prim.Native.Nat.{_+_, _*_, _-_, _≤_}
 use mathlib.Core.Path.{_≡_}
 use borrow.Author.Needs.{needs}
 use lib.ListN.{length}
-use Rattle.script.proofs.reports.all_places.Statement.{statement}
-use Rattle.script.proofs.reports.all_places.Tie as tie
+use Rattle.reports.proofs.all_places.Statement.{statement}
+use Rattle.reports.proofs.all_places.Tie as tie
 
 abbrev Inv-loop : tie.InvT-loop
 Inv-loop report₀ at places end₀ i₀ report end i = (length report ≡ length report₀) × (i ≤ 8) × (end ≤ at + 560 * i)

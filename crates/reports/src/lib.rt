@@ -1,11 +1,22 @@
-// The bytes of a report: the answer, the host, and digests of the whole areas. Each function writes from `at` on, and answers where it ended.
+// The bytes of a report on an item of a script: the answer, the host, and digests of the whole areas. Each function writes from `at` on, and
+// answers where it ended. An inner crate: its caller proves what it requires.
 ghost use mathlib.Core.Path.{_≡_};
 ghost use Prim.Native.Nat.{_+_, _*_, _≤_};
 ghost use lib.ListN.{length};
-use crate::items::Made;
 use host::Host;
 use host::Place;
 use host::Program;
+
+// What an item answered, and the host that it left; `root` is shown for `reached` alone, whose size stands for the tally.
+pub struct Made {
+    pub fine: bool,
+    pub number: u64,
+    pub tally: u64,
+    pub growth: i64,
+    pub rooted: bool,
+    pub root: [u8; 32],
+    pub host: Host,
+}
 
 // A report at the front of an area; answers its length.
 pub fn write(

@@ -1,10 +1,10 @@
--- `script::reports::complement` is safe: a negative number's distance from -1 is a count. Assumes nothing.
+-- `reports::complement` is safe: a negative number's distance from -1 is a count. Assumes nothing.
 use borrow.Author.Needs.{needs}
 use native.Mathlib.Omega.{arith}
 use mir.Facts.{sfits-toZ, fits-ofZ}
-use Rattle.script.proofs.Laws.Signed.{away, counted, kept}
-use Rattle.script.proofs.reports.complement.Statement.{statement}
-use Rattle.script.proofs.reports.complement.Tie as tie
+use Rattle.reports.proofs.Laws.Signed.{away, counted, kept}
+use Rattle.reports.proofs.complement.Statement.{statement}
+use Rattle.reports.proofs.complement.Tie as tie
 
 sub-result : tie.Need-sub-result
 sub-result c = away _ (sfits-toZ (fits-ofZ (c .before .fits .n))) (c .if1 .taken)
