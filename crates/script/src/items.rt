@@ -85,7 +85,7 @@ fn fresh(
     let sectors = area::load(item, 1);
     let copies = area::load(item, 9);
     let byte = item[17];
-    let made = machine::fresh(sectors, copies);
+    let made = forming::fresh(sectors, copies);
     area::fill(disk, 0, disk.len(), byte);
     area::fill(stage, 0, stage.len(), byte);
     area::fill(input, 0, input.len(), byte);
@@ -99,7 +99,7 @@ fn form(item: &[u8], host: Host) -> Made {
         return malformed(host);
     }
     let id = bytes_at(item, 1);
-    let made = machine::form(host, id);
+    let made = forming::form(host, id);
     let after = made.host;
     answered(made.number, 0, 0, after)
 }
@@ -109,7 +109,7 @@ fn drop(item: &[u8], host: Host) -> Made {
         return malformed(host);
     }
     let id = bytes_at(item, 1);
-    let made = machine::drop(host, id);
+    let made = forming::drop(host, id);
     let after = made.host;
     answered(made.number, 0, 0, after)
 }
@@ -161,7 +161,7 @@ fn open(item: &[u8], host: Host) -> Made {
     let room = area::load(item, 1);
     let budget = area::load(item, 9);
     let prices = prices_of(item);
-    let made = machine::open(host, &item[81..], budget, prices, room);
+    let made = opening::open(host, &item[81..], budget, prices, room);
     let after = made.host;
     answered(made.number, made.tally, 0, after)
 }
@@ -200,7 +200,7 @@ fn piece(
     let copies = s as usize;
     let data = i as usize;
     let room = o as usize;
-    let made = machine::piece(
+    let made = taking::piece(
         host,
         &disk[0..sectors],
         &mut stage[0..copies],
@@ -227,7 +227,7 @@ fn interrupt(item: &[u8], host: Host, disk: &[u8], output: &mut [u8]) -> Made {
     }
     let sectors = d as usize;
     let room = o as usize;
-    let made = machine::interrupt(host, &disk[0..sectors], &mut output[0..room]);
+    let made = taking::interrupt(host, &disk[0..sectors], &mut output[0..room]);
     let after = made.host;
     answered(made.number, made.tally, 0, after)
 }
@@ -274,7 +274,7 @@ fn close(
     }
     let sectors = d as usize;
     let copies = s as usize;
-    let made = machine::close(
+    let made = closing::close(
         host,
         &mut disk[0..sectors],
         &stage[0..copies],
@@ -301,7 +301,7 @@ fn reached<'a>(item: &[u8], host: Host, disk: &'a [u8], stage: &'a [u8]) -> Made
     }
     let sectors = d as usize;
     let copies = s as usize;
-    let made = machine::reached(host, &disk[0..sectors], &stage[0..copies]);
+    let made = taking::reached(host, &disk[0..sectors], &stage[0..copies]);
     let root = made.root;
     Made {
         fine: true,

@@ -25,7 +25,7 @@ pub struct Played {
 
 // The host of a refused fresh, which stands before the first item.
 pub fn no_host() -> Host {
-    let made = machine::fresh(0, 0);
+    let made = forming::fresh(0, 0);
     made.host
 }
 

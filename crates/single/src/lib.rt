@@ -5,7 +5,7 @@ ghost use Rattle.single.specs.Single as Says;
 ghost use Rattle.single.specs.Single.{leaves};
 ghost use Rattle.single.specs.Input.{answered};
 
-mod forming; // forming.rt: contracts formed in turn
+mod contracts; // contracts.rt: contracts formed in turn
 mod playing; // playing.rt: opening, the piece and the close
 mod reading; // reading.rt: the whole input in its bytes
 
@@ -37,12 +37,12 @@ pub fn run(
     ensures { λ r. ⌜ leaves r (now (disk .exit)) (now (stage .exit)) (now (input .exit)) (now (output .exit)) ≡
         Says.run 4096 prices budget (now (ids .entry)) (now (head .entry)) (now (bytes .entry)) (now (disk .entry)) (now (stage .entry)) (now (input .entry)) (now (output .entry)) ⌝ }
 {
-    let fresh = machine::fresh(disk.len() as u64, stage.len() as u64);
+    let fresh = forming::fresh(disk.len() as u64, stage.len() as u64);
     let empty = fresh.host;
     if fresh.number != 0 {
         return playing::refused(fresh.number, empty);
     }
-    let formed = forming::form_in_turn(empty, ids);
+    let formed = contracts::form_in_turn(empty, ids);
     let ready = formed.host;
     if formed.number != 0 {
         return playing::refused(formed.number, ready);
@@ -72,7 +72,7 @@ pub fn answer(
         answered 4096 (now (all .entry)) (now (disk .entry)) (now (stage .entry)) (now (input .entry)) (now (output .entry)) ⌝ }
 {
     if reading::wrong(all) {
-        let fresh = machine::fresh(disk.len() as u64, stage.len() as u64);
+        let fresh = forming::fresh(disk.len() as u64, stage.len() as u64);
         let empty = fresh.host;
         return playing::refused(9, empty);
     }

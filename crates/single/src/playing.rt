@@ -5,9 +5,9 @@ ghost use Rattle.closing.specs.Asks.{closeLeaves};
 ghost use Rattle.single.specs.Single as Says;
 ghost use Rattle.single.specs.Single.{leaves, ended, given, begun};
 use crate::Outcome;
+use closing::Closing;
 use host::Host;
 use host::Prices;
-use machine::Closing;
 
 // A refusal shows no record.
 pub fn refused(number: u64, host: Host) -> Outcome
@@ -26,9 +26,9 @@ fn finish(host: Host, disk: &mut [u8], stage: &[u8]) -> Closing
 {
     let program = host.program;
     let progress = program.progress;
-    let pair = machine::reached(host, &*disk, stage);
+    let pair = taking::reached(host, &*disk, stage);
     let root = pair.root;
-    machine::close(host, disk, stage, !progress.failed, pair.size, root)
+    closing::close(host, disk, stage, !progress.failed, pair.size, root)
 }
 
 // The records that a close shows: none where it is refused.
@@ -67,7 +67,7 @@ fn give(
     let terms = program.terms;
     let head = terms.head;
     let n = least(head.length, input.len());
-    let taken = machine::piece(host, &*disk, stage, &mut input[0..n], output, bytes);
+    let taken = taking::piece(host, &*disk, stage, &mut input[0..n], output, bytes);
     let after = taken.host;
     if taken.number != 0 {
         return refused(taken.number, after);
@@ -98,7 +98,7 @@ pub fn begin(
     ensures { λ r. ⌜ leaves r (now (disk .exit)) (now (stage .exit)) (now (input .exit)) (now (output .exit)) ≡
         begun 4096 host prices budget (now (head .entry)) (now (bytes .entry)) (now (disk .entry)) (now (stage .entry)) (now (input .entry)) (now (output .entry)) ⌝ }
 {
-    let opened = machine::open(host, head, budget, prices, output.len() as u64);
+    let opened = opening::open(host, head, budget, prices, output.len() as u64);
     let after = opened.host;
     if opened.number != 0 {
         return refused(opened.number, after);

@@ -1,4 +1,4 @@
--- `single::forming::form_in_turn` meets its contract. The loop's invariant: what all ids come to is what those come to that are left, on the
+-- `single::contracts::form_in_turn` meets its contract. The loop's invariant: what all ids come to is what those come to that are left, on the
 -- host that was made so far. Assumes nothing.
 use mathlib.Core.Path.{_≡_, sym, ap, _∙_}
 use Prim.Native.Nat.{ℕ, _-_, _*_, _/_}
@@ -10,8 +10,8 @@ use Rattle.host.specs.Calls.{formed}
 use Rattle.single.specs.Single.{idsIn, formedInTurn}
 use Rattle.single.proofs.Laws.Turns.{turn-refused, turn-formed, turn-none}
 use borrow.Author.Needs.{needs}
-use Rattle.single.proofs.forming.form_in_turn.Statement.{statement}
-use Rattle.single.proofs.forming.form_in_turn.Tie as tie
+use Rattle.single.proofs.contracts.form_in_turn.Statement.{statement}
+use Rattle.single.proofs.contracts.form_in_turn.Tie as tie
 
 abbrev Inv-loop : tie.InvT-loop
 Inv-loop ids n made₀ i₀ made i = formedInTurn 4096 made₀ (tab 0 n (λ k. part ids (k * 32) 32)) ≡ formedInTurn 4096 made (tab i (n - i) (λ k. part ids (k * 32) 32))

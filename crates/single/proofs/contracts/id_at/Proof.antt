@@ -1,9 +1,9 @@
--- `single::forming::id_at` meets its contract: 32 bytes over 32 zeros. Assumes nothing.
+-- `single::contracts::id_at` meets its contract: 32 bytes over 32 zeros. Assumes nothing.
 use mathlib.Core.Path.{refl}
 use Rattle.area.proofs.Laws.Puts.{put-part}
 use borrow.Author.Needs.{needs}
-use Rattle.single.proofs.forming.id_at.Statement.{statement}
-use Rattle.single.proofs.forming.id_at.Tie as tie
+use Rattle.single.proofs.contracts.id_at.Statement.{statement}
+use Rattle.single.proofs.contracts.id_at.Tie as tie
 
 slice-aggregate-copy-between : tie.Need-slice-aggregate-copy-between
 slice-aggregate-copy-between c = search needs

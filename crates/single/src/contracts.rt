@@ -29,7 +29,7 @@ pub fn form_in_turn(host: Host, ids: &[u8]) -> Answer
     let mut i: usize = 0;
     while i < n {
         let id = id_at(ids, i * ID);
-        let formed = machine::form(made, id);
+        let formed = forming::form(made, id);
         if formed.number != 0 {
             return formed;
         }
