@@ -60,7 +60,7 @@ pub fn fits(field: u64, i: u64, j: u64, value: u64) -> bool {
     value <= most(field)
 }
 
-pub fn low8(n: u64) -> u8 {
+fn low8(n: u64) -> u8 {
     (n % 256) as u8
 }
 
