@@ -1,6 +1,5 @@
 //! A plain scalar BLAKE2b in Rust, and the timing: what the benchmarks compare the proved code with. RFC 7693 with its rounds unrolled,
 //! since that is the quicker of the plain forms.
-use std::time::Instant;
 
 const IV: [u64; 8] = [
     0x6A09E667F3BCC908, 0xBB67AE8584CAA73B, 0x3C6EF372FE94F82B, 0xA54FF53A5F1D36F1,
@@ -105,17 +104,32 @@ pub fn blake2b(key: &[u8], message: &[u8], out: &mut [u8]) {
     out.copy_from_slice(&all[..out.len()]);
 }
 
-/// The least time of `turns` turns of each, in nanoseconds; they take turns.
-pub fn least(turns: usize, mut a: impl FnMut(), mut b: impl FnMut()) -> (f64, f64) {
-    let (mut x, mut y) = (f64::MAX, f64::MAX);
-    for _ in 0..turns {
-        let s = Instant::now();
-        a();
-        x = x.min(s.elapsed().as_nanos() as f64);
-        let s = Instant::now();
-        b();
-        y = y.min(s.elapsed().as_nanos() as f64);
-    }
-    (x, y)
+#[repr(C)]
+struct Timespec {
+    seconds: i64,
+    nanoseconds: i64,
 }
 
+extern "C" {
+    fn clock_gettime(clock: i32, time: *mut Timespec) -> i32;
+}
+
+/// The processor time of this thread, in nanoseconds: a turn in which another process had the core is not longer for it.
+fn now() -> f64 {
+    let mut t = Timespec { seconds: 0, nanoseconds: 0 };
+    assert_eq!(unsafe { clock_gettime(3, &mut t) }, 0);
+    t.seconds as f64 * 1e9 + t.nanoseconds as f64
+}
+
+/// The least processor time of `turns` turns of each side, in nanoseconds; the sides take turns.
+pub fn least(turns: usize, sides: &mut [&mut dyn FnMut()]) -> Vec<f64> {
+    let mut best = vec![f64::MAX; sides.len()];
+    for _ in 0..turns {
+        for (side, least) in sides.iter_mut().zip(&mut best) {
+            let start = now();
+            side();
+            *least = least.min(now() - start);
+        }
+    }
+    best
+}

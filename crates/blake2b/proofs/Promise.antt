@@ -1,22 +1,15 @@
 -- The promise to the layers above: a digest is as long as was asked for, and its elements are bytes. Assumes nothing.
-use mathlib.Core.Path.{_≡_, refl, sym, ap, _∙_, subst}
+use mathlib.Core.Path.{sym, ap, _∙_, subst}
 use mathlib.Core.List.{List, [], _∷_}
-use Prim.Native.Nat.{ℕ, zero, suc, _+_}
+use Prim.Native.Nat.{ℕ}
 use native.Mathlib.Omega.{arith}
-use lib.ListN.{length, take, drop}
+use lib.ListN.{length, take}
 use lib.Seq.{length-take-le}
 use Rattle.area.specs.Little.{Bytes, bytesOf}
 use Rattle.area.proofs.Laws.Little.{bytes-below, append-below, take-below}
-use Rattle.compression.specs.Compression.{F, words}
-use Rattle.blake2b.specs.Blake2b.{bytes, keyed, before, start, absorbed, finished, blake2b, opened}
+use Rattle.blake2b.specs.Blake2b.{bytes, keyed, before, start, finished, blake2b, opened}
 use Rattle.blake2b.specs.Promise.{Digest}
-use Rattle.blake2b.proofs.Laws.Data.{length-state}
-
--- whatever the data, the state at the end is eight words
-length-absorbed : (n t : ℕ) (d h : List ℕ) → length (absorbed n t d h) ≡ 8
-unfolding absorbed F
-length-absorbed zero t d h = refl
-length-absorbed (suc n) t d h = length-absorbed n (t + 128) (drop 128 d) (F h (words (take 128 d)) (t + 128) _)
+use Rattle.blake2b.proofs.Laws.Data.{length-absorbed, length-state}
 
 state-below : (h : List ℕ) → Bytes (bytes h)
 unfolding bytes Bytes

@@ -1,4 +1,4 @@
--- BLAKE2b as RFC 7693 has it, in its order and letters, on numbers and lists of them, from its compression function F (crate compression); a
+-- BLAKE2b as RFC 7693 has it, in its order and letters, on numbers and lists of them, from its compression function F (Compression.antt); a
 -- number in parentheses is a section of the RFC. bb, the block's bytes, is 128. Assumes nothing.
 use mathlib.Core.Path.{_≡_, refl}
 use mathlib.Core.Bool.{true, false}
@@ -8,7 +8,7 @@ use lib.ListN.{length, getD, set, take, drop}
 use lib.Bits.{bitXor}
 use Rattle.area.specs.Area.{zeros}
 use Rattle.area.specs.Little.{bytesOf}
-use Rattle.compression.specs.Compression.{IV, words, F}
+use Rattle.blake2b.specs.Compression.{IV, words, F}
 
 -- (2.4) the bytes of words
 unfoldable pub bytes : List ℕ → List ℕ

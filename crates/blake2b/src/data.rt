@@ -3,15 +3,16 @@ ghost use mathlib.Core.Path.{_≡_};
 ghost use Prim.Native.Nat.{_≤_};
 ghost use lib.ListN.{length, take};
 ghost use Rattle.blake2b.specs.Blake2b as RFC;
-use compression::IV0;
-use compression::IV1;
-use compression::IV2;
-use compression::IV3;
-use compression::IV4;
-use compression::IV5;
-use compression::IV6;
-use compression::IV7;
-use compression::compress;
+use crate::compression::IV0;
+use crate::compression::IV1;
+use crate::compression::IV2;
+use crate::compression::IV3;
+use crate::compression::IV4;
+use crate::compression::IV5;
+use crate::compression::IV6;
+use crate::compression::IV7;
+use crate::compression::compress;
+use crate::compression::words;
 
 // The state at the start, for a digest of nn bytes and a key of kk.
 pub fn start(nn: u64, kk: u64) -> [u64; 8]
@@ -47,11 +48,11 @@ fn absorb(h: &mut [u64; 8], message: &[u8], t: u64)
     let mut i: usize = 0;
     while 128 < message.len() - i {
         let e = i + 128;
-        compress(h, &message[i..e], t + e as u64, false);
+        compress(h, words(&message[i..e]), t + e as u64, false);
         i = e;
     }
     let b = padded(&message[i..]);
-    compress(h, &b, t + message.len() as u64, true);
+    compress(h, words(&b), t + message.len() as u64, true);
 }
 
 // Takes the state past the key's block, where there is a key, and the message.
@@ -65,10 +66,10 @@ pub fn finish(h: &mut [u64; 8], key: &[u8], message: &[u8])
     }
     let k = padded(key);
     if message.len() == 0 {
-        compress(h, &k, 128, true);
+        compress(h, words(&k), 128, true);
         return;
     }
-    compress(h, &k, 128, false);
+    compress(h, words(&k), 128, false);
     absorb(h, message, 128);
 }
 

@@ -2,7 +2,11 @@
 ghost use mathlib.Core.Path.{_≡_};
 ghost use Rattle.blake2b.specs.Answers.{left, digested};
 
-mod data;
+mod mixing; // mixing.rt: sums, rotations and G
+mod rounds; // rounds.rt: the twelve rounds
+mod compression; // compression.rt: F
+mod data; // data.rt: the data in blocks
+mod straight; // straight.rt: the one block of a leaf or a node
 
 // Done: 0. Refused: 2, for a digest or a key of another length.
 pub enum Answer {
@@ -24,6 +28,10 @@ pub fn digest(key: &[u8], message: &[u8], out: &mut [u8]) -> Answer
     let kk = key.len();
     if 64 < kk {
         return Answer::Refused;
+    }
+    if straight::applies(nn, kk, message.len()) {
+        straight::digest(message, out);
+        return Answer::Done;
     }
     let mut h = data::start(nn as u64, kk as u64);
     data::finish(&mut h, key, message);

@@ -1,18 +1,19 @@
 -- The data in blocks: padding, one block after another, the key's block, and the bytes of a state. Assumes nothing.
 use mathlib.Core.Path.{_≡_, refl, sym, ap, _∙_}
-use mathlib.Core.Bool.{true, false}
+use mathlib.Core.Bool.{Bool, true, false}
 use mathlib.Core.List.{List, [], _∷_, _++_, append-nil, append-assoc}
 use Prim.Native.Nat.{ℕ, zero, suc, _+_, _-_, _*_, _≤_, _<_}
 use native.Mathlib.Numerals.{add-one}
 use native.Mathlib.Omega.{arith}
-use lib.ListN.{length, getD, take, drop, length-append, length-drop, length-replicate}
+use lib.ListN.{length, getD, take, drop, take-append-drop, length-append, length-drop, length-replicate}
 use lib.Seq.{take-all, take-at, take-suc, take-append-add, drop-at, drop-drop, length-take-le}
 use Rattle.area.specs.Area.{part, put, zeros}
 use Rattle.area.specs.Little.{bytesOf}
-use Rattle.area.proofs.Laws.Puts.{put-is, put-all, put-append}
+use Rattle.area.proofs.Laws.Parts.{part-part}
+use Rattle.area.proofs.Laws.Puts.{put-is, put-all, put-append, part-put, part-behind}
 use Rattle.area.proofs.Laws.Little.{length-bytes}
-use Rattle.compression.specs.Compression.{F, words}
-use Rattle.blake2b.specs.Blake2b.{bytes, padded, keyed, before, absorbed, finished}
+use Rattle.blake2b.specs.Compression.{F, words}
+use Rattle.blake2b.specs.Blake2b.{bytes, padded, keyed, before, start, absorbed, finished, blake2b, opened}
 
 -- ---- padding
 
@@ -43,6 +44,33 @@ length-padded bs = length-take-le 128 (bs ++ zeros 128) (simp (length-append, le
 padded-whole : (bs : List ℕ) → length bs ≡ 128 → padded bs ≡ bs
 unfolding padded
 padded-whole bs e = take-at bs (zeros 128) 128 e
+
+-- a part of the padded bytes that lies within them, and one behind them
+pub padded-inside : (bs : List ℕ) (at n : ℕ) → length bs ≤ 128 → at + n ≤ length bs → part (padded bs) at n ≡ part bs at n
+padded-inside bs at n h l =
+    let z : at ≡ 0 + at = omega arith in
+    let laid : List ℕ = put (zeros 128) 0 bs in
+    ap (λ (d : List ℕ). part d at n) (sym (padded-put bs h))
+    ∙ ap (λ (k : ℕ). part laid k n) z
+    ∙ sym (part-part laid 0 (length bs) at n l)
+    ∙ ap (λ (d : List ℕ). part d at n) (part-put (zeros 128) 0 bs (length bs) refl (omega (arith, length-replicate {A = ℕ} 128 0)))
+
+pub padded-behind : (bs : List ℕ) (at n : ℕ) → length bs ≤ 128 → length bs ≤ at → part (padded bs) at n ≡ part (zeros 128) at n
+padded-behind bs at n h l =
+    ap (λ (d : List ℕ). part d at n) (sym (padded-put bs h)) ∙ part-behind (zeros 128) 0 bs at n (omega arith)
+
+-- ---- a block: F of its words
+
+pub of-words : {m r : List ℕ} (h b : List ℕ) (t : ℕ) (f : Bool) → m ≡ words b → r ≡ F h m t f → r ≡ F h (words b) t f
+of-words h b t f e p = p ∙ ap (λ (l : List ℕ). F h l t f) e
+
+-- one block, and no more
+pub one-block : (d h : List ℕ) (u : ℕ) {r : List ℕ} → length d ≤ 128 → u ≡ length d → r ≡ F h (words (padded d)) u true → r ≡ finished d h
+unfolding absorbed
+one-block d h u l e p =
+    let n : before d ≡ 0 = omega arith in
+    let t : u ≡ 0 + length d = omega arith in
+    p ∙ ap (λ (k : ℕ). F h (words (padded d)) k true) t ∙ ap (λ (k : ℕ). absorbed k 0 d h) (sym n)
 
 -- ---- the loop: the data from i on, where i bytes were absorbed
 
@@ -89,15 +117,11 @@ nothing (x ∷ xs) e = absurd (omega arith)
 -- no message: the key's block is the last
 pub keyed-alone : (key message h : List ℕ) {b r : List ℕ} → (length key ≡ 0 → ⊥) → length message ≡ 0 → b ≡ padded key → r ≡ F h (words b) 128 true
     → r ≡ finished (keyed key message) h
-unfolding absorbed
 keyed-alone key message h n z p e =
     let k : List ℕ = padded key in
     let l : length k ≡ 128 = length-padded key in
     let whole : keyed key message ≡ k = keyed-some key message n ∙ ap (λ (m : List ℕ). k ++ m) (nothing message z) ∙ append-nil k in
-    let one : before k ≡ 0 = omega arith in
-    let t : 128 ≡ 0 + length k = omega arith in
-    e ∙ (λ x. F h (words ((p ∙ sym (padded-whole k l)) x)) (t x) true)
-    ∙ ap (λ (i : ℕ). absorbed i 0 k h) (sym one)
+    one-block k h 128 (omega arith) (omega arith) (e ∙ ap (λ (b : List ℕ). F h (words b) 128 true) (p ∙ sym (padded-whole k l)))
     ∙ ap (λ (d : List ℕ). finished d h) (sym whole)
 
 -- the key's block, then the message
@@ -114,7 +138,13 @@ keyed-more key message h {g = g} n z p q e =
     ∙ ap (λ (i : ℕ). absorbed i 0 (k ++ message) h) (sym more)
     ∙ ap (λ (d : List ℕ). finished d h) (sym (keyed-some key message n))
 
--- ---- the bytes of a state
+-- ---- the state at the end, and its bytes
+
+-- whatever the data, the state at the end is eight words
+pub length-absorbed : (n t : ℕ) (d h : List ℕ) → length (absorbed n t d h) ≡ 8
+unfolding absorbed F
+length-absorbed zero t d h = refl
+length-absorbed (suc n) t d h = length-absorbed n (t + 128) (drop 128 d) (F h (words (take 128 d)) (t + 128) _)
 
 pub length-state : (h : List ℕ) → length (bytes h) ≡ 8 * length h
 unfolding bytes
@@ -141,6 +171,13 @@ bytes-more a h i n g p q =
     ∙ sym (bytes-append (take i h) (getD h i 0 ∷ []))
     ∙ ap bytes (sym (take-suc h i 0 (omega arith)) ∙ ap (λ (n : ℕ). take n h) (sym (add-one i))))
 
+-- the first k words are the first 8 k bytes
+pub bytes-front : (k : ℕ) (h : List ℕ) → k ≤ length h → take (8 * k) (bytes h) ≡ bytes (take k h)
+bytes-front k h l =
+    ap (λ (x : List ℕ). take (8 * k) (bytes x)) (sym (take-append-drop k h))
+    ∙ ap (take (8 * k)) (bytes-append (take k h) (drop k h))
+    ∙ take-at (bytes (take k h)) (bytes (drop k h)) (8 * k) (omega (arith, length-state (take k h), length-take-le k h l))
+
 -- all eight words: as many bytes as the area has
 pub bytes-all : {all r : List ℕ} (h out : List ℕ) (i : ℕ) → length h ≡ 8 → 8 ≤ i → length out ≤ 64 → all ≡ put (zeros 64) 0 (bytes (take i h))
     → r ≡ put out 0 (part all 0 (length out)) → r ≡ take (length out) (bytes h)
@@ -150,3 +187,9 @@ bytes-all {all} h out i n g m p q =
     let w : all ≡ bytes h = p ∙ ap (λ (x : List ℕ). put (zeros 64) 0 (bytes x)) (take-all i h (omega arith)) ∙ put-all (zeros 64) (bytes h) l in
     q ∙ ap (λ (x : List ℕ). put out 0 (take (length out) x)) w
     ∙ put-all out (take (length out) (bytes h)) (length-take-le (length out) (bytes h) (omega arith))
+
+-- what it is the digest of: the state from the start past the data, its bytes written
+pub by-blocks : {g h r : List ℕ} (nn : ℕ) (key message : List ℕ) → g ≡ start nn (length key) → h ≡ finished (keyed key message) g
+    → r ≡ take nn (bytes h) → r ≡ blake2b nn key message
+by-blocks nn key message eg eh er =
+    er ∙ ap (λ (l : List ℕ). take nn (bytes l)) (eh ∙ ap (finished (keyed key message)) eg) ∙ sym (opened nn key message)

@@ -1,12 +1,11 @@
--- `blake2b::digest` meets its contract: the lengths are tested, then the state is made and its bytes written. Assumes nothing.
-use mathlib.Core.Path.{sym, ap, _∙_}
-use mathlib.Core.List.{List}
-use Prim.Native.Nat.{ℕ}
+-- `blake2b::digest` meets its contract: the lengths are tested, then the digest is made on the straight path or by blocks. Assumes nothing.
+use mathlib.Core.Path.{sym, _∙_}
 use native.Mathlib.Omega.{arith}
-use lib.ListN.{length, take}
-use Rattle.blake2b.specs.Blake2b.{bytes, keyed, finished, opened}
-use Rattle.blake2b.proofs.Answered.{refuses, digests, allowed-yes, too-short, too-long, key-too-long}
 use borrow.Author.Needs.{needs}
+use lib.ListN.{length}
+use Rattle.blake2b.proofs.Laws.Data.{by-blocks}
+use Rattle.blake2b.proofs.Laws.Straight.{tells, straight-is}
+use Rattle.blake2b.proofs.Answered.{refuses, digests, allowed-yes, too-short, too-long, key-too-long}
 use Rattle.blake2b.proofs.digest.Statement.{statement}
 use Rattle.blake2b.proofs.digest.Tie as tie
 
@@ -19,26 +18,27 @@ returns-2 c = refuses _ _ _ (too-long _ _ (c .if2 .taken))
 returns-3 : tie.Need-returns-3
 returns-3 c = refuses _ _ _ (key-too-long _ _ (c .if3 .taken))
 
-start-requires : tie.Need-start-requires
-start-requires c κs = search needs
-
-finish-requires : tie.Need-finish-requires
-finish-requires c κs = search needs
-
-write-requires : tie.Need-write-requires
-write-requires c κs = search needs
-
-same-length : tie.Need-same-length
-same-length c = search needs
+digest-requires : tie.Need-digest-requires
+digest-requires c κs =
+    let at-if3 = c .before .before .before in
+    let at-out = at-if3 .before .before .before in
+    let a = at-out .before .before .before .args in
+    let s = tells _ (length (a .key .now)) _ (sym (c .before .before .applies .ensures) ∙ c .before .if4 .taken) in
+    (s .message, s .digest)
 
 returns-4 : tie.Need-returns-4
 returns-4 c =
-    let a = c .before .before .before .before .before .before .before .before .before .before .before .before .before .args in
+    let at-arg = c .before .before .before in
+    let at-test = at-arg .before in
+    let s = tells _ _ _ (sym (at-test .before .applies .ensures) ∙ at-test .if4 .taken) in
+    digests _ _ _ (allowed-yes _ _ (omega arith) (omega arith) (omega arith)) (straight-is _ _ _ s (c .before .before .digest .ensures))
+
+returns-5 : tie.Need-returns-5
+returns-5 c =
+    let at-finish = c .before .before .before .before in
+    let at-start = at-finish .before .before in
     digests _ _ _ (allowed-yes _ _ (omega arith) (omega arith) (omega arith))
-    (c .before .before .write .ensures
-    ∙ ap (λ (h : List ℕ). take (length (a .out .now)) (bytes h))
-    (c .before .before .before .before .finish .ensures ∙ ap (finished (keyed (a .key .now) (a .message .now))) (c .before .before .before .before .before .before .start .ensures))
-    ∙ sym (opened _ (a .key .now) (a .message .now)))
+    (by-blocks _ _ _ (at-start .start .ensures) (at-finish .finish .ensures) (c .before .before .write .ensures))
 
 pub digest-spec : {M : Type 1} → statement M
 digest-spec =
@@ -47,8 +47,12 @@ digest-spec =
     returns
     returns-2
     returns-3
-    start-requires
-    finish-requires
-    write-requires
-    same-length
-    returns-4)
+    (λ c κs. search needs)
+    digest-requires
+    (λ c. search needs)
+    returns-4
+    (λ c κs. search needs)
+    (λ c κs. search needs)
+    (λ c κs. search needs)
+    (λ c. search needs)
+    returns-5)

@@ -1,0 +1,42 @@
+-- The local vector at a counter of one word, from the state written out. Assumes nothing.
+use mathlib.Core.Path.{_≡_, refl, sym, ap, _∙_}
+use mathlib.Core.List.{List, [], _∷_, _++_}
+use Prim.Native.Nat.{ℕ, zero, suc, _+_, _%_, _/_, _^_, _≤_, _<_}
+use native.Mathlib.Omega.{arith}
+use lib.ListN.{length, take, drop, getD, set}
+use lib.Seq.{take-all, drop-cons, set-getD}
+use lib.Bits.{xor-zero-r}
+use Rattle.blake2b.specs.Compression.{IV, xorAt}
+
+-- the n elements from i on, written out
+listed : ℕ → ℕ → List ℕ → List ℕ
+listed zero i l = []
+listed (suc n) i l = getD l i 0 ∷ listed n (suc i) l
+
+front : (n i : ℕ) (l : List ℕ) → i + n ≤ length l → take n (drop i l) ≡ listed n i l
+unfolding listed
+front zero i l h = refl
+front (suc n) i l h = ap (take (suc n)) (drop-cons l i 0 (omega arith)) ∙ (ap (λ (r : List ℕ). getD l i 0 ∷ r) (front n (suc i) l (omega arith)))
+
+-- a state of eight words, written out
+eight : (h : List ℕ) → length h ≡ 8
+    → h ≡ getD h 0 0 ∷ getD h 1 0 ∷ getD h 2 0 ∷ getD h 3 0 ∷ getD h 4 0 ∷ getD h 5 0 ∷ getD h 6 0 ∷ getD h 7 0 ∷ []
+unfolding listed
+eight h e = sym (take-all 8 h (omega arith)) ∙ front 8 0 h (omega arith)
+
+-- at a counter of one word, v[13] stays
+counted : (v : List ℕ) (t : ℕ) → t < 2 ^ 64 → xorAt (xorAt v 12 (t % 2 ^ 64)) 13 (t / 2 ^ 64) ≡ xorAt v 12 t
+unfolding xorAt
+counted v t h =
+    let low : t % 2 ^ 64 ≡ t = omega arith in
+    let high : t / 2 ^ 64 ≡ 0 = omega arith in
+    ap (λ (n : ℕ). xorAt (xorAt v 12 (t % 2 ^ 64)) 13 n) high
+    ∙ ap (λ (n : ℕ). set (xorAt v 12 (t % 2 ^ 64)) 13 n) (xor-zero-r (getD (xorAt v 12 (t % 2 ^ 64)) 13 0))
+    ∙ set-getD (xorAt v 12 (t % 2 ^ 64)) 13 0
+    ∙ ap (xorAt v 12) low
+
+-- the vector with its counter, from the state written out
+pub vector : (h : List ℕ) (t : ℕ) → length h ≡ 8 → t < 2 ^ 64
+    → xorAt (getD h 0 0 ∷ getD h 1 0 ∷ getD h 2 0 ∷ getD h 3 0 ∷ getD h 4 0 ∷ getD h 5 0 ∷ getD h 6 0 ∷ getD h 7 0 ∷ IV) 12 t
+    ≡ xorAt (xorAt (h ++ IV) 12 (t % 2 ^ 64)) 13 (t / 2 ^ 64)
+vector h t e b = sym (counted (h ++ IV) t b ∙ ap (λ (l : List ℕ). xorAt (l ++ IV) 12 t) (eight h e))

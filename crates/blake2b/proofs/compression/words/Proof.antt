@@ -1,0 +1,46 @@
+-- `blake2b::compression::words` meets its contract. The loop's invariant: the first i words are read. Assumes nothing.
+use mathlib.Core.Path.{_≡_, refl}
+use Prim.Native.Nat.{_*_, _≤_, _-_}
+use native.Mathlib.Omega.{arith}
+use borrow.Author.Needs.{needs}
+use lib.ListN.{length, take}
+use Rattle.area.specs.Area.{part, zeros, tab}
+use Rattle.area.specs.Little.{valueOf}
+use Rattle.area.proofs.Laws.Tab.{fill-none, fill-one, fill-all}
+use Rattle.blake2b.specs.Compression.{words}
+use Rattle.blake2b.proofs.compression.words.Statement.{statement}
+use Rattle.blake2b.proofs.compression.words.Tie as tie
+
+abbrev Inv-loop : tie.InvT-loop
+Inv-loop b m₀ i₀ m i = (i ≤ 16) × (length m ≡ 16) × (take i m ≡ tab 0 i (λ k. valueOf (part b (8 * k) 8)))
+
+abbrev μ-loop : tie.MeasureT-loop
+μ-loop b m₀ i₀ m i = 16 - i
+
+loop-holds : tie.Need-loop-holds Inv-loop μ-loop
+loop-holds c = (omega arith, refl, fill-none (zeros 16) _)
+
+loop-again : tie.Need-loop-again Inv-loop μ-loop
+loop-again c =
+    let l = c .before .before .loop in
+    (omega arith, search needs, fill-one _ _ (l .i) _ (l .inv .1) (omega arith) (c .load .ensures) (l .inv .2))
+
+returns : tie.Need-returns Inv-loop μ-loop
+unfolding words
+returns c = let l = c .before .loop in fill-all _ _ (l .i) _ (l .inv .1) (l .inv .0) (c .loop-test .left) (l .inv .2)
+
+pub words-spec : {M : Type 1} → statement M
+words-spec =
+    tie.close
+    (tie.spec
+    Inv-loop
+    μ-loop
+    loop-holds
+    (λ c. omega arith)
+    (λ c κs. omega arith)
+    (λ c. omega arith)
+    (λ c. omega arith)
+    (λ c. omega arith)
+    (λ c. omega arith)
+    loop-again
+    returns)

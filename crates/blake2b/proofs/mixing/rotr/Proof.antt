@@ -1,0 +1,12 @@
+-- `blake2b::mixing::rotr` meets its contract: a rotation is the two shifts joined. Assumes nothing.
+use borrow.Author.Needs.{needs}
+use Rattle.blake2b.specs.Compression.{rotr}
+use Rattle.blake2b.proofs.mixing.rotr.Statement.{statement}
+use Rattle.blake2b.proofs.mixing.rotr.Tie as tie
+
+returns : tie.Need-returns
+unfolding rotr
+returns c = search needs
+
+pub rotr-spec : {M : Type 1} → statement M
+rotr-spec = tie.close (tie.spec (λ c. search needs) (λ c. search needs) (λ c. search needs) (λ c. search needs) returns)

@@ -1,0 +1,23 @@
+-- `blake2b::rounds::round_5` meets its contract: eight mixings, one after the other. Assumes nothing.
+use borrow.Author.Needs.{needs}
+use Rattle.blake2b.specs.Compression.{round}
+use Rattle.blake2b.proofs.rounds.round_5.Statement.{statement}
+use Rattle.blake2b.proofs.rounds.round_5.Tie as tie
+
+returns : tie.Need-returns
+unfolding round
+returns c = cc
+
+pub round-5-spec : {M : Type 1} → statement M
+round-5-spec =
+    tie.close
+    (tie.spec
+    (λ c κs. search needs)
+    (λ c κs. search needs)
+    (λ c κs. search needs)
+    (λ c κs. search needs)
+    (λ c κs. search needs)
+    (λ c κs. search needs)
+    (λ c κs. search needs)
+    (λ c κs. search needs)
+    returns)

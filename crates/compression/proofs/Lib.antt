@@ -1,2 +1,0 @@
--- The laws behind the contracts.
-pub mod Laws

@@ -1,2 +1,0 @@
--- The compression function of RFC 7693.
-pub mod Compression

@@ -1,2 +1,0 @@
--- The message schedule of RFC 7693.
-pub mod Schedule
