@@ -23,7 +23,7 @@ pub const IV6: u64 = 0x1F83D9ABFB41BD6B;
 pub const IV7: u64 = 0x5BE0CD19137E2179;
 
 // The counter's upper word is 0: no slice has 2^64 bytes.
-fn local(h: [u64; 8], t: u64, last: bool) -> [u64; 16]
+pub fn local(h: [u64; 8], t: u64, last: bool) -> [u64; 16]
     ensures { λ r. ⌜ r ≡ RFC.local h t last ⌝ }
 {
     let mut v = [
@@ -51,7 +51,7 @@ fn local(h: [u64; 8], t: u64, last: bool) -> [u64; 16]
     v
 }
 
-fn folded(h: [u64; 8], v: [u64; 16]) -> [u64; 8]
+pub fn folded(h: [u64; 8], v: [u64; 16]) -> [u64; 8]
     ensures { λ r. ⌜ r ≡ RFC.folded h v ⌝ }
 {
     [

@@ -4,6 +4,7 @@ ghost use Rattle.blake2b.specs.Answers.{left, digested};
 
 mod mixing; // mixing.rt: sums, rotations and G
 mod rounds; // rounds.rt: the twelve rounds
+mod rounds_again; // rounds_again.rt: the same for the straight path
 mod compression; // compression.rt: F
 mod data; // data.rt: the data in blocks
 mod straight; // straight.rt: the one block of a leaf or a node

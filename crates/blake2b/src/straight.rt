@@ -6,8 +6,10 @@ ghost use lib.Dec.{eqb};
 ghost use Rattle.area.specs.Pick.{both};
 ghost use Rattle.blake2b.specs.Compression.{words};
 ghost use Rattle.blake2b.specs.Blake2b as RFC;
-use crate::compression::compress;
+use crate::compression::folded;
+use crate::compression::local;
 use crate::data::start;
+use crate::rounds_again::rounds_again;
 
 // Whether a digest of nn bytes, under a key of kk, of a message of ll goes this way.
 pub fn applies(nn: usize, kk: usize, ll: usize) -> bool
@@ -47,9 +49,8 @@ fn state(message: &[u8]) -> [u64; 8]
     requires { ⌜ length (now message) ≡ 65 ⌝ }
     ensures { λ r. ⌜ r ≡ RFC.finished (now (message .entry)) (RFC.start 32 0) ⌝ }
 {
-    let mut h = start(32, 0);
-    compress(&mut h, block(message), 65, true);
-    h
+    let h = start(32, 0);
+    folded(h, rounds_again(block(message), local(h, 65, true)))
 }
 
 // The digest, over all of the area.

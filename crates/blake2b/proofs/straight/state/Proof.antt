@@ -1,20 +1,20 @@
--- `blake2b::straight::state` meets its contract: the message is one block. Assumes nothing.
+-- `blake2b::straight::state` meets its contract: the parts of F, put together, and the message is one block. Assumes nothing.
 use mathlib.Core.Path.{ap, _∙_}
-use mathlib.Core.List.{List}
-use Prim.Native.Nat.{ℕ}
 use native.Mathlib.Omega.{arith}
 use borrow.Author.Needs.{needs}
 use Rattle.blake2b.specs.Blake2b.{finished}
+use Rattle.blake2b.proofs.Laws.Steps.{whole}
 use Rattle.blake2b.proofs.Laws.Data.{of-words, one-block}
 use Rattle.blake2b.proofs.straight.state.Statement.{statement}
 use Rattle.blake2b.proofs.straight.state.Tie as tie
 
 returns : tie.Need-returns
 returns c =
-    let at-start = c .before .before .before in
-    let block = of-words _ _ _ _ (c .before .block .ensures) (c .compress .ensures) in
+    let at-block = c .before .before .before in
+    let at-start = at-block .before in
     let a = at-start .before .before .args in
+    let block = of-words _ _ _ _ (at-block .block .ensures) (whole _ _ _ _ (c .before .before .local .ensures) (c .before .rounds-again .ensures) (c .folded .ensures)) in
     one-block _ _ _ (omega arith) (omega arith) block ∙ ap (finished (a .message .now)) (at-start .start .ensures)
 
 pub state-spec : {M : Type 1} → statement M
-state-spec = tie.close (tie.spec (λ c κs. search needs) (λ c κs. search needs) (λ c κs. search needs) returns)
+state-spec = tie.close (tie.spec (λ c κs. search needs) (λ c κs. search needs) (λ c κs. search needs) (λ c κs. search needs) (λ c κs. search needs) returns)
