@@ -1,4 +1,8 @@
-// (2.7, 3.2) The twelve rounds of F, each with its row of the message schedule written out: row r, or r - 10 from round 10 on.
+// (2.7, 3.2) The twelve rounds of F. Each is a line for the columns of v and one for its diagonals, and the two lines name the words in the
+// order of the round's row of the message schedule: row r, or r - 10 from round 10 on.
+// How quick the hash is hangs on what the compiler puts in line. `columns` and `diagonals` are small enough for it at each of their calls, by
+// its own reckoning 275 of 375; a whole round is not. `rounds` it puts in line because it has a single caller, `compression::compress`: with a
+// second one the hash is as right as before and slower, and no check notices.
 ghost use mathlib.Core.Path.{_≡_};
 ghost use Prim.Native.Nat.{_<_};
 ghost use lib.ListN.{getD};
@@ -6,7 +10,7 @@ ghost use Rattle.blake2b.specs.Compression as RFC;
 use crate::mixing::g;
 
 // G with the words i and j of m.
-pub fn mix(
+fn mix(
     m: [u64; 16],
     v: [u64; 16],
     a: usize,
@@ -22,117 +26,80 @@ pub fn mix(
     g(v, a, b, c, d, m[i], m[j])
 }
 
-// The rounds of any block. Only `compression::compress` calls this function, and it has to stay the only one: the compiler puts a
-// function of this size in line where it has one caller, and nowhere where it has two. No check would notice, but the time.
+// G on the four columns of v, with the words a to h of m.
+pub fn columns(
+    m: [u64; 16],
+    v: [u64; 16],
+    a: usize,
+    b: usize,
+    c: usize,
+    d: usize,
+    e: usize,
+    f: usize,
+    g: usize,
+    h: usize,
+) -> [u64; 16]
+    requires { ⌜ (a < 16) × (b < 16) × (c < 16) × (d < 16) × (e < 16) × (f < 16) × (g < 16) × (h < 16) ⌝ }
+    ensures { λ r. ⌜ r ≡
+        RFC.G (RFC.G (RFC.G (RFC.G v 0 4 8 12 (getD m a 0) (getD m b 0)) 1 5 9 13 (getD m c 0) (getD m d 0)) 2 6 10 14 (getD m e 0) (getD m f 0))
+        3 7 11 15 (getD m g 0) (getD m h 0) ⌝ }
+{
+    let v = mix(m, v, 0, 4, 8, 12, a, b);
+    let v = mix(m, v, 1, 5, 9, 13, c, d);
+    let v = mix(m, v, 2, 6, 10, 14, e, f);
+    mix(m, v, 3, 7, 11, 15, g, h)
+}
+
+// G on the four diagonals of v, with the words a to h of m.
+pub fn diagonals(
+    m: [u64; 16],
+    v: [u64; 16],
+    a: usize,
+    b: usize,
+    c: usize,
+    d: usize,
+    e: usize,
+    f: usize,
+    g: usize,
+    h: usize,
+) -> [u64; 16]
+    requires { ⌜ (a < 16) × (b < 16) × (c < 16) × (d < 16) × (e < 16) × (f < 16) × (g < 16) × (h < 16) ⌝ }
+    ensures { λ r. ⌜ r ≡
+        RFC.G (RFC.G (RFC.G (RFC.G v 0 5 10 15 (getD m a 0) (getD m b 0)) 1 6 11 12 (getD m c 0) (getD m d 0)) 2 7 8 13 (getD m e 0) (getD m f 0))
+        3 4 9 14 (getD m g 0) (getD m h 0) ⌝ }
+{
+    let v = mix(m, v, 0, 5, 10, 15, a, b);
+    let v = mix(m, v, 1, 6, 11, 12, c, d);
+    let v = mix(m, v, 2, 7, 8, 13, e, f);
+    mix(m, v, 3, 4, 9, 14, g, h)
+}
+
+// The rounds of any block.
 pub fn rounds(m: [u64; 16], v: [u64; 16]) -> [u64; 16]
     ensures { λ r. ⌜ r ≡ RFC.rounds 12 m v ⌝ }
 {
-    // Round 0
-    let v = mix(m, v, 0, 4, 8, 12, 0, 1);
-    let v = mix(m, v, 1, 5, 9, 13, 2, 3);
-    let v = mix(m, v, 2, 6, 10, 14, 4, 5);
-    let v = mix(m, v, 3, 7, 11, 15, 6, 7);
-    let v = mix(m, v, 0, 5, 10, 15, 8, 9);
-    let v = mix(m, v, 1, 6, 11, 12, 10, 11);
-    let v = mix(m, v, 2, 7, 8, 13, 12, 13);
-    let v = mix(m, v, 3, 4, 9, 14, 14, 15);
-    // Round 1
-    let v = mix(m, v, 0, 4, 8, 12, 14, 10);
-    let v = mix(m, v, 1, 5, 9, 13, 4, 8);
-    let v = mix(m, v, 2, 6, 10, 14, 9, 15);
-    let v = mix(m, v, 3, 7, 11, 15, 13, 6);
-    let v = mix(m, v, 0, 5, 10, 15, 1, 12);
-    let v = mix(m, v, 1, 6, 11, 12, 0, 2);
-    let v = mix(m, v, 2, 7, 8, 13, 11, 7);
-    let v = mix(m, v, 3, 4, 9, 14, 5, 3);
-    // Round 2
-    let v = mix(m, v, 0, 4, 8, 12, 11, 8);
-    let v = mix(m, v, 1, 5, 9, 13, 12, 0);
-    let v = mix(m, v, 2, 6, 10, 14, 5, 2);
-    let v = mix(m, v, 3, 7, 11, 15, 15, 13);
-    let v = mix(m, v, 0, 5, 10, 15, 10, 14);
-    let v = mix(m, v, 1, 6, 11, 12, 3, 6);
-    let v = mix(m, v, 2, 7, 8, 13, 7, 1);
-    let v = mix(m, v, 3, 4, 9, 14, 9, 4);
-    // Round 3
-    let v = mix(m, v, 0, 4, 8, 12, 7, 9);
-    let v = mix(m, v, 1, 5, 9, 13, 3, 1);
-    let v = mix(m, v, 2, 6, 10, 14, 13, 12);
-    let v = mix(m, v, 3, 7, 11, 15, 11, 14);
-    let v = mix(m, v, 0, 5, 10, 15, 2, 6);
-    let v = mix(m, v, 1, 6, 11, 12, 5, 10);
-    let v = mix(m, v, 2, 7, 8, 13, 4, 0);
-    let v = mix(m, v, 3, 4, 9, 14, 15, 8);
-    // Round 4
-    let v = mix(m, v, 0, 4, 8, 12, 9, 0);
-    let v = mix(m, v, 1, 5, 9, 13, 5, 7);
-    let v = mix(m, v, 2, 6, 10, 14, 2, 4);
-    let v = mix(m, v, 3, 7, 11, 15, 10, 15);
-    let v = mix(m, v, 0, 5, 10, 15, 14, 1);
-    let v = mix(m, v, 1, 6, 11, 12, 11, 12);
-    let v = mix(m, v, 2, 7, 8, 13, 6, 8);
-    let v = mix(m, v, 3, 4, 9, 14, 3, 13);
-    // Round 5
-    let v = mix(m, v, 0, 4, 8, 12, 2, 12);
-    let v = mix(m, v, 1, 5, 9, 13, 6, 10);
-    let v = mix(m, v, 2, 6, 10, 14, 0, 11);
-    let v = mix(m, v, 3, 7, 11, 15, 8, 3);
-    let v = mix(m, v, 0, 5, 10, 15, 4, 13);
-    let v = mix(m, v, 1, 6, 11, 12, 7, 5);
-    let v = mix(m, v, 2, 7, 8, 13, 15, 14);
-    let v = mix(m, v, 3, 4, 9, 14, 1, 9);
-    // Round 6
-    let v = mix(m, v, 0, 4, 8, 12, 12, 5);
-    let v = mix(m, v, 1, 5, 9, 13, 1, 15);
-    let v = mix(m, v, 2, 6, 10, 14, 14, 13);
-    let v = mix(m, v, 3, 7, 11, 15, 4, 10);
-    let v = mix(m, v, 0, 5, 10, 15, 0, 7);
-    let v = mix(m, v, 1, 6, 11, 12, 6, 3);
-    let v = mix(m, v, 2, 7, 8, 13, 9, 2);
-    let v = mix(m, v, 3, 4, 9, 14, 8, 11);
-    // Round 7
-    let v = mix(m, v, 0, 4, 8, 12, 13, 11);
-    let v = mix(m, v, 1, 5, 9, 13, 7, 14);
-    let v = mix(m, v, 2, 6, 10, 14, 12, 1);
-    let v = mix(m, v, 3, 7, 11, 15, 3, 9);
-    let v = mix(m, v, 0, 5, 10, 15, 5, 0);
-    let v = mix(m, v, 1, 6, 11, 12, 15, 4);
-    let v = mix(m, v, 2, 7, 8, 13, 8, 6);
-    let v = mix(m, v, 3, 4, 9, 14, 2, 10);
-    // Round 8
-    let v = mix(m, v, 0, 4, 8, 12, 6, 15);
-    let v = mix(m, v, 1, 5, 9, 13, 14, 9);
-    let v = mix(m, v, 2, 6, 10, 14, 11, 3);
-    let v = mix(m, v, 3, 7, 11, 15, 0, 8);
-    let v = mix(m, v, 0, 5, 10, 15, 12, 2);
-    let v = mix(m, v, 1, 6, 11, 12, 13, 7);
-    let v = mix(m, v, 2, 7, 8, 13, 1, 4);
-    let v = mix(m, v, 3, 4, 9, 14, 10, 5);
-    // Round 9
-    let v = mix(m, v, 0, 4, 8, 12, 10, 2);
-    let v = mix(m, v, 1, 5, 9, 13, 8, 4);
-    let v = mix(m, v, 2, 6, 10, 14, 7, 6);
-    let v = mix(m, v, 3, 7, 11, 15, 1, 5);
-    let v = mix(m, v, 0, 5, 10, 15, 15, 11);
-    let v = mix(m, v, 1, 6, 11, 12, 9, 14);
-    let v = mix(m, v, 2, 7, 8, 13, 3, 12);
-    let v = mix(m, v, 3, 4, 9, 14, 13, 0);
-    // Round 10
-    let v = mix(m, v, 0, 4, 8, 12, 0, 1);
-    let v = mix(m, v, 1, 5, 9, 13, 2, 3);
-    let v = mix(m, v, 2, 6, 10, 14, 4, 5);
-    let v = mix(m, v, 3, 7, 11, 15, 6, 7);
-    let v = mix(m, v, 0, 5, 10, 15, 8, 9);
-    let v = mix(m, v, 1, 6, 11, 12, 10, 11);
-    let v = mix(m, v, 2, 7, 8, 13, 12, 13);
-    let v = mix(m, v, 3, 4, 9, 14, 14, 15);
-    // Round 11
-    let v = mix(m, v, 0, 4, 8, 12, 14, 10);
-    let v = mix(m, v, 1, 5, 9, 13, 4, 8);
-    let v = mix(m, v, 2, 6, 10, 14, 9, 15);
-    let v = mix(m, v, 3, 7, 11, 15, 13, 6);
-    let v = mix(m, v, 0, 5, 10, 15, 1, 12);
-    let v = mix(m, v, 1, 6, 11, 12, 0, 2);
-    let v = mix(m, v, 2, 7, 8, 13, 11, 7);
-    mix(m, v, 3, 4, 9, 14, 5, 3)
+    let v = columns(m, v, 0, 1, 2, 3, 4, 5, 6, 7);
+    let v = diagonals(m, v, 8, 9, 10, 11, 12, 13, 14, 15);
+    let v = columns(m, v, 14, 10, 4, 8, 9, 15, 13, 6);
+    let v = diagonals(m, v, 1, 12, 0, 2, 11, 7, 5, 3);
+    let v = columns(m, v, 11, 8, 12, 0, 5, 2, 15, 13);
+    let v = diagonals(m, v, 10, 14, 3, 6, 7, 1, 9, 4);
+    let v = columns(m, v, 7, 9, 3, 1, 13, 12, 11, 14);
+    let v = diagonals(m, v, 2, 6, 5, 10, 4, 0, 15, 8);
+    let v = columns(m, v, 9, 0, 5, 7, 2, 4, 10, 15);
+    let v = diagonals(m, v, 14, 1, 11, 12, 6, 8, 3, 13);
+    let v = columns(m, v, 2, 12, 6, 10, 0, 11, 8, 3);
+    let v = diagonals(m, v, 4, 13, 7, 5, 15, 14, 1, 9);
+    let v = columns(m, v, 12, 5, 1, 15, 14, 13, 4, 10);
+    let v = diagonals(m, v, 0, 7, 6, 3, 9, 2, 8, 11);
+    let v = columns(m, v, 13, 11, 7, 14, 12, 1, 3, 9);
+    let v = diagonals(m, v, 5, 0, 15, 4, 8, 6, 2, 10);
+    let v = columns(m, v, 6, 15, 14, 9, 11, 3, 0, 8);
+    let v = diagonals(m, v, 12, 2, 13, 7, 1, 4, 10, 5);
+    let v = columns(m, v, 10, 2, 8, 4, 7, 6, 1, 5);
+    let v = diagonals(m, v, 15, 11, 9, 14, 3, 12, 13, 0);
+    let v = columns(m, v, 0, 1, 2, 3, 4, 5, 6, 7);
+    let v = diagonals(m, v, 8, 9, 10, 11, 12, 13, 14, 15);
+    let v = columns(m, v, 14, 10, 4, 8, 9, 15, 13, 6);
+    diagonals(m, v, 1, 12, 0, 2, 11, 7, 5, 3)
 }

@@ -1,4 +1,4 @@
--- The mixings of a round, the rounds, the parts of F, one after the other; and the local vector at a counter of one word, from the state written out. Assumes nothing.
+-- One round after another, the parts of F, and the local vector at a counter of one word, from the state written out. Assumes nothing.
 use mathlib.Core.Path.{_≡_, refl, sym, ap, _∙_}
 use mathlib.Core.Bool.{Bool}
 use mathlib.Core.List.{List, [], _∷_, _++_}
@@ -10,24 +10,18 @@ use lib.Bits.{xor-zero-r}
 use Rattle.blake2b.specs.Schedule.{chosen}
 use Rattle.blake2b.specs.Compression.{IV, G, round, rounds, xorAt, local, folded, F}
 
--- a mixing of what was made before
-then : {v w r : List ℕ} (a b c d x y : ℕ) → r ≡ G v a b c d x y → v ≡ w → r ≡ G w a b c d x y
-then a b c d x y e p = e ∙ ap (λ (l : List ℕ). G l a b c d x y) p
+-- the two halves of a round that takes the words x
+abbrev columns : List ℕ → List ℕ → List ℕ
+columns x v = G (G (G (G v 0 4 8 12 (getD x 0 0) (getD x 1 0)) 1 5 9 13 (getD x 2 0) (getD x 3 0)) 2 6 10 14 (getD x 4 0) (getD x 5 0)) 3 7 11 15 (getD x 6 0) (getD x 7 0)
 
--- word k of those that round i takes
-abbrev word : ℕ → List ℕ → ℕ → ℕ
-word i m k = getD (chosen i m) k 0
+abbrev diagonals : List ℕ → List ℕ → List ℕ
+diagonals x v = G (G (G (G v 0 5 10 15 (getD x 8 0) (getD x 9 0)) 1 6 11 12 (getD x 10 0) (getD x 11 0)) 2 7 8 13 (getD x 12 0) (getD x 13 0)) 3 4 9 14 (getD x 14 0) (getD x 15 0)
 
--- one round more: its eight mixings
-pub round-more : (i : ℕ) (m v₀ : List ℕ) {v a b c d e f g r : List ℕ} → v ≡ rounds i m v₀ → a ≡ G v 0 4 8 12 (word i m 0) (word i m 1)
-    → b ≡ G a 1 5 9 13 (word i m 2) (word i m 3) → c ≡ G b 2 6 10 14 (word i m 4) (word i m 5) → d ≡ G c 3 7 11 15 (word i m 6) (word i m 7)
-    → e ≡ G d 0 5 10 15 (word i m 8) (word i m 9) → f ≡ G e 1 6 11 12 (word i m 10) (word i m 11) → g ≡ G f 2 7 8 13 (word i m 12) (word i m 13)
-    → r ≡ G g 3 4 9 14 (word i m 14) (word i m 15) → r ≡ rounds (suc i) m v₀
+-- one round more
+pub round-more : (i : ℕ) (m v₀ : List ℕ) {v c r : List ℕ} → v ≡ rounds i m v₀ → c ≡ columns (chosen i m) v → r ≡ diagonals (chosen i m) c
+    → r ≡ rounds (suc i) m v₀
 unfolding rounds round
-round-more i m v₀ p pa pb pc pd pe pf pg pr =
-    then _ _ _ _ _ _ pr
-    (then _ _ _ _ _ _ pg
-    (then _ _ _ _ _ _ pf (then _ _ _ _ _ _ pe (then _ _ _ _ _ _ pd (then _ _ _ _ _ _ pc (then _ _ _ _ _ _ pb (then _ _ _ _ _ _ pa p)))))))
+round-more i m v₀ p pc pr = let x = chosen i m in pr ∙ ap (diagonals x) (pc ∙ ap (columns x) p)
 
 -- the parts of F
 pub whole : {v w r : List ℕ} (h m : List ℕ) (t : ℕ) (f : Bool) → v ≡ local h t f → w ≡ rounds 12 m v → r ≡ folded h w → r ≡ F h m t f

@@ -1,0 +1,10 @@
+-- `blake2b::rounds::columns` meets its contract: four mixings, one after the other. Assumes nothing.
+use borrow.Author.Needs.{needs}
+use Rattle.blake2b.proofs.rounds.columns.Statement.{statement}
+use Rattle.blake2b.proofs.rounds.columns.Tie as tie
+
+returns : tie.Need-returns
+returns c = cc
+
+pub columns-spec : {M : Type 1} → statement M
+columns-spec = tie.close (tie.spec (λ c κs. search needs) (λ c κs. search needs) (λ c κs. search needs) (λ c κs. search needs) returns)
