@@ -1,5 +1,6 @@
 //! The hash and the tree over the crate blake2b_simd (Debian: librust-blake2b-simd-dev), which chooses its code by the processor at run
 //! time: one digest at a time, and with `many`, which works on several messages side by side where the processor can.
+#![allow(dead_code)]
 use blake2b_simd::many::{hash_many, HashManyJob};
 use blake2b_simd::Params;
 

@@ -4,7 +4,7 @@
 mod rival;
 #[cfg(simd)]
 mod simd;
-use rival::{blake2b, least};
+use rival::{least, plain};
 use std::hint::black_box;
 
 extern "C" {
@@ -18,33 +18,9 @@ fn ours(bytes: &[u8]) -> [u8; 32] {
     out
 }
 
-/// The root of whole segments, at least one, over a hash of 65 bytes. The compiler knows that length and that there is no key, and makes
-/// of the plain BLAKE2b one for this call alone, without the block loop and the seven words that are 0.
-fn over(bytes: &[u8], hash: &impl Fn(&[u8; 65]) -> [u8; 32]) -> [u8; 32] {
-    let n = bytes.len() / 64;
-    let mut message = [0u8; 65];
-    if n == 1 {
-        message[1..].copy_from_slice(bytes);
-    } else {
-        let left = n.next_power_of_two() / 2 * 64;
-        message[0] = 1;
-        message[1..33].copy_from_slice(&over(&bytes[..left], hash));
-        message[33..].copy_from_slice(&over(&bytes[left..], hash));
-    }
-    hash(&message)
-}
-
-fn plain(bytes: &[u8]) -> [u8; 32] {
-    over(bytes, &|message| {
-        let mut out = [0u8; 32];
-        blake2b(&[], message, &mut out);
-        out
-    })
-}
-
 #[cfg(simd)]
 fn one_by_one(bytes: &[u8]) -> [u8; 32] {
-    over(bytes, &|message| simd::digest(message))
+    rival::over(bytes, &|message| simd::digest(message))
 }
 
 fn main() {

@@ -24,5 +24,6 @@ promise =
           ap length (opened nn key message)
           ∙ length-take-le nn (bytes (h nn key message))
           (omega (arith, length-state (h nn key message), length-absorbed (before (keyed key message)) 0 (keyed key message) (start nn (length key))));
-      bytes = λ nn key message. subst (λ (l : List ℕ). Bytes l) (sym (opened nn key message)) (take-below nn (bytes (h nn key message)) (state-below (h nn key message)));
+      bytes = λ nn key message.
+          subst (λ (l : List ℕ). Bytes l) (sym (opened nn key message)) (take-below nn (bytes (h nn key message)) (state-below (h nn key message)));
     }

@@ -12,10 +12,14 @@ use Rattle.blake2b.specs.Compression.{IV, G, round, rounds, xorAt, local
 
 -- the two halves of a round that takes the words x
 abbrev columns : List ℕ → List ℕ → List ℕ
-columns x v = G (G (G (G v 0 4 8 12 (getD x 0 0) (getD x 1 0)) 1 5 9 13 (getD x 2 0) (getD x 3 0)) 2 6 10 14 (getD x 4 0) (getD x 5 0)) 3 7 11 15 (getD x 6 0) (getD x 7 0)
+columns x v =
+    G (G (G (G v 0 4 8 12 (getD x 0 0) (getD x 1 0)) 1 5 9 13 (getD x 2 0) (getD x 3 0)) 2 6 10 14 (getD x 4 0) (getD x 5 0))
+    3 7 11 15 (getD x 6 0) (getD x 7 0)
 
 abbrev diagonals : List ℕ → List ℕ → List ℕ
-diagonals x v = G (G (G (G v 0 5 10 15 (getD x 8 0) (getD x 9 0)) 1 6 11 12 (getD x 10 0) (getD x 11 0)) 2 7 8 13 (getD x 12 0) (getD x 13 0)) 3 4 9 14 (getD x 14 0) (getD x 15 0)
+diagonals x v =
+    G (G (G (G v 0 5 10 15 (getD x 8 0) (getD x 9 0)) 1 6 11 12 (getD x 10 0) (getD x 11 0)) 2 7 8 13 (getD x 12 0) (getD x 13 0))
+    3 4 9 14 (getD x 14 0) (getD x 15 0)
 
 -- one round more
 pub round-more : (i : ℕ) (m v₀ : List ℕ) {v c r : List ℕ} → v ≡ rounds i m v₀ → c ≡ columns (chosen i m) v → r ≡ diagonals (chosen i m) c

@@ -35,7 +35,8 @@ returns-4 c =
 
 returns-5 : tie.Need-returns-5
 returns-5 c =
-    let at-finish = c .before .before .before .before in
+    let at-arg = c .before .before .before in
+    let at-finish = at-arg .before in
     let at-start = at-finish .before .before in
     digests _ _ _ (allowed-yes _ _ (omega arith) (omega arith) (omega arith))
     (by-blocks _ _ _ (at-start .start .ensures) (at-finish .finish .ensures) (c .before .before .write .ensures))

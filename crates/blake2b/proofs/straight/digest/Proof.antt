@@ -23,7 +23,8 @@ returns c =
     let at-state = at-1 .before .before in
     let h = at-state .state .ensures in
     let start = at-state .before .before .before in
-    four-words (start .args .out .now) _ (start .pre .1) (ap length h ∙ length-absorbed _ _ _ _) (at-1 .store .ensures) (at-2 .store2 .ensures) (at-3 .store3 .ensures) (at-4 .store4 .ensures)
+    let eight = ap length h ∙ length-absorbed _ _ _ _ in
+    four-words (start .args .out .now) _ (start .pre .1) eight (at-1 .store .ensures) (at-2 .store2 .ensures) (at-3 .store3 .ensures) (at-4 .store4 .ensures)
     ∙ ap (λ (l : List ℕ). take 32 (bytes l)) h
 
 pub digest-spec : {M : Type 1} → statement M

@@ -13,8 +13,17 @@ returns c =
     let at-block = c .before .before .before in
     let at-start = at-block .before in
     let a = at-start .before .before .args in
-    let block = of-words _ _ _ _ (at-block .block .ensures) (whole _ _ _ _ (c .before .before .local .ensures) (c .before .rounds-again .ensures) (c .folded .ensures)) in
+    let parts = whole _ _ _ _ (c .before .before .local .ensures) (c .before .rounds-again .ensures) (c .folded .ensures) in
+    let block = of-words _ _ _ _ (at-block .block .ensures) parts in
     one-block _ _ _ (omega arith) (omega arith) block ∙ ap (finished (a .message .now)) (at-start .start .ensures)
 
 pub state-spec : {M : Type 1} → statement M
-state-spec = tie.close (tie.spec (λ c κs. search needs) (λ c κs. search needs) (λ c κs. search needs) (λ c κs. search needs) (λ c κs. search needs) returns)
+state-spec =
+    tie.close
+    (tie.spec
+    (λ c κs. search needs)
+    (λ c κs. search needs)
+    (λ c κs. search needs)
+    (λ c κs. search needs)
+    (λ c κs. search needs)
+    returns)
