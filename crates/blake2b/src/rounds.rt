@@ -1,8 +1,5 @@
 // (2.7, 3.2) The twelve rounds of F. Each is a line for the columns of v and one for its diagonals, and the two lines name the words in the
 // order of the round's row of the message schedule: row r, or r - 10 from round 10 on.
-// How quick the hash is hangs on what the compiler puts in line. `columns` and `diagonals` are small enough for it at each of their calls, by
-// its own reckoning 275 of 375; a whole round is not. `rounds` it puts in line because it has a single caller, `compression::compress`: with a
-// second one the hash is as right as before and slower, and no check notices.
 ghost use mathlib.Core.Path.{_≡_};
 ghost use Prim.Native.Nat.{_<_};
 ghost use lib.ListN.{getD};
@@ -26,7 +23,8 @@ fn mix(
     g(v, a, b, c, d, m[i], m[j])
 }
 
-// G on the four columns of v, with the words a to h of m.
+// G on the four columns of v, with the words a to h of m. The compiler puts this function and the next in line at each of their 24 calls: by
+// its own reckoning they cost 275 where it allows 375, and a whole round would cost too much.
 pub fn columns(
     m: [u64; 16],
     v: [u64; 16],
@@ -74,7 +72,9 @@ pub fn diagonals(
     mix(m, v, 3, 4, 9, 14, g, h)
 }
 
-// The rounds of any block.
+// The rounds of any block. The compiler puts a function as large as this one in line only where it has a single caller, and how quick the hash
+// is hangs on that: `compression::compress` has to stay its only one. With a second the hash is as right as before and slower, and no check
+// notices.
 pub fn rounds(m: [u64; 16], v: [u64; 16]) -> [u64; 16]
     ensures { λ r. ⌜ r ≡ RFC.rounds 12 m v ⌝ }
 {

@@ -1,10 +1,11 @@
 // (2.7, 3.2) The twelve rounds again, letter for letter, for the straight path alone: in line there, the words of its block stay in
-// registers, and the seven that are 0 are never added. `straight::state` has to stay its only caller, as rounds.rt says.
+// registers, and the seven that are 0 are never added.
 ghost use mathlib.Core.Path.{_≡_};
 ghost use Rattle.blake2b.specs.Compression as RFC;
 use crate::rounds::columns;
 use crate::rounds::diagonals;
 
+// `straight::state` has to stay its only caller, for the reason that stands at `rounds::rounds`.
 pub fn rounds_again(m: [u64; 16], v: [u64; 16]) -> [u64; 16]
     ensures { λ r. ⌜ r ≡ RFC.rounds 12 m v ⌝ }
 {
