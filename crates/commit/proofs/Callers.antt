@@ -23,7 +23,7 @@ use Rattle.host.specs.Calls.{replaced}
 use Rattle.rules.specs.View.{settingOf, parent, areasRight}
 use Rattle.rules.specs.Facts.{Good, Solid}
 use Rattle.rules.specs.Commit.{Closed, closed, finalSlots, copiedBack, finalPlace, commit}
-use Rattle.rules.specs.Demands.{Sound}
+use Rattle.rules.specs.Visit.{Declared}
 use Rattle.rules.proofs.Committing.{final, order-places, place-twins}
 use Rattle.rules.proofs.Laws.Sizes.{place-size, whose-whole, whose-here, whose-on, has-held}
 use Rattle.rules.proofs.Laws.Slots.{every-fore, every-aft}
@@ -86,7 +86,7 @@ within z n m a lt e = omega (arith, mul-le-mul-right {m = suc n} {n = m} z lt, s
 
 -- ---- a host in order with an open program
 
-module _ (disk : List ℕ) (h : Host) (stage : List ℕ) (sound : Sound 4096 h) (o : inOrder 4096 h ≡ true)
+module _ (disk : List ℕ) (h : Host) (stage : List ℕ) (sound : Declared 4096 h) (o : inOrder 4096 h ≡ true)
     (areas : areasRight 4096 h disk stage ≡ true) (live : h .program .active ≡ true) where
   abbrev id : List ℕ
   id = h .program .terms .head .contract

@@ -1,7 +1,7 @@
 -- A commit gives the parent the size, root and bytes that it was read with, leaves every other contract, and changes no slot but those that
 -- staged positions go to. Assumes nothing.
 use mathlib.Core.Path.{_≡_, refl, sym, ap, ap₂, _∙_, subst}
-use mathlib.Core.Bool.{true, false, not}
+use mathlib.Core.Bool.{Bool, true, false, not}
 use mathlib.Core.List.{List, [], _++_, append-nil}
 use Prim.Native.Nat.{ℕ, suc, _+_, _*_, _/_, _≤_, _<_}
 use native.Mathlib.Nat.{zero-div, suc-mul, mul-le-mul-right, le-of-mul-le-mul-right}
@@ -9,11 +9,11 @@ use native.Mathlib.Omega.{arith}
 use lib.ListN.{length, getD, List·getD-append}
 use lib.IntN.{pos, _-ℤ_}
 use lib.Dec.{ltb, eqb}
-use borrow.Author.Tests.{not-true, not-false, ltb-true, eqb-true}
-use Rattle.area.specs.Pick.{both, either}
+use borrow.Author.Tests.{not-true, not-false, ltb-true, eqb-true, eq-eqb}
+use Rattle.area.specs.Pick.{both}
 use Rattle.area.specs.Area.{same, part, tab}
-use Rattle.area.proofs.Laws.Pick.{by, picks, skips, never, both-left, both-right}
-use Rattle.area.proofs.Laws.Same.{same-eq}
+use Rattle.area.proofs.Laws.Pick.{by, picks, skips, never, both-left, both-right, both-join, either-join}
+use Rattle.area.proofs.Laws.Same.{same-eq, eq-same}
 use Rattle.area.proofs.Laws.Parts.{length-part}
 use Rattle.area.proofs.Laws.Tab.{length-tab}
 use Rattle.sia.specs.Encode.{joined, every}
@@ -26,11 +26,14 @@ use Rattle.host.specs.Order.{inOrder, slotInOrder, parentInOrder, termsInOrder}
 use Rattle.host.specs.Calls.{replaced}
 use Rattle.rules.specs.View.{settingOf, parent, areasRight, sector, spotOf, parentSpots, committedSpots, whole}
 use Rattle.rules.specs.Roots.{contractRoot}
-use Rattle.rules.specs.Record.{pairOf, runningPair}
+use Rattle.rules.specs.Record.{Pair, pairOf, runningPair}
 use Rattle.rules.specs.Run.{going}
 use Rattle.rules.specs.Facts.{Good, Solid}
 use Rattle.rules.specs.Commit.{Closed, closed, finalSlots, finalPlace, copiedBack, givenUp, commit, agreed, close}
-use Rattle.rules.specs.Demands.{Sound, pairing, sectorsOf, Committed, Commits}
+use Rattle.rules.specs.Visit.{Areas, Agreement, Declared}
+use Rattle.rules.specs.Trace.{sectorsOf, pairing}
+use Rattle.rules.specs.Outcome.{Committed}
+use Rattle.rules.specs.Demand2.{Agreed}
 use Rattle.rules.proofs.Laws.Effects.{whole-sectors}
 use Rattle.rules.proofs.Laws.Slots.{every-and, every-fore, every-aft, apart-out}
 use Rattle.rules.proofs.Laws.Spots.{every-at, every-get, whose-every, whose-nobody, length-each, unstaged}
@@ -44,16 +47,20 @@ use Rattle.host.specs.declared.Place.{Place}
 use Rattle.host.specs.declared.Host.{Host}
 use Rattle.rules.specs.declared.Spot.the-variants.{OnDisk, InStage}
 
+-- an area that no close looks at
+abbrev lends : List ℕ → List ℕ → Areas
+lends disk stage = record { disk = disk; stage = stage; input = []; output = [] }
+
 -- ---- an agreement that is answered with 0
 
-record Agreement (z : ℕ) (disk : List ℕ) (h : Host) (stage : List ℕ) (size : ℕ) (root : List ℕ) : Type 0 where
+record Agrees (z : ℕ) (disk : List ℕ) (h : Host) (stage : List ℕ) (size : ℕ) (root : List ℕ) : Type 0 where
   order : inOrder z h ≡ true
   areas : areasRight z h disk stage ≡ true
   live : h .program .active ≡ true
   pair : pairing size root ≡ runningPair z (settingOf h disk) (h .program .progress) stage
   done : close z disk h stage true size root ≡ commit z disk h stage
 
-agreement : (z : ℕ) (disk : List ℕ) (h : Host) (stage : List ℕ) (size : ℕ) (root : List ℕ) → close z disk h stage true size root .number ≡ 0 → Agreement z disk h stage size root
+agreement : (z : ℕ) (disk : List ℕ) (h : Host) (stage : List ℕ) (size : ℕ) (root : List ℕ) → close z disk h stage true size root .number ≡ 0 → Agrees z disk h stage size root
 unfolding close agreed givenUp
 agreement z disk h stage size root e =
     let pair = runningPair z (settingOf h disk) (h .program .progress) stage in
@@ -61,7 +68,7 @@ agreement z disk h stage size root e =
     let c2 = passes (λ r. r .number) (not (areasRight z h disk stage)) (closed 2 0 (pos 0) h disk) _ (λ n. absurd (omega arith)) (c1 .1) in
     let c4 = passes (λ r. r .number) (not (h .program .active)) (closed 4 0 (pos 0) h disk) _ (λ n. absurd (omega arith)) (c2 .1) in
     let up = skips (not true) (givenUp 0 disk h) _ refl in
-    let c13 = passes (λ r. r .number) (either (h .program .progress .failed) (going (h .program .terms) (h .program .progress))) (closed 13 0 (pos 0) h disk) _ (λ n. absurd (omega arith))
+    let c13 = passes (λ r. r .number) _ (closed 13 0 (pos 0) h disk) _ (λ n. absurd (omega arith))
     (ap (λ (r : Closed). r .number) (sym up) ∙ c4 .1) in
     by (both (eqb size (pair .size)) (same root (pair .root)))
     (λ t. record {
@@ -75,7 +82,7 @@ agreement z disk h stage size root e =
 
 -- ---- a held parent
 
-module _ (z : ℕ) (disk : List ℕ) (h : Host) (stage : List ℕ) (sound : Sound z h) (o : inOrder z h ≡ true) (areas : areasRight z h disk stage ≡ true) (live : h .program .active ≡ true) where
+module _ (z : ℕ) (disk : List ℕ) (h : Host) (stage : List ℕ) (sound : Declared z h) (o : inOrder z h ≡ true) (areas : areasRight z h disk stage ≡ true) (live : h .program .active ≡ true) where
   unfoldable id : List ℕ
   id = h .program .terms .head .contract
 
@@ -221,7 +228,7 @@ module _ (z : ℕ) (disk : List ℕ) (h : Host) (stage : List ℕ) (sound : Soun
     unfolding x finalPlace withSlots
     slot-is j lt = ap (λ (p : Place). getD (p .slots) j 0) parent-is ∙ List·getD-append (f .slots) _ 0 j (omega (arith, f .long))
 
-    held-commits : Committed z disk h stage (left (s .it) (f .slots))
+    held-commits : Committed z h (lends disk stage) (left (s .it) (f .slots))
     unfolding left withProgram withPlaces id x size staged after
     held-commits = record {
       parent = ap (pairOf z after) parent-is ∙ own-pair;
@@ -229,6 +236,8 @@ module _ (z : ℕ) (disk : List ℕ) (h : Host) (stage : List ℕ) (sound : Soun
       others = λ other ne. (other-place other ne, other-sectors other ne);
       slots = λ n out. filling-outside z stage staged (f .slots) n 0 (size / z) disk (λ j lo hi e q. out j (omega arith) e (slot-is j (omega arith) ∙ q));
       long = filling-length z stage staged (f .slots) 0 (size / z) disk;
+      tally = refl;
+      growth = ap (λ (p : Place). pos size -ℤ pos (p .size)) (sym (s .whose-is));
     }
 
   -- ---- no parent: read-only mode
@@ -262,9 +271,10 @@ module _ (z : ℕ) (disk : List ℕ) (h : Host) (stage : List ℕ) (sound : Soun
   nobody-pair e =
       ap₂ pairing (whose-nobody id (h .places) e ∙ sym (nobody e)) (ap (contractRoot z disk []) (none-committed e) ∙ sym (ap (contractRoot z disk stage) (none-read e)))
 
-  nobody-commits : whose id (h .places) .held ≡ false → (x : Place) (l : List ℕ) → Committed z disk h stage (left x l)
+  nobody-commits : whose id (h .places) .held ≡ false → (l : List ℕ) → Committed z h (lends disk stage) (left (whose id (h .places)) l)
   unfolding left withProgram withPlaces id size staged
-  nobody-commits e x l =
+  nobody-commits e l =
+      let x = whose (h .program .terms .head .contract) (h .places) in
       let same-places = replaced-none (h .program .terms .head .contract) (finalPlace x (h .program .progress .size) l) (h .places) (none-of (h .program .terms .head .contract) (h .places) e) in
       let same-disk : copiedBack z stage (h .program .progress .staged) l 0 (h .program .progress .size / z) disk ≡ disk = nothing-back l e in
       record {
@@ -273,25 +283,61 @@ module _ (z : ℕ) (disk : List ℕ) (h : Host) (stage : List ℕ) (sound : Soun
         others = λ other ne. (ap (whose other) same-places, ap (λ (d : List ℕ). sectorsOf z d (whose other (h .places))) same-disk);
         slots = λ n out. ap (λ (d : List ℕ). part d (n * z) z) same-disk;
         long = ap length same-disk;
+        tally = refl;
+        growth = refl;
       }
 
-  commits : Committed z disk h stage (commit z disk h stage)
+  commits : Committed z h (lends disk stage) (commit z disk h stage)
   unfolding id size settingOf
   commits =
       by (whose id (h .places) .held)
       (λ e. let q = order-places z h o in
       let s = split id (h .places) (place-twins z (h .disk) (h .places) (q .0)) e in
       let f = final z (h .disk) size id (h .places) s (sound .some) (q .1) (q .0) (sound .places) (good .orderly .whole) (good .orderly .within) in
-      subst (Committed z disk h stage)
+      subst (Committed z h (lends disk stage))
       (sym (commit-left ∙ ap (λ (x : Place). left x (finalSlots z (h .disk) (h .places) x size)) (s .whose-is) ∙ ap (left (s .it)) (f .is)))
       (held-commits s f))
-      (λ e. subst (Committed z disk h stage) (sym commit-left) (nobody-commits e _ _))
+      (λ e. subst (Committed z h (lends disk stage)) (sym commit-left) (nobody-commits e _))
 
--- An agreement that is answered with 0 commits the pair that it names.
-pub every-commit : Commits
-every-commit = record {
-  pair = λ z disk h stage size root e. agreement z disk h stage size root e .pair;
-  commits = λ z disk h stage size root sound e.
-      let a = agreement z disk h stage size root e in
-      subst (Committed z disk h stage) (sym (a .done)) (commits z disk h stage sound (a .order) (a .areas) (a .live));
+-- ---- the whole
+
+commits-all : (z : ℕ) (disk : List ℕ) (h : Host) (stage : List ℕ) (size : ℕ) (root : List ℕ) → Declared z h
+    → close z disk h stage true size root .number ≡ 0 → Committed z h (lends disk stage) (close z disk h stage true size root)
+commits-all z disk h stage size root declared e =
+    let g = agreement z disk h stage size root e in
+    subst (Committed z h (lends disk stage)) (sym (g .done)) (commits z disk h stage declared (g .order) (g .areas) (g .live))
+
+with-areas : (z : ℕ) (h : Host) (a : Areas) (r : Closed) → Committed z h (lends (a .disk) (a .stage)) r → Committed z h a r
+with-areas z h a r c = record {
+  parent = c .parent;
+  sectors = c .sectors;
+  others = c .others;
+  slots = c .slots;
+  long = c .long;
+  tally = c .tally;
+  growth = c .growth;
 }
+
+-- an agreement to the pair reached is answered with 0
+answers : (z : ℕ) (disk : List ℕ) (h : Host) (stage : List ℕ) (size : ℕ) (root : List ℕ) → inOrder z h ≡ true
+    → areasRight z h disk stage ≡ true → h .program .active ≡ true → h .program .progress .failed ≡ false → going (h .program .terms) (h .program .progress) ≡ false
+    → pairing size root ≡ runningPair z (settingOf h disk) (h .program .progress) stage → close z disk h stage true size root .number ≡ 0
+unfolding close agreed commit
+answers z disk h stage size root order areas live good ended same-pair =
+    let sizes = eq-eqb _ _ (ap (λ (x : Pair). x .size) same-pair) in
+    let roots = eq-same _ _ (ap (λ (x : Pair). x .root) same-pair) in
+    ap (λ (r : Closed). r .number)
+    (skips (not (inOrder z h)) _ _ (ap not order) ∙ skips (not (areasRight z h disk stage)) _ _ (ap not areas)
+    ∙ skips (not (h .program .active)) _ _ (ap not live) ∙ skips (not true) _ _ refl ∙ skips _ _ _ (either-join _ _ good ended)
+    ∙ picks (both (eqb size _) (same root _)) _ _ (both-join _ _ sizes roots))
+
+agreed-true : (z : ℕ) (h : Host) (a : Areas) (size : ℕ) (root : List ℕ) → Agreed z h a (record { agree = true; size = size; root = root })
+agreed-true z h a size root = record {
+  pair = λ e. agreement z (a .disk) h (a .stage) size root e .pair;
+  done = answers z (a .disk) h (a .stage) size root;
+  commits = λ declared e. with-areas z h a _ (commits-all z (a .disk) h (a .stage) size root declared e);
+}
+
+pub agreements : (z : ℕ) (h : Host) (a : Areas) (g : Agreement) → g .agree ≡ true → Agreed z h a g
+agreements z h a g e =
+    subst (λ (b : Bool). Agreed z h a (record { agree = b; size = g .size; root = g .root })) (sym e) (agreed-true z h a (g .size) (g .root))

@@ -21,7 +21,7 @@ use Rattle.host.specs.Order.{lent, placeInOrder, twins, placesInOrder, inOrder}
 use Rattle.host.specs.Calls.{replaced}
 use Rattle.rules.specs.View.{settingOf, parent}
 use Rattle.rules.specs.Commit.{cut, newSlots, finalSlots, finalPlace, commit}
-use Rattle.rules.specs.Demands.{Shaped, Sound}
+use Rattle.rules.specs.Visit.{Shaped, Declared}
 use Rattle.rules.proofs.Laws.Effects.{whole-sectors}
 use Rattle.rules.proofs.Laws.Sizes.{has-held, has-same, keeps-not, place-size, others-left}
 use Rattle.rules.proofs.Laws.Slots.{every-and, every-fore, every-aft, apart-out, apart-in, free-enough, Fresh, new-slots}
@@ -224,7 +224,7 @@ pub final-place : (z disk size : ℕ) (id : List ℕ) (ps : List Place) (it : Pl
 final-place z disk size id ps it l e f =
     ap (λ (x : Place). finalPlace x size (finalSlots z disk ps x size)) e ∙ ap (λ (m : List ℕ). finalPlace it size m) f
 
-pub commit-order : (z : ℕ) (disk : List ℕ) (h : Host) (stage : List ℕ) → Sound z h → inOrder z h ≡ true → h .program .active ≡ true → inOrder z (commit z disk h stage .host) ≡ true
+pub commit-order : (z : ℕ) (disk : List ℕ) (h : Host) (stage : List ℕ) → Declared z h → inOrder z h ≡ true → h .program .active ≡ true → inOrder z (commit z disk h stage .host) ≡ true
 unfolding settingOf place old
 commit-order z disk h stage sound o live =
     let id = h .program .terms .head .contract in

@@ -13,9 +13,10 @@ use Rattle.host.specs.With.{withProgram, withCame, withProgress}
 use Rattle.rules.specs.View.{Setting, Turn, settingOf, turnOf, withRun}
 use Rattle.rules.specs.Run.{run}
 use Rattle.rules.specs.Calls.{Pieced, pieced, accepted, piece}
-use Rattle.rules.specs.Demands.{together, lentTo, fed, AllAccepted, made, after, Taking, Cutting, Cuttings}
+use Rattle.rules.specs.Visit.{Areas}
+use Rattle.rules.specs.Trace.{together, lentTo, fed, AllAccepted, made, after}
 use Rattle.rules.proofs.Laws.Steps.{run-below, run-on}
-use Rattle.rules.proofs.Laws.Taking.{all-accepted}
+use Rattle.rules.proofs.Laws.Taking.{Taking, all-accepted}
 use Rattle.host.specs.declared.Host.{Host}
 
 take-put : (d x : List ℕ) (k : ℕ) → length x ≡ k → k ≤ length d → take k (put d 0 x) ≡ x
@@ -56,88 +57,88 @@ accepted-again : (z : ℕ) (disk : List ℕ) (h : Host) (k : ℕ) (t : Turn) (ar
 unfolding accepted made withRun withProgram withProgress withCame settingOf turnOf
 accepted-again z disk h k t area b = refl
 
-module _ (z : ℕ) (disk : List ℕ) (h : Host) (stage input output all : List ℕ) (roomy : length all ≤ length input) where
-  first : (b rest : List ℕ) → h .program .came ≡ 0 → b ++ rest ≡ all → accepted z disk h stage input output b ≡ after z disk h stage input output all (length b)
+module _ (z : ℕ) (h : Host) (a : Areas) (all : List ℕ) (roomy : length all ≤ length (a .input)) where
+  first : (b rest : List ℕ) → h .program .came ≡ 0 → b ++ rest ≡ all → accepted z (a .disk) h (a .stage) (a .input) (a .output) b ≡ after z h a all (length b)
   unfolding after
   first b rest c e =
       let g : take (length b) all ≡ b = ap (λ (x : List ℕ). take (length b) x) (sym e) ∙ take-append-seam b rest in
-      let a : put input 0 b ≡ put input 0 (take (length b) all) = ap (λ (x : List ℕ). put input 0 x) (sym g) in
+      let area : put (a .input) 0 b ≡ put (a .input) 0 (take (length b) all) = ap (λ (x : List ℕ). put (a .input) 0 x) (sym g) in
       let k : 0 + length b ≡ length b = omega arith in
-      let u : take (length b) (put input 0 b) ≡ take (length b) all = take-put input b (length b) refl (omega (arith, length-append b rest, ap length e)) ∙ sym g in
-      let r : run z (settingOf h disk) (put input 0 b) (0 + length b) (turnOf h stage output) ≡ run z (settingOf h disk) all (length b) (turnOf h stage output) =
-      ap (λ (n : ℕ). run z (settingOf h disk) (put input 0 b) n (turnOf h stage output)) k ∙ run-below z (settingOf h disk) (put input 0 b) all (length b) (turnOf h stage output) u in
-      accepted-made z disk h stage input output b 0 c ∙ same-made h (0 + length b) (length b) _ _ _ _ k r a
+      let u : take (length b) (put (a .input) 0 b) ≡ take (length b) all = take-put (a .input) b (length b) refl (omega (arith, length-append b rest, ap length e)) ∙ sym g in
+      let r : run z (settingOf h (a .disk)) (put (a .input) 0 b) (0 + length b) (turnOf h (a .stage) (a .output)) ≡ run z (settingOf h (a .disk)) all (length b) (turnOf h (a .stage) (a .output)) =
+      ap (λ (n : ℕ). run z (settingOf h (a .disk)) (put (a .input) 0 b) n (turnOf h (a .stage) (a .output))) k ∙ run-below z (settingOf h (a .disk)) (put (a .input) 0 b) all (length b) (turnOf h (a .stage) (a .output)) u in
+      accepted-made z (a .disk) h (a .stage) (a .input) (a .output) b 0 c ∙ same-made h (0 + length b) (length b) _ _ _ _ k r area
 
   next : (x b rest : List ℕ) → x ++ (b ++ rest) ≡ all
-      → let w = after z disk h stage input output all (length x) in
-      accepted z disk (w .host) (w .stage) (w .input) (w .output) b ≡ after z disk h stage input output all (length (x ++ b))
+      → let w = after z h a all (length x) in
+      accepted z (a .disk) (w .host) (w .stage) (w .input) (w .output) b ≡ after z h a all (length (x ++ b))
   unfolding after made
   next x b rest e =
-      let s : Setting = settingOf h disk in
-      let t : Turn = turnOf h stage output in
+      let s : Setting = settingOf h (a .disk) in
+      let t : Turn = turnOf h (a .stage) (a .output) in
       let m : length (x ++ b) ≡ length x + length b = length-append x b in
       let gx : take (length x) all ≡ x = ap (λ (y : List ℕ). take (length x) y) (sym e) ∙ take-append-seam x (b ++ rest) in
       let gb : take (length (x ++ b)) all ≡ x ++ b = ap (λ (y : List ℕ). take (length (x ++ b)) y) (sym (append-assoc x b rest ∙ e)) ∙ take-append-seam (x ++ b) rest in
-      let a : put (put input 0 (take (length x) all)) (length x) b ≡ put input 0 (x ++ b) =
-      ap (λ (y : List ℕ). put (put input 0 y) (length x) b) gx ∙ ap (λ (n : ℕ). put (put input 0 x) n b) (omega arith) ∙ put-append input 0 x b (0 + length x) refl in
-      let u : take (length (x ++ b)) (put input 0 (x ++ b)) ≡ take (length (x ++ b)) all = take-put input (x ++ b) (length (x ++ b)) refl (omega (arith, length-append (x ++ b) rest, ap length (append-assoc x b rest ∙ e))) ∙ sym gb in
-      let r : run z s (put (put input 0 (take (length x) all)) (length x) b) (length x + length b) (run z s all (length x) t) ≡ run z s all (length (x ++ b)) t =
-      ap (λ (y : List ℕ). run z s y (length x + length b) (run z s all (length x) t)) a
-      ∙ ap (λ (n : ℕ). run z s (put input 0 (x ++ b)) n (run z s all (length x) t)) (sym m)
-      ∙ run-below z s (put input 0 (x ++ b)) all (length (x ++ b)) (run z s all (length x) t) u
+      let area : put (put (a .input) 0 (take (length x) all)) (length x) b ≡ put (a .input) 0 (x ++ b) =
+      ap (λ (y : List ℕ). put (put (a .input) 0 y) (length x) b) gx ∙ ap (λ (n : ℕ). put (put (a .input) 0 x) n b) (omega arith) ∙ put-append (a .input) 0 x b (0 + length x) refl in
+      let u : take (length (x ++ b)) (put (a .input) 0 (x ++ b)) ≡ take (length (x ++ b)) all = take-put (a .input) (x ++ b) (length (x ++ b)) refl (omega (arith, length-append (x ++ b) rest, ap length (append-assoc x b rest ∙ e))) ∙ sym gb in
+      let r : run z s (put (put (a .input) 0 (take (length x) all)) (length x) b) (length x + length b) (run z s all (length x) t) ≡ run z s all (length (x ++ b)) t =
+      ap (λ (y : List ℕ). run z s y (length x + length b) (run z s all (length x) t)) area
+      ∙ ap (λ (n : ℕ). run z s (put (a .input) 0 (x ++ b)) n (run z s all (length x) t)) (sym m)
+      ∙ run-below z s (put (a .input) 0 (x ++ b)) all (length (x ++ b)) (run z s all (length x) t) u
       ∙ run-on z s all (length x) (length (x ++ b)) t (omega arith) in
-      accepted-again z disk h (length x) (run z s all (length x) t) (put input 0 (take (length x) all)) b
-      ∙ same-made h _ _ _ _ _ _ (sym m) r (a ∙ ap (λ (y : List ℕ). put input 0 y) (sym gb))
+      accepted-again z (a .disk) h (length x) (run z s all (length x) t) (put (a .input) 0 (take (length x) all)) b
+      ∙ same-made h _ _ _ _ _ _ (sym m) r (area ∙ ap (λ (y : List ℕ). put (a .input) 0 y) (sym gb))
 
   -- after pieces that were accepted, x before them
   on : (x : List ℕ) (bs : List (List ℕ)) (rest : List ℕ) → x ++ (together bs ++ rest) ≡ all
-      → AllAccepted z disk (after z disk h stage input output all (length x)) bs
-      → fed z disk (after z disk h stage input output all (length x)) bs ≡ after z disk h stage input output all (length (x ++ together bs))
+      → AllAccepted z (a .disk) (after z h a all (length x)) bs
+      → fed z (a .disk) (after z h a all (length x)) bs ≡ after z h a all (length (x ++ together bs))
   unfolding fed together
-  on x [] rest e q = ap (λ (y : List ℕ). after z disk h stage input output all (length y)) (sym (append-nil x))
+  on x [] rest e q = ap (λ (y : List ℕ). after z h a all (length y)) (sym (append-nil x))
   on x (b ∷ bs) rest e q =
-      let w = after z disk h stage input output all (length x) in
-      let p : piece z disk (w .host) (w .stage) (w .input) (w .output) b ≡ after z disk h stage input output all (length (x ++ b)) =
-      answered-zero w _ _ (piece-answers z disk w b) (q .0) ∙ next x b (together bs ++ rest) (ap (λ (y : List ℕ). x ++ y) (sym (append-assoc b (together bs) rest)) ∙ e) in
-      ap (λ (y : Pieced). fed z disk y bs) p
-      ∙ on (x ++ b) bs rest (append-assoc x b (together bs ++ rest) ∙ ap (λ (y : List ℕ). x ++ y) (sym (append-assoc b (together bs) rest)) ∙ e) (subst (λ (y : Pieced). AllAccepted z disk y bs) p (q .1))
-      ∙ ap (λ (y : List ℕ). after z disk h stage input output all (length y)) (append-assoc x b (together bs))
+      let w = after z h a all (length x) in
+      let p : piece z (a .disk) (w .host) (w .stage) (w .input) (w .output) b ≡ after z h a all (length (x ++ b)) =
+      answered-zero w _ _ (piece-answers z (a .disk) w b) (q .0) ∙ next x b (together bs ++ rest) (ap (λ (y : List ℕ). x ++ y) (sym (append-assoc b (together bs) rest)) ∙ e) in
+      ap (λ (y : Pieced). fed z (a .disk) y bs) p
+      ∙ on (x ++ b) bs rest (append-assoc x b (together bs ++ rest) ∙ ap (λ (y : List ℕ). x ++ y) (sym (append-assoc b (together bs) rest)) ∙ e) (subst (λ (y : Pieced). AllAccepted z (a .disk) y bs) p (q .1))
+      ∙ ap (λ (y : List ℕ). after z h a all (length y)) (append-assoc x b (together bs))
 
   -- the state after one or more accepted pieces is that of the whole data at the number of bytes come
   pub cutting : (b : List ℕ) (bs : List (List ℕ)) (rest : List ℕ) → h .program .came ≡ 0 → together (b ∷ bs) ++ rest ≡ all
-      → AllAccepted z disk (lentTo h stage input output) (b ∷ bs)
-      → fed z disk (lentTo h stage input output) (b ∷ bs) ≡ after z disk h stage input output all (length (together (b ∷ bs)))
+      → AllAccepted z (a .disk) (lentTo h a) (b ∷ bs)
+      → fed z (a .disk) (lentTo h a) (b ∷ bs) ≡ after z h a all (length (together (b ∷ bs)))
   unfolding fed together
   cutting b bs rest c e q =
-      let w : Pieced = lentTo h stage input output in
+      let w : Pieced = lentTo h a in
       let e₁ : b ++ (together bs ++ rest) ≡ all = sym (append-assoc b (together bs) rest) ∙ e in
-      let p : piece z disk h stage input output b ≡ after z disk h stage input output all (length b) =
-      answered-zero w _ _ (piece-answers z disk w b) (q .0) ∙ first b (together bs ++ rest) c e₁ in
-      ap (λ (y : Pieced). fed z disk y bs) p ∙ on b bs rest e₁ (subst (λ (y : Pieced). AllAccepted z disk y bs) p (q .1))
+      let p : piece z (a .disk) h (a .stage) (a .input) (a .output) b ≡ after z h a all (length b) =
+      answered-zero w _ _ (piece-answers z (a .disk) w b) (q .0) ∙ first b (together bs ++ rest) c e₁ in
+      ap (λ (y : Pieced). fed z (a .disk) y bs) p ∙ on b bs rest e₁ (subst (λ (y : Pieced). AllAccepted z (a .disk) y bs) p (q .1))
 
   -- when all has come, host (and so the cost) and every area are the same for every cutting
   pub alike : (b c : List ℕ) (bs cs : List (List ℕ)) → h .program .came ≡ 0 → together (b ∷ bs) ≡ all → together (c ∷ cs) ≡ all
-      → AllAccepted z disk (lentTo h stage input output) (b ∷ bs) → AllAccepted z disk (lentTo h stage input output) (c ∷ cs)
-      → fed z disk (lentTo h stage input output) (b ∷ bs) ≡ fed z disk (lentTo h stage input output) (c ∷ cs)
+      → AllAccepted z (a .disk) (lentTo h a) (b ∷ bs) → AllAccepted z (a .disk) (lentTo h a) (c ∷ cs)
+      → fed z (a .disk) (lentTo h a) (b ∷ bs) ≡ fed z (a .disk) (lentTo h a) (c ∷ cs)
   alike b c bs cs e p q u v =
       cutting b bs [] e (append-nil _ ∙ p) u
-      ∙ ap (λ (y : List ℕ). after z disk h stage input output all (length y)) (p ∙ sym q)
+      ∙ ap (λ (y : List ℕ). after z h a all (length y)) (p ∙ sym q)
       ∙ sym (cutting c cs [] e (append-nil _ ∙ q) v)
 
-module _ (z : ℕ) (disk : List ℕ) (h : Host) (stage input output all : List ℕ) (t : Taking z disk (lentTo h stage input output))
-    (none-came : h .program .came ≡ 0) (declared : length all ≡ h .program .terms .head .length) where
-  all-taken : (bs : List (List ℕ)) (rest : List ℕ) → together bs ++ rest ≡ all → AllAccepted z disk (lentTo h stage input output) bs
-  all-taken bs rest e = all-accepted z disk (lentTo h stage input output) bs t (omega (arith, none-came, declared, length-append (together bs) rest, ap length e))
+module _ (z : ℕ) (h : Host) (a : Areas) (all : List ℕ) (t : Taking z (a .disk) (lentTo h a)) (none-came : h .program .came ≡ 0)
+    (declared : length all ≡ h .program .terms .head .length) where
+  pub all-taken : (bs : List (List ℕ)) (rest : List ℕ) → together bs ++ rest ≡ all → AllAccepted z (a .disk) (lentTo h a) bs
+  all-taken bs rest e =
+      all-accepted z (a .disk) (lentTo h a) bs t (omega (arith, none-came, declared, length-append (together bs) rest, ap length e))
 
-  holds : length all ≤ length input
+  holds : length all ≤ length (a .input)
   holds = let i = t .input in omega arith
 
-  pub cut : Cutting z disk h stage input output all
-  cut = record {
-    accepted = all-taken;
-    state = λ b bs rest e. cutting z disk h stage input output all holds b bs rest none-came e (all-taken (b ∷ bs) rest e);
-    alike = λ b c bs cs p q. alike z disk h stage input output all holds b c bs cs none-came p q (all-taken (b ∷ bs) [] (append-nil _ ∙ p)) (all-taken (c ∷ cs) [] (append-nil _ ∙ q));
-  }
+  pub cut-state : (b : List ℕ) (bs : List (List ℕ)) (rest : List ℕ) → together (b ∷ bs) ++ rest ≡ all
+      → fed z (a .disk) (lentTo h a) (b ∷ bs) ≡ after z h a all (length (together (b ∷ bs)))
+  cut-state b bs rest e = cutting z h a all holds b bs rest none-came e (all-taken (b ∷ bs) rest e)
 
-pub every-cutting : Cuttings
-every-cutting = record { cuttings = cut }
+  pub cut-alike : (b c : List ℕ) (bs cs : List (List ℕ)) → together (b ∷ bs) ≡ all → together (c ∷ cs) ≡ all
+      → fed z (a .disk) (lentTo h a) (b ∷ bs) ≡ fed z (a .disk) (lentTo h a) (c ∷ cs)
+  cut-alike b c bs cs p q =
+      alike z h a all holds b c bs cs none-came p q (all-taken (b ∷ bs) [] (append-nil _ ∙ p)) (all-taken (c ∷ cs) [] (append-nil _ ∙ q))

@@ -15,8 +15,10 @@ use Rattle.rules.specs.View.{Setting, Turn}
 use Rattle.rules.specs.Inputs.{argsOf, inputsOf}
 use Rattle.rules.specs.Plan.{cost, judgedSource, judgedInputs, judged}
 use Rattle.rules.specs.Run.{failedProgress, failing, ranProgress, succeeding, stepped, current, step, going, ready, runs, run}
-use Rattle.rules.specs.Demands.{Failed, Failures, charges, Tallied}
+use Rattle.rules.specs.Trace.{charges}
+use Rattle.rules.specs.Outcome.{Failed, Instructed}
 use Rattle.rules.proofs.Laws.Steps.{runs-go, runs-stop}
+use Rattle.rules.proofs.Laws.Trails.{stepped-output}
 use Rattle.sia.specs.declared.Instruction.{Instruction}
 use Rattle.host.specs.declared.Progress.{Progress}
 
@@ -38,9 +40,6 @@ stopped s k t f = both-not-left _ _ (both-not-left _ _ (ap not f))
 ends : (z : ℕ) (s : Setting) (input : List ℕ) (k : ℕ) (t : Turn) → t .progress .failed ≡ true → run z s input k t ≡ t
 unfolding run
 ends z s input k t f = runs-stop z s input k (s .terms .head .count) t (stopped s k t f)
-
-pub failures : Failures
-failures = record { writes = writes; ends = ends }
 
 -- ---- the tally
 
@@ -83,7 +82,7 @@ runs-within z s a k (suc n) t h =
     (runs-within z s a k n (step z s a t) (step-within z s (current s t) (inputsOf (current s t) a) t h)))
     (λ r. subst (λ (x : Turn). x .progress .tally ≤ s .terms .budget) (sym (runs-stop z s a k (suc n) t r)) h)
 
-within : (z : ℕ) (s : Setting) (input : List ℕ) (k : ℕ) (t : Turn) → t .progress .tally ≤ s .terms .budget → run z s input k t .progress .tally ≤ s .terms .budget
+pub within : (z : ℕ) (s : Setting) (input : List ℕ) (k : ℕ) (t : Turn) → t .progress .tally ≤ s .terms .budget → run z s input k t .progress .tally ≤ s .terms .budget
 unfolding run
 within z s input k t h = runs-within z s input k (s .terms .head .count) t h
 
@@ -114,10 +113,17 @@ runs-summed z s a k (suc n) t =
     ∙ (let q : t .progress .tally ≡ t .progress .tally + 0 = omega arith in q)
     ∙ ap (λ (m : ℕ). t .progress .tally + m) (sym (skips (ready s k t) _ 0 r)))
 
-summed : (z : ℕ) (s : Setting) (input : List ℕ) (k : ℕ) (t : Turn)
+pub summed : (z : ℕ) (s : Setting) (input : List ℕ) (k : ℕ) (t : Turn)
     → run z s input k t .progress .tally ≡ t .progress .tally + charges z s input k (s .terms .head .count) t
 unfolding run
 summed z s input k t = runs-summed z s input k (s .terms .head .count) t
 
-pub tallied : Tallied
-tallied = record { charged = charged; summed = summed; within = within }
+-- ---- one instruction
+
+pub instructed : (z : ℕ) (s : Setting) (i : Instruction) (l : List (List ℕ)) (t : Turn) → Instructed z s i l t
+instructed z s i l t = record {
+  writes = stepped-output z s i l t;
+  fails = writes z s i l t;
+  ends = λ input k. ends z s input k t;
+  costs = charged z s i l t;
+}

@@ -11,4 +11,7 @@ pub mod Opening
 pub mod Committing
 pub mod Commits
 pub mod Nothing
-pub mod Depots
+pub mod Showing
+pub mod Arrays
+pub mod Visits
+pub mod Demands

@@ -1,6 +1,6 @@
 -- An opening that is answered with 0 leaves a host that takes pieces: down the chain of refusals, none of which applied. Assumes nothing.
 use mathlib.Core.Path.{_≡_, refl, sym, ap, _∙_, subst}
-use mathlib.Core.Bool.{true, not}
+use mathlib.Core.Bool.{true, false, not}
 use mathlib.Core.List.{List}
 use Prim.Native.Nat.{ℕ, _≤_}
 use native.Mathlib.Omega.{arith}
@@ -8,7 +8,6 @@ use lib.ListN.{length}
 use lib.Dec.{eqb}
 use borrow.Author.Tests.{not-false, eqb-false, ltb-false}
 use Rattle.area.specs.Pick.{pick}
-use Rattle.area.specs.Little.{Bytes}
 use Rattle.area.proofs.Laws.Pick.{by, picks, skips}
 use Rattle.sia.specs.Decode.{decode}
 use Rattle.host.specs.Empty.{started}
@@ -16,9 +15,11 @@ use Rattle.host.specs.With.{withProgram}
 use Rattle.host.specs.Order.{inOrder}
 use Rattle.rules.specs.View.{diskRight, areasRight}
 use Rattle.rules.specs.Calls.{answered, begun, openedHead, opened}
-use Rattle.rules.specs.Demands.{Sound, Opened, Openings}
+use Rattle.rules.specs.Visit.{Areas, Opening, Declared, Visit}
+use Rattle.rules.specs.Trace.{lentTo}
 use Rattle.rules.proofs.Laws.Ways.{passes}
-use Rattle.rules.proofs.Ordering.{ordered}
+use Rattle.rules.proofs.Laws.Taking.{Taking}
+use Rattle.rules.proofs.Ordering.{opening}
 use Rattle.sia.specs.declared.Head.{Head}
 use Rattle.host.specs.declared.Prices.{Prices}
 use Rattle.host.specs.declared.Host.{Host}
@@ -44,23 +45,47 @@ opens z h fault hd budget p room a =
     let c11 = passes (λ r. r .number) _ (answered 11 0 h) _ (λ n. absurd (omega arith)) (c7 .1) in
     (not-false _ (c1 .0), c1 .2 ∙ c2 .2 ∙ c3 .2 ∙ c9 .1 ∙ c7 .2 ∙ c11 .2, ltb-false budget (p .init) (c11 .0))
 
-begun-opened : (z : ℕ) (h : Host) (hd : Head) (budget : ℕ) (p : Prices) (room : ℕ) (disk stage input output : List ℕ) → Sound z h
-    → inOrder z (withProgram h (begun h hd budget p room)) ≡ true → areasRight z h disk stage ≡ true → length input ≡ hd .length → length output ≡ room
-    → Opened z disk (withProgram h (begun h hd budget p room)) stage input output
+-- a program as it is opened: with areas as stated its host takes pieces, and nothing has come, was written or ran
+pub record Opened (z : ℕ) (h : Host) (a : Areas) : Type 0 where
+  pub takes : Taking z (a .disk) (lentTo h a)
+  pub came : h .program .came ≡ 0
+  pub written : h .program .progress .written ≡ 0
+  pub ran : h .program .progress .ran ≡ 0
+  pub failed : h .program .progress .failed ≡ false
+
+begun-opened : (z : ℕ) (h : Host) (hd : Head) (o : Opening) (a : Areas) → Declared z h
+    → inOrder z (withProgram h (begun h hd (o .budget) (o .prices) (o .room))) ≡ true → areasRight z h (a .disk) (a .stage) ≡ true
+    → length (a .input) ≡ hd .length → length (a .output) ≡ o .room
+    → Opened z (withProgram h (begun h hd (o .budget) (o .prices) (o .room))) a
 unfolding withProgram begun started areasRight diskRight
-begun-opened z h hd budget p room disk stage input output sound o areas li lo =
-    record { takes = record { some = sound .some; order = o; areas = areas; live = refl; input = li; output = lo; entries = refl }; came = refl; written = refl; ran = refl }
+begun-opened z h hd o a declared order areas input output = record {
+  takes = record { some = declared .some; order = order; areas = areas; live = refl; input = input; output = output; entries = refl };
+  came = refl;
+  written = refl;
+  ran = refl;
+  failed = refl;
+}
 
-openings : (z : ℕ) (h : Host) (bytes : List ℕ) (budget : ℕ) (p : Prices) (room : ℕ) (disk stage input output : List ℕ) → Sound z h → Bytes bytes
-    → opened z h bytes budget p room .number ≡ 0 → areasRight z h disk stage ≡ true → length input ≡ decode bytes .head .length → length output ≡ room
-    → Opened z disk (opened z h bytes budget p room .host) stage input output
+pub opening-takes : (z : ℕ) (h : Host) (o : Opening) (a : Areas) (all : List ℕ) → Visit z h o a all
+    → Opened z (opened z h (o .bytes) (o .budget) (o .prices) (o .room) .host) a
 unfolding opened
-openings z h bytes budget p room disk stage input output sound bs a areas li lo =
-    let q = opens z h (decode bytes .number) (decode bytes .head) budget p room a in
-    let o = ordered .opening z h bytes budget p room sound bs (q .0) in
-    subst (λ (x : Answer). Opened z disk (x .host) stage input output) (sym (q .1))
-    (begun-opened z h (decode bytes .head) budget p room disk stage input output sound
-    (subst (λ (x : Answer). inOrder z (x .host) ≡ true) (q .1) o) areas li lo)
+opening-takes z h o a all v =
+    let q = opens z h (decode (o .bytes) .number) (decode (o .bytes) .head) (o .budget) (o .prices) (o .room) (v .opening) in
+    let order = opening z h (o .bytes) (o .budget) (o .prices) (o .room) (v .declared) (v .head) (q .0) in
+    subst (λ (x : Answer). Opened z (x .host) a) (sym (q .1))
+    (begun-opened z h (decode (o .bytes) .head) o a (v .declared)
+    (subst (λ (x : Answer). inOrder z (x .host) ≡ true) (q .1) order) (v .areas) (v .input) (v .output))
 
-pub every-opening : Openings
-every-opening = record { openings = openings }
+-- what the opened program has of the opening
+pub opening-begins : (z : ℕ) (h : Host) (o : Opening) → opened z h (o .bytes) (o .budget) (o .prices) (o .room) .number ≡ 0
+    → let g = opened z h (o .bytes) (o .budget) (o .prices) (o .room) .host in
+    (g .program .progress .tally ≡ o .prices .init) × (g .program .terms .budget ≡ o .budget) × (o .prices .init ≤ o .budget)
+    × (g .program .terms .head .length ≡ decode (o .bytes) .head .length)
+unfolding opened withProgram begun started
+opening-begins z h o n =
+    let q = opens z h (decode (o .bytes) .number) (decode (o .bytes) .head) (o .budget) (o .prices) (o .room) n in (
+      ap (λ (r : Answer). r .host .program .progress .tally) (q .1),
+      ap (λ (r : Answer). r .host .program .terms .budget) (q .1),
+      q .2,
+      ap (λ (r : Answer). r .host .program .terms .head .length) (q .1),
+    )

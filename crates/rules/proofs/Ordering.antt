@@ -28,8 +28,9 @@ use Rattle.rules.specs.View.{settingOf, turnOf}
 use Rattle.rules.specs.Run.{failing, going, run}
 use Rattle.rules.specs.Calls.{roomRight, begun, openedHead, opened, Pieced, accepted, piece, Interrupted, stopped, interrupt, reached}
 use Rattle.rules.specs.Commit.{Closed, givenUp, agreed, close}
-use Rattle.rules.specs.Demands.{Sound, Refused, Ordered}
-use Rattle.rules.proofs.Forming.{making, unmade, forming, dropping}
+use Rattle.rules.specs.Visit.{Areas, Opening, Agreement, opens, gives, stops, closes, Declared}
+use Rattle.rules.specs.Outcome.{Refused}
+use Rattle.rules.proofs.Forming.{forming, dropping}
 use Rattle.rules.proofs.Laws.Ways.{either-way}
 use Rattle.rules.proofs.Laws.Lists.{every-drop}
 use Rattle.rules.proofs.Laws.Pigeons.{pigeons}
@@ -62,7 +63,7 @@ fresh-staged stage start =
 parent-held : (b c : Bool) → b ≡ false → both (not b) (not c) ≡ false → c ≡ true
 parent-held b c e f = not-false c (sym (picks (not b) (not c) false (ap not e)) ∙ f)
 
-begun-good : (z : ℕ) (h : Host) (hd : Head) (budget : ℕ) (p : Prices) (room : ℕ) → Sound z h → inOrder z h ≡ true → within hd ≡ true → roomRight room ≡ true
+begun-good : (z : ℕ) (h : Host) (hd : Head) (budget : ℕ) (p : Prices) (room : ℕ) → Declared z h → inOrder z h ≡ true → within hd ≡ true → roomRight room ≡ true
     → both (not (same (hd .contract) readOnly)) (not (whose (hd .contract) (h .places) .held)) ≡ false → p .init ≤ budget
     → programInOrder z (h .disk) (h .stage) (h .places) (begun h hd budget p room) ≡ true
 unfolding programInOrder termsInOrder parentInOrder roomRight begun started inOrder placesInOrder progressInOrder
@@ -101,7 +102,7 @@ begun-order : (z : ℕ) (h : Host) (hd : Head) (budget : ℕ) (p : Prices) (room
 unfolding begun
 begun-order z h hd budget p room o g = with-program z h (begun h hd budget p room) o (skips (not true) true _ refl ∙ g)
 
-opening : (z : ℕ) (h : Host) (bytes : List ℕ) (budget : ℕ) (p : Prices) (room : ℕ) → Sound z h → Bytes bytes → inOrder z h ≡ true
+pub opening : (z : ℕ) (h : Host) (bytes : List ℕ) (budget : ℕ) (p : Prices) (room : ℕ) → Declared z h → Bytes bytes → inOrder z h ≡ true
     → inOrder z (opened z h bytes budget p room .host) ≡ true
 unfolding opened openedHead
 opening z h bytes budget p room sound bs o =
@@ -112,7 +113,7 @@ opening z h bytes budget p room sound bs o =
 
 -- ---- pieces
 
-accepted-order : (z : ℕ) (disk : List ℕ) (h : Host) (stage input output bytes : List ℕ) → Sound z h → inOrder z h ≡ true → h .program .active ≡ true
+accepted-order : (z : ℕ) (disk : List ℕ) (h : Host) (stage input output bytes : List ℕ) → Declared z h → inOrder z h ≡ true → h .program .active ≡ true
     → h .program .came + length bytes ≤ h .program .terms .head .length → inOrder z (accepted z disk h stage input output bytes .host) ≡ true
 unfolding accepted run turnOf
 accepted-order z disk h stage input output bytes sound o live fit =
@@ -120,7 +121,7 @@ accepted-order z disk h stage input output bytes sound o live fit =
     (runs-good z (settingOf h disk) (put input (h .program .came) bytes) (h .program .came + length bytes) (settingOf h disk .terms .head .count) (turnOf h stage output)
     (order-lent z h disk (sound .some) o) (order-good z h disk o live (sound .staged)))
 
-pieces : (z : ℕ) (disk : List ℕ) (h : Host) (stage input output bytes : List ℕ) → Sound z h → inOrder z h ≡ true
+pieces : (z : ℕ) (disk : List ℕ) (h : Host) (stage input output bytes : List ℕ) → Declared z h → inOrder z h ≡ true
     → inOrder z (piece z disk h stage input output bytes .host) ≡ true
 unfolding piece
 pieces z disk h stage input output bytes sound o =
@@ -134,14 +135,14 @@ came-within : (z : ℕ) (h : Host) → inOrder z h ≡ true → h .program .acti
 unfolding programInOrder
 came-within z h o live = leb-true _ _ (both-left _ _ (both-right _ _ (order-program z h o live)))
 
-stopped-order : (z : ℕ) (disk : List ℕ) (h : Host) (output : List ℕ) → Sound z h → inOrder z h ≡ true → h .program .active ≡ true
+stopped-order : (z : ℕ) (disk : List ℕ) (h : Host) (output : List ℕ) → Declared z h → inOrder z h ≡ true → h .program .active ≡ true
     → going (h .program .terms) (h .program .progress) ≡ true → inOrder z (stopped z disk h output .host) ≡ true
 unfolding stopped failing turnOf settingOf
 stopped-order z disk h output sound o live g =
     good-order z h disk (h .program .came) _ o (came-within z h o live)
     (failed-good z (settingOf h disk) (h .program .progress) (not-failed (settingOf h disk) (turnOf h [] output) g) (order-good z h disk o live (sound .staged)))
 
-interrupts : (z : ℕ) (disk : List ℕ) (h : Host) (output : List ℕ) → Sound z h → inOrder z h ≡ true → inOrder z (interrupt z disk h output .host) ≡ true
+interrupts : (z : ℕ) (disk : List ℕ) (h : Host) (output : List ℕ) → Declared z h → inOrder z h ≡ true → inOrder z (interrupt z disk h output .host) ≡ true
 unfolding interrupt
 interrupts z disk h output sound o =
     let way = either-way (λ (r : Interrupted). inOrder z (r .host) ≡ true) in
@@ -154,7 +155,7 @@ given-up : (z n : ℕ) (disk : List ℕ) (h : Host) → inOrder z h ≡ true →
 unfolding givenUp noProgram
 given-up z n disk h o = with-program z h noProgram o (picks (not false) true _ refl)
 
-closing : (z : ℕ) (disk : List ℕ) (h : Host) (stage : List ℕ) (agree : Bool) (size : ℕ) (root : List ℕ) → Sound z h → inOrder z h ≡ true
+closing : (z : ℕ) (disk : List ℕ) (h : Host) (stage : List ℕ) (agree : Bool) (size : ℕ) (root : List ℕ) → Declared z h → inOrder z h ≡ true
     → inOrder z (close z disk h stage agree size root .host) ≡ true
 unfolding close agreed
 closing z disk h stage agree size root sound o =
@@ -164,27 +165,33 @@ closing z disk h stage agree size root sound o =
 
 -- ---- a host that is not in order
 
-refused : (z : ℕ) (h : Host) → inOrder z h ≡ false → Refused z h
+pub damaged : (z : ℕ) (h : Host) (a : Areas) → inOrder z h ≡ false → Refused z h a
 unfolding formed dropped opened openedHead piece interrupt reached close
-refused z h e = record {
+damaged z h a e = record {
   forming = λ id. ap (λ (r : Contract). r .number) (picks (not (inOrder z h)) _ _ (ap not e));
   dropping = λ id. ap (λ (r : Contract). r .number) (picks (not (inOrder z h)) _ _ (ap not e));
-  opening = λ bytes budget p room. ap (λ (r : Answer). r .number) (picks (not (inOrder z h)) _ _ (ap not e));
-  pieces = λ disk stage input output bytes. ap (λ (r : Pieced). r .number) (picks (not (inOrder z h)) _ _ (ap not e));
-  interrupts = λ disk output. ap (λ (r : Interrupted). r .number) (picks (not (inOrder z h)) _ _ (ap not e));
-  reached = λ disk stage. ap (λ (r : Reached). r .number) (picks (not (inOrder z h)) _ _ (ap not e));
-  closing = λ disk stage agree size root. ap (λ (r : Closed). r .number) (picks (not (inOrder z h)) _ _ (ap not e));
+  opening = λ o. ap (λ (r : Answer). r .number) (picks (not (inOrder z h)) _ _ (ap not e));
+  piece = λ bytes. ap (λ (r : Pieced). r .number) (picks (not (inOrder z h)) _ _ (ap not e));
+  interrupt = ap (λ (r : Interrupted). r .number) (picks (not (inOrder z h)) _ _ (ap not e));
+  reached = ap (λ (r : Reached). r .number) (picks (not (inOrder z h)) _ _ (ap not e));
+  closing = λ g. ap (λ (r : Closed). r .number) (picks (not (inOrder z h)) _ _ (ap not e));
 }
 
-pub ordered : Ordered
-ordered = record {
-  making = making;
-  unmade = unmade;
-  forming = forming;
-  dropping = dropping;
-  opening = opening;
-  pieces = pieces;
-  interrupts = interrupts;
-  closing = closing;
-  others = refused;
+-- every call leaves a host in order that is in order
+pub record Orders (z : ℕ) (h : Host) (a : Areas) : Type 0 where
+  pub forming : (id : List ℕ) → inOrder z (formed z h id .host) ≡ true
+  pub dropping : (id : List ℕ) → inOrder z (dropped z h id .host) ≡ true
+  pub opening : (o : Opening) → Bytes (o .bytes) → inOrder z (opens z h o .host) ≡ true
+  pub piece : (bytes : List ℕ) → inOrder z (gives z h a bytes .host) ≡ true
+  pub interrupt : inOrder z (stops z h a .host) ≡ true
+  pub closing : (g : Agreement) → inOrder z (closes z h a g .host) ≡ true
+
+pub orders : (z : ℕ) (h : Host) (a : Areas) → Declared z h → inOrder z h ≡ true → Orders z h a
+orders z h a d order = record {
+  forming = λ id. forming z h id order;
+  dropping = λ id. dropping z h id order;
+  opening = λ o bytes. opening z h (o .bytes) (o .budget) (o .prices) (o .room) d bytes order;
+  piece = λ bytes. pieces z (a .disk) h (a .stage) (a .input) (a .output) bytes d order;
+  interrupt = interrupts z (a .disk) h (a .output) d order;
+  closing = λ g. closing z (a .disk) h (a .stage) (g .agree) (g .size) (g .root) d order;
 }

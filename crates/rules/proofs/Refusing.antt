@@ -8,7 +8,9 @@ use Rattle.host.specs.Calls.{formed, dropped}
 use Rattle.host.specs.Calls as Contract
 use Rattle.rules.specs.Calls.{answered, openedHead, opened, pieced, accepted, piece, interrupted, stopped, interrupt, reachedAt, noPair, reached}
 use Rattle.rules.specs.Commit.{closed, givenUp, commit, agreed, close}
-use Rattle.rules.specs.Demands.{Refusals}
+use Rattle.rules.specs.Visit.{Areas}
+use Rattle.rules.specs.Demand1.{Refusals}
+use Rattle.host.specs.declared.Host.{Host}
 
 -- of a result that is either done, by this test, or a refusal
 module _ {R : Type 0} (number : R → ℕ) (refusal : ℕ → R) (right : (n : ℕ) → number (refusal n) ≡ n) (Other : R → Type 0) where
@@ -26,30 +28,30 @@ module _ {R : Type 0} (number : R → ℕ) (refusal : ℕ → R) (right : (n : �
   refused-or : (n : ℕ) (b : Bool) (y : R) → Says y → Says (pick b (refusal n) y)
   refused-or n b y q = either-way b (refusal n) y (refused n) q
 
-pub refusals : Refusals
+pub refusals : (z : ℕ) (h : Host) (a : Areas) → Refusals z h a
 unfolding formed dropped opened openedHead piece accepted interrupt stopped reached close agreed commit givenUp
-refusals = record {
-  forming = λ z h id.
+refusals z h a = record {
+  forming = λ id.
       let or = refused-or (λ r. r .number) (λ n. Contract.answered n h) (λ n. refl) (λ r. r .number ≡ 0 → ⊥) in
       or _ _ _ (or _ _ _ (or _ _ _ (or _ _ _ (or _ _ _ (λ n. absurd (n refl))))));
-  dropping = λ z h id.
+  dropping = λ id.
       let or = refused-or (λ r. r .number) (λ n. Contract.answered n h) (λ n. refl) (λ r. r .number ≡ 0 → ⊥) in
       or _ _ _ (or _ _ _ (or _ _ _ (or _ _ _ (λ n. absurd (n refl)))));
-  opening = λ z h bytes budget p room.
+  opening = λ o.
       let or = refused-or (λ r. r .number) (λ n. answered n 0 h) (λ n. refl) (λ r. r .number ≡ 0 → ⊥) in
       or _ _ _ (or _ _ _ (or _ _ _ (or _ _ _ (or _ _ _ (or _ _ _ (λ n. absurd (n refl)))))));
-  piece = λ z disk h stage input output bytes.
-      let or = refused-or (λ r. r .number) (λ n. pieced n 0 h stage input output) (λ n. refl) (λ r. r .number ≡ 0 → ⊥) in
+  piece = λ bytes.
+      let or = refused-or (λ r. r .number) (λ n. pieced n 0 h (a .stage) (a .input) (a .output)) (λ n. refl) (λ r. r .number ≡ 0 → ⊥) in
       or _ _ _ (or _ _ _ (or _ _ _ (or _ _ _ (or _ _ _ (λ n. absurd (n refl))))));
-  interrupt = λ z disk h output.
-      let or = refused-or (λ r. r .number) (λ n. interrupted n 0 h output) (λ n. refl) (λ r. r .number ≡ 0 → ⊥) in
+  interrupt =
+      let or = refused-or (λ r. r .number) (λ n. interrupted n 0 h (a .output)) (λ n. refl) (λ r. r .number ≡ 0 → ⊥) in
       or _ _ _ (or _ _ _ (or _ _ _ (or _ _ _
-      (either-way (λ r. r .number) (λ n. interrupted n 0 h output) (λ n. refl) (λ r. r .number ≡ 0 → ⊥) _ _ _ (λ n. absurd (n refl)) (λ n. absurd (n refl))))));
-  reached = λ z disk h stage.
+      (either-way (λ r. r .number) (λ n. interrupted n 0 h (a .output)) (λ n. refl) (λ r. r .number ≡ 0 → ⊥) _ _ _ (λ n. absurd (n refl)) (λ n. absurd (n refl))))));
+  reached =
       let or = refused-or (λ r. r .number) (λ n. reachedAt n noPair) (λ n. refl) (λ r. r .number ≡ 0 → ⊥) in
       or _ _ _ (or _ _ _ (or _ _ _ (λ n. absurd (n refl))));
-  closing = λ z disk h stage agree size root zero fourteen.
-      let or = refused-or (λ r. r .number) (λ n. closed n 0 (pos 0) h disk) (λ n. refl) (λ r. (r .number ≡ 0 → ⊥) × (r .number ≡ 14 → ⊥)) in
-      let way = either-way (λ r. r .number) (λ n. closed n 0 (pos 0) h disk) (λ n. refl) (λ r. (r .number ≡ 0 → ⊥) × (r .number ≡ 14 → ⊥)) in
+  closing = λ g zero fourteen.
+      let or = refused-or (λ r. r .number) (λ n. closed n 0 (pos 0) h (a .disk)) (λ n. refl) (λ r. (r .number ≡ 0 → ⊥) × (r .number ≡ 14 → ⊥)) in
+      let way = either-way (λ r. r .number) (λ n. closed n 0 (pos 0) h (a .disk)) (λ n. refl) (λ r. (r .number ≡ 0 → ⊥) × (r .number ≡ 14 → ⊥)) in
       or _ _ _ (or _ _ _ (or _ _ _ (way _ _ _ (λ n. absurd (n .0 refl)) (or _ _ _ (way _ _ _ (λ n. absurd (n .0 refl)) (λ n. absurd (n .1 refl))))))) (zero, fourteen);
 }

@@ -60,9 +60,11 @@ host = formed 4096 (freshed 4096 32768 16384 .host) id .host
 unfoldable pub sectorHost : Host
 sectorHost = withPlaces host (record { held = true; id = id; size = 4096; slots = zeros 64 } ∷ drop 1 (host .places))
 
--- "output 16,384"; the areas are zeros
+-- "output 16,384"; no byte of an area that is lent is 0, so that a 0 is one that was written
 unfoldable pub start : Host → ℕ → Head → Pieced
-start h budget hd = pieced 0 0 (opened 4096 h (encode hd) budget prices 16384 .host) (zeros 16384) (zeros (hd .length)) (zeros 16384)
+start h budget hd =
+    let others : ℕ → List ℕ = λ n. replicate n 170 in
+    pieced 0 0 (opened 4096 h (encode hd) budget prices 16384 .host) (others 16384) (others (hd .length)) (others 16384)
 
 unfoldable pub given : Pieced → List ℕ → Pieced
 given w bytes = piece 4096 (zeros 32768) (w .host) (w .stage) (w .input) (w .output) bytes
@@ -74,6 +76,9 @@ ran h budget hd bytes = given (start h budget hd) bytes
 unfoldable pub failed : Pieced → ℕ
 failed w = pick (w .host .program .progress .failed) 1 0
 
+unfoldable pub written : Pieced → ℕ
+written w = w .host .program .progress .written
+
 unfoldable pub records : Pieced → ℕ
 records w = w .host .program .progress .ran + failed w
 
@@ -81,9 +86,9 @@ records w = w .host .program .progress .ran + failed w
 unfoldable pub counts : Head → List ℕ → List ℕ → List ℕ
 counts hd bytes ns = each (λ n. records (ran host plenty hd (take n bytes))) ns
 
--- the number of the first record
-unfoldable pub number : Pieced → List ℕ
-number w = take 8 (w .output)
+-- how many records there are, whether the program failed, and the number of the first record
+unfoldable pub first : Pieced → List ℕ
+first w = records w ∷ failed w ∷ take 8 (w .output)
 
 unfoldable pub contracts : Host → ℕ
 contracts h = length (those (λ p. p .held) (h .places))
@@ -132,12 +137,14 @@ readSpanData at n = id ++ (le8 at ++ le8 n)
 -- "Truncate(4,096) alone, 8 data bytes: head 89 bytes, tally 5,242,933; that budget suffices."
 unfoldable pub aloneRow : Row
 aloneRow =
-    row (λ _. length (encode alone) ∷ ran host plenty alone (le8 4096) .tally ∷ records (ran host 5242933 alone (le8 4096)) ∷ failed (ran host 5242933 alone (le8 4096)) ∷ [])
-    (89 ∷ 5242933 ∷ 1 ∷ 0 ∷ [])
+    row (λ _. length (encode alone) ∷ ran host plenty alone (le8 4096) .tally ∷ first (ran host 5242933 alone (le8 4096)))
+    (89 ∷ 5242933 ∷ 1 ∷ 0 ∷ le8 0)
 
--- "Budget 5,242,932, empty contract: 28, tally 7. Whole record: 1C, then 71 zero bytes."
+-- "Budget 5,242,932, empty contract: 28, tally 7. Whole record: 1C, then 71 zero bytes.": 72 bytes are written, and the next is as it was
 unfoldable pub budgetRow : Row
-budgetRow = row (λ _. ran host 5242932 alone (le8 4096) .tally ∷ take 72 (ran host 5242932 alone (le8 4096) .output)) (7 ∷ 28 ∷ zeros 71)
+budgetRow =
+    row (λ _. let w = ran host 5242932 alone (le8 4096) in written w ∷ w .tally ∷ take 73 (w .output))
+    (72 ∷ 7 ∷ 28 ∷ zeros 71 ++ (170 ∷ []))
 
 -- "records after 7, 8, 87, 88 bytes are 0, 1, 1, 2; tally 26,216,874."
 unfoldable pub needRow : Row
@@ -160,12 +167,14 @@ swapRow = row (λ _. take 4 (ran host plenty (onFour Swap) (onFourData 0 1 3) .s
 -- "One sector: Read 4,095 for 1 passes, for 2 gives 26."
 unfoldable pub spanRow : Row
 spanRow =
-    row (λ _. number (ran sectorHost plenty readSpan (readSpanData 4095 1)) ++ number (ran sectorHost plenty readSpan (readSpanData 4095 2)))
-    (le8 0 ++ le8 26)
+    row (λ _. first (ran sectorHost plenty readSpan (readSpanData 4095 1)) ++ first (ran sectorHost plenty readSpan (readSpanData 4095 2)))
+    (1 ∷ 0 ∷ le8 0 ++ (1 ∷ 1 ∷ le8 26))
 
 -- "From 0, Truncate to 4,095 or 8,192: 26."
 unfoldable pub sizeRow : Row
-sizeRow = row (λ _. number (ran host plenty alone (le8 4095)) ++ number (ran host plenty alone (le8 8192))) (le8 26 ++ le8 26)
+sizeRow =
+    row (λ _. first (ran host plenty alone (le8 4095)) ++ first (ran host plenty alone (le8 8192)))
+    (1 ∷ 1 ∷ le8 26 ++ (1 ∷ 1 ∷ le8 26))
 
 -- "Proof hashes: 64 segments, range 0..1, 6; 0..64, none; 128 segments, 63..65, 12; 192 segments, 128..129, 7, and 0..1, 8."
 unfoldable pub proofRow : Row

@@ -10,4 +10,10 @@ pub mod Facts
 pub mod Calls
 pub mod Commit
 pub mod Bench
+pub mod Visit
+pub mod Trace
+pub mod Outcome
+pub mod Demand1
+pub mod Demand2
+pub mod Demand3
 pub mod Demands

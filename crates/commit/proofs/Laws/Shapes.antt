@@ -1,4 +1,4 @@
--- The arrays of a host that code is given are as long as declared: what a function is told of a parameter, as rules' `Sound`. Assumes nothing.
+-- The arrays of a host that code is given are as long as declared: what a function is told of a parameter, as rules' `Declared`. Assumes nothing.
 use mathlib.Core.List.{List, [], _∷_, map}
 use Prim.Native.Nat.{ℕ}
 use native.Mathlib.Omega.{arith}
@@ -12,7 +12,7 @@ use Rattle.host.specs.declared.Host.{Host}
 use Rattle.host.proofs.Host as host
 use Rattle.host.proofs.Place as place
 use Rattle.host.proofs.Laws.Lengths.{placed, hosted}
-use Rattle.rules.specs.Demands.{Shaped, Sound}
+use Rattle.rules.specs.Visit.{Shaped, Declared}
 
 -- each place of an array
 each-placed : (ps : List Place) (us : List Val) → shadow (each Place (row place.the-type .own) ps us) → Shaped ps
@@ -32,7 +32,7 @@ field-placed (p ∷ ps) [] g = absurd g
 field-placed (p ∷ ps) (u ∷ us) g = (placed p (u ∷ []) (g .0), field-placed ps us (g .1))
 
 -- a host
-pub sounds : (h : Host) (vs : List Val) → Is (row host.the-type) h vs → Sound 4096 h
+pub sounds : (h : Host) (vs : List Val) → Is (row host.the-type) h vs → Declared 4096 h
 sounds h vs g = record {
   some = omega arith;
   places = let a = g .1 .1 .1 .1 .0 in field-placed (h .places) (a .0) (a .1 .1);

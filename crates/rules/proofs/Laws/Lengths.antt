@@ -24,7 +24,8 @@ use Rattle.rules.specs.Plan.{Source, spots, sourceOf, reads, badSpan, ba
 use Rattle.rules.specs.Effect.{groundOf, effect}
 use Rattle.rules.specs.Record.{Pair, pairOf, startingPair, runningPair, recordBytes, failureBytes, outputOf, successBytes}
 use Rattle.rules.specs.Run.{failedProgress, failing, ranProgress, succeeding, stepped}
-use Rattle.rules.specs.Demands.{recordOf, Sectors}
+use Rattle.rules.specs.Visit.{Sectors}
+use Rattle.rules.specs.Trace.{recordOf}
 use Rattle.rules.specs.Facts.{Good, Solid, valid}
 use Rattle.rules.proofs.Laws.Effects.{passes, neither, Passed, passed, whole-sectors}
 use Rattle.rules.proofs.Laws.Areas.{effect-bytes}
@@ -97,7 +98,7 @@ shown-length z s size from stage op a d e v b =
 
 -- ---- roots and proofs
 
-length-root : (z : ℕ) (disk stage : List ℕ) (l : List Spot) → length (contractRoot z disk stage l) ≡ 32
+pub length-root : (z : ℕ) (disk stage : List ℕ) (l : List Spot) → length (contractRoot z disk stage l) ≡ 32
 unfolding contractRoot
 length-root z disk stage [] = length-replicate {A = ℕ} 32 0
 length-root z disk stage (x ∷ xs) = roots .root-long (whole z disk stage (x ∷ xs))

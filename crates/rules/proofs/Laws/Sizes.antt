@@ -18,7 +18,7 @@ use Rattle.host.specs.Lists.{each, sum}
 use Rattle.host.specs.Empty.{noPlace}
 use Rattle.host.specs.Places.{hasId, whose, ownSize, others, committed, taken}
 use Rattle.host.specs.Order.{placeInOrder}
-use Rattle.rules.specs.Demands.{Shaped}
+use Rattle.rules.specs.Visit.{Shaped}
 use Rattle.rules.proofs.Laws.Effects.{whole-sectors}
 use Rattle.rules.proofs.Laws.Areas.{either-second as second-not}
 use Rattle.host.specs.declared.Place.{Place}

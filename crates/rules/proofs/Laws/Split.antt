@@ -21,7 +21,7 @@ use Rattle.host.specs.Places.{hasId, whose, ownSize, others, committed, taken}
 use Rattle.host.specs.Order.{placeInOrder, twins}
 use Rattle.host.specs.Calls.{replaced}
 use Rattle.rules.specs.Commit.{cut}
-use Rattle.rules.specs.Demands.{Shaped}
+use Rattle.rules.specs.Visit.{Shaped}
 use Rattle.rules.proofs.Laws.Pigeons.{tail-apart}
 use Rattle.rules.proofs.Laws.Sizes.{has-id, has-held, has-same, whose-here, whose-on, others-kept, others-left, taken-length, committed-bytes}
 use Rattle.host.specs.declared.Place.{Place}

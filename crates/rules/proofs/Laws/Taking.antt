@@ -16,7 +16,7 @@ use Rattle.host.specs.Order.{lent, programInOrder, inOrder, placesInOrder}
 use Rattle.rules.specs.View.{settingOf, turnOf, withRun, diskRight, areasRight}
 use Rattle.rules.specs.Run.{run}
 use Rattle.rules.specs.Calls.{Pieced, accepted, inputRight, outputRight, piece}
-use Rattle.rules.specs.Demands.{together, AllAccepted, Taking}
+use Rattle.rules.specs.Trace.{together, AllAccepted}
 use Rattle.rules.specs.Facts.{Good, Lent, Solid}
 use Rattle.rules.proofs.Laws.Areas.{or-right, either-second, runs-alike}
 use Rattle.rules.proofs.Laws.Kept.{progress-facts, facts-progress, runs-good}
@@ -24,6 +24,16 @@ use Rattle.host.specs.declared.Progress.{Progress}
 use Rattle.host.specs.declared.Host.{Host}
 
 -- ---- a host that takes pieces
+
+-- a host in order with a program open, and areas as stated; its staged positions are an array of 64
+pub record Taking (z : ℕ) (disk : List ℕ) (w : Pieced) : Type 0 where
+  pub some : 0 < z
+  pub order : inOrder z (w .host) ≡ true
+  pub areas : areasRight z (w .host) disk (w .stage) ≡ true
+  pub live : w .host .program .active ≡ true
+  pub input : length (w .input) ≡ w .host .program .terms .head .length
+  pub output : length (w .output) ≡ w .host .program .terms .room
+  pub entries : length (w .host .program .progress .staged) ≡ 64
 
 -- the parts of `inOrder`
 pub order-lent : (z : ℕ) (h : Host) (disk : List ℕ) → 0 < z → inOrder z h ≡ true → Lent z (settingOf h disk)

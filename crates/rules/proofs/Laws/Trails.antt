@@ -19,7 +19,7 @@ use Rattle.rules.specs.View.{Setting, Turn}
 use Rattle.rules.specs.Inputs.{illFormed, pastEnd, largest, need, inputsOf, argsOf}
 use Rattle.rules.specs.Plan.{judged}
 use Rattle.rules.specs.Run.{failedProgress, failing, ranProgress, succeeding, stepped, current, step, going, ready, runs}
-use Rattle.rules.specs.Demands.{recordOf, recorded, trail, ripe}
+use Rattle.rules.specs.Trace.{recordOf, recorded, trail, ripe}
 use Rattle.rules.proofs.Laws.Steps.{runs-go, runs-stop, ready-going, left, left-most, not-failed, step-left, none-left, ready-more}
 use Rattle.sia.specs.declared.Operand.{Operand}
 use Rattle.sia.specs.declared.Instruction.{Instruction}

@@ -1,0 +1,69 @@
+-- Demand 2: "It does what SIP-0001 and document 01 say: each record, root, cost and commit is the defined one, and cost stays within
+-- budget." z is the sector size. Assumes nothing.
+use mathlib.Core.Path.{_≡_}
+use mathlib.Core.Bool.{true, false}
+use mathlib.Core.List.{List, [], _∷_, _++_}
+use Prim.Native.Nat.{ℕ, _+_, _≤_, _<_}
+use lib.ListN.{length, getD}
+use Rattle.area.specs.Area.{same, part}
+use Rattle.area.specs.Little.{le8, Bytes}
+use Rattle.sia.specs.Encode.{encode, within}
+use Rattle.sia.specs.Decode.{decode, told}
+use Rattle.sia.specs.Trim.{trimmed, Proper}
+use Rattle.host.specs.Order.{inOrder}
+use Rattle.rules.specs.View.{Setting, Turn, areasRight}
+use Rattle.rules.specs.Roots.{sectorRoot, firstRoot}
+use Rattle.rules.specs.Run.{going}
+use Rattle.rules.specs.Calls.{Pieced}
+use Rattle.rules.specs.Visit.{Areas, Opening, Agreement, opens, closes, Declared, Visit}
+use Rattle.rules.specs.Trace.{together, visited, leftBy, closesAfter, firstRecords, lastOf, charged, running, pairing}
+use Rattle.rules.specs.Outcome.{Instructed, Untouched, Committed}
+use Rattle.sia.specs.declared.Head.{Head}
+use Rattle.sia.specs.declared.Instruction.{Instruction}
+use Rattle.host.specs.declared.Host.{Host}
+use Rattle.rules.specs.declared.Spot.{Spot}
+
+-- after pieces that are the front of the data: h is the host that the opening left, w what the pieces leave, k how many bytes have come
+pub record Ran (z : ℕ) (h : Host) (o : Opening) (a : Areas) (all : List ℕ) (k : ℕ) (w : Pieced) : Type 0 where
+  -- "equal to the definition's summed instruction costs and never above the given budget"; "Init, is tallied at opening"
+  pub tally : w .tally ≡ o .prices .init + charged z h a all k
+  pub within : w .tally ≤ o .budget
+  -- if the program has not failed, its last record shows, behind number and cost, the pair that an agreement must name
+  pub shows : 0 < length (firstRecords z h a all k) → w .host .program .progress .failed ≡ false
+      → let pair = running z (w .host) (leftBy a w) in part (lastOf [] (firstRecords z h a all k)) 16 40 ≡ le8 (pair .size) ++ pair .root
+
+-- an agreement that a host answers
+pub record Agreed (z : ℕ) (h : Host) (a : Areas) (g : Agreement) : Type 0 where
+  -- it must name the running pair, all 32 bytes of the root
+  pub pair : closes z h a g .number ≡ 0 → pairing (g .size) (g .root) ≡ running z h a
+  -- and if it does, of a program that has ended and not failed, it is answered with 0
+  pub done : inOrder z h ≡ true → areasRight z h (a .disk) (a .stage) ≡ true → h .program .active ≡ true
+      → h .program .progress .failed ≡ false → going (h .program .terms) (h .program .progress) ≡ false
+      → pairing (g .size) (g .root) ≡ running z h a → closes z h a g .number ≡ 0
+  pub commits : Declared z h → closes z h a g .number ≡ 0 → Committed z h a (closes z h a g)
+
+-- a program opened on h, given pieces that leave w, and closed: it commits, or leaves what stood before it was opened
+pub record Closes (z : ℕ) (h : Host) (a : Areas) (w : Pieced) (g : Agreement) : Type 0 where
+  pub all : closesAfter z a w g .number ≡ 0 → g .agree ≡ true → Committed z (w .host) (leftBy a w) (closesAfter z a w g)
+  pub nothing : (closesAfter z a w g .number ≡ 0 → g .agree ≡ true → ⊥) → Untouched a h (closesAfter z a w g)
+  pub failed : w .host .program .progress .failed ≡ true → Untouched a h (closesAfter z a w g)
+  pub unended : going (w .host .program .terms) (w .host .program .progress) ≡ true → Untouched a h (closesAfter z a w g)
+
+pub record Demand2 : Type 0 where
+  pub instructions : (z : ℕ) (s : Setting) (i : Instruction) (l : List (List ℕ)) (t : Turn) → Instructed z s i l t
+  pub visits : (z : ℕ) (h : Host) (o : Opening) (a : Areas) (all : List ℕ) → Visit z h o a all
+      → (b : List ℕ) (bs : List (List ℕ)) (rest : List ℕ) → together (b ∷ bs) ++ rest ≡ all
+      → Ran z (opens z h o .host) o a all (length (together (b ∷ bs))) (visited z h o a (b ∷ bs))
+  pub agreements : (z : ℕ) (h : Host) (a : Areas) (g : Agreement) → g .agree ≡ true → Agreed z h a g
+  -- whatever pieces, accepted or not
+  pub closings : (z : ℕ) (h : Host) (o : Opening) (a : Areas) (bs : List (List ℕ)) (g : Agreement) → Declared z h
+      → Closes z h a (visited z h o a bs) g
+  -- "writing what was read gives the same bytes back, and the reverse"
+  pub read : (bytes : List ℕ) → Bytes bytes → (d : Head) → decode bytes ≡ told 0 d → encode d ≡ bytes
+  pub written : (d : Head) → Proper d → within d ≡ true → decode (encode d) ≡ told 0 (trimmed d)
+  -- "Contract ids and sector roots are compared on all 32 bytes."
+  pub ids : (one two : List ℕ) → same one two ≡ true → one ≡ two
+  pub equals : (one two : List ℕ) → length one ≡ 32 → length two ≡ 32 → ((i : ℕ) → i < 32 → getD one i 0 ≡ getD two i 0)
+      → same one two ≡ true
+  pub roots : (z : ℕ) (disk key : List ℕ) (l : List Spot) (x : Spot) (xs : List Spot) → firstRoot z disk key l ≡ x ∷ xs
+      → sectorRoot z disk [] x ≡ key

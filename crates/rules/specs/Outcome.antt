@@ -1,0 +1,81 @@
+-- What a call leaves, as facts with names that the demands speak of. z is the sector size. Assumes nothing.
+use mathlib.Core.Path.{_≡_}
+use mathlib.Core.Bool.{true, false}
+use mathlib.Core.List.{List}
+use Prim.Native.Nat.{ℕ, _+_, _*_, _/_, _<_}
+use lib.ListN.{length, getD}
+use lib.Dec.{eqb}
+use lib.IntN.{pos, _-ℤ_}
+use Rattle.area.specs.Area.{same, part, put}
+use Rattle.area.specs.Little.{Bytes}
+use Rattle.sia.specs.Names.{opOf}
+use Rattle.host.specs.With.{withWritten, withFailed}
+use Rattle.host.specs.Empty.{none}
+use Rattle.host.specs.Places.{whose}
+use Rattle.host.specs.Calls.{formed, dropped}
+use Rattle.rules.specs.View.{Setting, Turn}
+use Rattle.rules.specs.Inputs.{argsOf}
+use Rattle.rules.specs.Plan.{cost, judged}
+use Rattle.rules.specs.Record.{pairOf, failureBytes}
+use Rattle.rules.specs.Run.{stepped, run}
+use Rattle.rules.specs.Commit.{Closed}
+use Rattle.rules.specs.Visit.{Areas, Opening, Agreement, opens, gives, stops, reaches, closes, Ready}
+use Rattle.rules.specs.Trace.{recordOf, sectorsOf, parentIn, running, runningSectors}
+use Rattle.sia.specs.declared.Instruction.{Instruction}
+use Rattle.host.specs.declared.Host.{Host}
+
+-- every call answers 1
+pub record Refused (z : ℕ) (h : Host) (a : Areas) : Type 0 where
+  pub forming : (id : List ℕ) → formed z h id .number ≡ 1
+  pub dropping : (id : List ℕ) → dropped z h id .number ≡ 1
+  pub opening : (o : Opening) → opens z h o .number ≡ 1
+  pub piece : (bytes : List ℕ) → gives z h a bytes .number ≡ 1
+  pub interrupt : stops z h a .number ≡ 1
+  pub reached : reaches z h a .number ≡ 1
+  pub closing : (g : Agreement) → closes z h a g .number ≡ 1
+
+-- a host in order stays in order, its arrays as declared, whatever the call; the bytes of a head are bytes
+pub record Kept (z : ℕ) (h : Host) (a : Areas) : Type 0 where
+  pub forming : (id : List ℕ) → Ready z (formed z h id .host)
+  pub dropping : (id : List ℕ) → Ready z (dropped z h id .host)
+  pub opening : (o : Opening) → Bytes (o .bytes) → Ready z (opens z h o .host)
+  pub piece : (bytes : List ℕ) → Ready z (gives z h a bytes .host)
+  pub interrupt : Ready z (stops z h a .host)
+  pub closing : (g : Agreement) → Ready z (closes z h a g .host)
+
+-- "A failure ends the program and otherwise only writes its record.": its number, cost 0, the starting pair, both counts 0
+pub record Failed (z : ℕ) (s : Setting) (number : ℕ) (t after : Turn) : Type 0 where
+  pub progress : after .progress ≡ withFailed (withWritten (t .progress) (t .progress .written + 72)) true
+  pub stage : after .stage ≡ t .stage
+  pub output : after .output ≡ put (t .output) (t .progress .written) (failureBytes z s number)
+
+-- one instruction
+pub record Instructed (z : ℕ) (s : Setting) (i : Instruction) (l : List (List ℕ)) (t : Turn) : Type 0 where
+  -- "each record": from the first free byte of the output area
+  pub writes : stepped z s i l t .output ≡ put (t .output) (t .progress .written) (recordOf z s i l t)
+  pub fails : (judged z s (t .progress) i l ≡ 0 → ⊥) → Failed z s (judged z s (t .progress) i l) t (stepped z s i l t)
+  -- "A failure ends the program": nothing runs after it
+  pub ends : (input : List ℕ) (k : ℕ) → t .progress .failed ≡ true → run z s input k t ≡ t
+  pub costs : judged z s (t .progress) i l ≡ 0 → stepped z s i l t .progress .tally
+      ≡ t .progress .tally + cost (s .terms .head .length) (s .terms .prices) (opOf (i .name)) (argsOf (opOf (i .name)) l .len)
+
+-- a close leaves the disk's bytes and the contracts as they were, and so the size, the sectors and the root of each
+pub record Untouched (a : Areas) (h : Host) (after : Closed) : Type 0 where
+  pub bytes : after .disk ≡ a .disk
+  pub places : after .host .places ≡ h .places
+
+-- a close commits: the parent has the size, root and bytes that it was read with; every other contract is as it was, and so is each slot
+-- into which no staged position goes ("No other byte changes."); the tally, and the growth, "final less starting size"
+pub record Committed (z : ℕ) (h : Host) (a : Areas) (after : Closed) : Type 0 where
+  pub parent : pairOf z (after .disk) (parentIn h (after .host .places)) ≡ running z h a
+  pub sectors : sectorsOf z (after .disk) (parentIn h (after .host .places)) ≡ runningSectors z h a
+  pub others : (id : List ℕ) → same (h .program .terms .head .contract) id ≡ false
+      → (whose id (after .host .places) ≡ whose id (h .places))
+      × (sectorsOf z (after .disk) (whose id (h .places)) ≡ sectorsOf z (a .disk) (whose id (h .places)))
+  pub slots : (n : ℕ)
+      → ((at : ℕ) → at < h .program .progress .size / z → eqb (getD (h .program .progress .staged) at none) none ≡ false
+      → getD (parentIn h (after .host .places) .slots) at 0 ≡ n → ⊥)
+      → part (after .disk) (n * z) z ≡ part (a .disk) (n * z) z
+  pub long : length (after .disk) ≡ length (a .disk)
+  pub tally : after .tally ≡ h .program .progress .tally
+  pub growth : after .growth ≡ pos (h .program .progress .size) -ℤ pos (parentIn h (h .places) .size)

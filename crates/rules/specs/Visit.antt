@@ -1,0 +1,93 @@
+-- What a caller lends and says, and the calls with it; hosts that code can hold; and the visits that the demands speak of. z is the sector
+-- size. Assumes nothing.
+use mathlib.Core.Path.{_≡_}
+use mathlib.Core.Bool.{Bool, true}
+use mathlib.Core.List.{List, [], _∷_}
+use Prim.Native.Nat.{ℕ, _%_, _≤_, _<_}
+use lib.ListN.{length}
+use Rattle.area.specs.Little.{Bytes}
+use Rattle.sia.specs.Decode.{decode}
+use Rattle.host.specs.Order.{inOrder}
+use Rattle.rules.specs.View.{areasRight}
+use Rattle.rules.specs.Calls.{opened, Pieced, piece, Interrupted, interrupt, reached}
+use Rattle.rules.specs.Commit.{Closed, close}
+use Rattle.host.specs.declared.Place.{Place}
+use Rattle.host.specs.declared.Prices.{Prices}
+use Rattle.host.specs.declared.Host.{Host}
+use Rattle.rules.specs.declared.Answer.{Answer}
+use Rattle.rules.specs.declared.Reached.{Reached}
+
+-- ---- what is lent and said
+
+-- the four areas
+pub record Areas : Type 0 where
+  pub disk : List ℕ
+  pub stage : List ℕ
+  pub input : List ℕ
+  pub output : List ℕ
+
+-- "Opening takes a head, a budget (64-bit), seven prices (16-bit each) and an output length": the head in its bytes
+pub record Opening : Type 0 where
+  pub bytes : List ℕ
+  pub budget : ℕ
+  pub prices : Prices
+  pub room : ℕ
+
+-- "Closing gives up or agrees."
+pub record Agreement : Type 0 where
+  pub agree : Bool
+  pub size : ℕ
+  pub root : List ℕ
+
+-- ---- the calls with these
+
+abbrev pub opens : ℕ → Host → Opening → Answer
+opens z h o = opened z h (o .bytes) (o .budget) (o .prices) (o .room)
+
+abbrev pub gives : ℕ → Host → Areas → List ℕ → Pieced
+gives z h a bytes = piece z (a .disk) h (a .stage) (a .input) (a .output) bytes
+
+abbrev pub stops : ℕ → Host → Areas → Interrupted
+stops z h a = interrupt z (a .disk) h (a .output)
+
+abbrev pub reaches : ℕ → Host → Areas → Reached
+reaches z h a = reached z (a .disk) h (a .stage)
+
+abbrev pub closes : ℕ → Host → Areas → Agreement → Closed
+closes z h a g = close z (a .disk) h (a .stage) (g .agree) (g .size) (g .root)
+
+-- ---- hosts that code can hold
+
+-- the slots of each place are an array of 64
+abbrev pub Shaped : List Place → Type 0
+Shaped [] = Unit {0}
+Shaped (p ∷ ps) = (length (p .slots) ≡ 64) × Shaped ps
+
+-- a host whose arrays are as declared; there are bytes in a sector
+pub record Declared (z : ℕ) (h : Host) : Type 0 where
+  pub some : 0 < z
+  pub places : Shaped (h .places)
+  pub staged : length (h .program .progress .staged) ≡ 64
+
+-- a host that can be called: in order, its arrays as declared
+pub record Ready (z : ℕ) (h : Host) : Type 0 where
+  pub order : inOrder z h ≡ true
+  pub declared : Declared z h
+
+-- a sector is whole segments, and no larger than this
+pub record Sectors (z : ℕ) : Type 0 where
+  pub segments : z % 64 ≡ 0
+  pub most : z ≤ 4294967296
+
+-- ---- visits
+
+-- "Take any host in order, any head it opens and data of the declared length": a host that is not in order opens none
+pub record Visit (z : ℕ) (h : Host) (o : Opening) (a : Areas) (all : List ℕ) : Type 0 where
+  pub sectors : Sectors z
+  pub declared : Declared z h
+  pub head : Bytes (o .bytes)
+  pub opening : opens z h o .number ≡ 0
+  pub areas : areasRight z h (a .disk) (a .stage) ≡ true
+  pub input : length (a .input) ≡ decode (o .bytes) .head .length
+  pub output : length (a .output) ≡ o .room
+  pub long : length all ≡ decode (o .bytes) .head .length
