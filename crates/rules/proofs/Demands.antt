@@ -16,6 +16,7 @@ use Rattle.rules.proofs.Ordering.{damaged}
 use Rattle.rules.proofs.Arrays.{fresh, kept}
 use Rattle.rules.proofs.Nothing.{nothing, closing}
 use Rattle.rules.proofs.Failing.{instructed}
+use Rattle.rules.proofs.Showing.{tells}
 use Rattle.rules.proofs.Commits.{agreements}
 use Rattle.rules.proofs.Visits.{cut, ran, alike, closing-visits}
 use Rattle.rules.specs.declared.Spot.{Spot}
@@ -45,6 +46,7 @@ demands = record {
   two = record {
     instructions = instructed;
     visits = ran;
+    tells = tells;
     agreements = agreements;
     closings = closing-visits;
     read = writing-what-was-read;

@@ -7,20 +7,25 @@ use Prim.Native.Nat.{ℕ, _<_}
 use native.Mathlib.Omega.{arith}
 use lib.IntN.{pos}
 use borrow.Author.Tests.{not-false}
+use Rattle.area.specs.Pick.{pick}
 use Rattle.area.proofs.Laws.Pick.{picks, skips, never, either-left, either-right}
 use Rattle.host.specs.Empty.{noProgram}
-use Rattle.host.specs.With.{withPlaces, withProgram}
+use Rattle.host.specs.With.{withProgram}
 use Rattle.host.specs.Order.{inOrder}
 use Rattle.rules.specs.View.{withRun, areasRight}
 use Rattle.rules.specs.Run.{going}
 use Rattle.rules.specs.Calls.{openedHead, opened, Pieced, accepted, piece, Interrupted, stopped, interrupt}
 use Rattle.rules.specs.Commit.{Closed, closed, givenUp, commit, agreed, close}
 use Rattle.rules.specs.Visit.{Areas, Opening, Agreement, opens, gives, stops, closes}
-use Rattle.rules.specs.Outcome.{Untouched}
+use Rattle.rules.specs.Outcome.{Untouched, stageTaken, Shut}
 use Rattle.rules.specs.Demand1.{Nothing, Closing}
 use Rattle.rules.proofs.Laws.Ways.{either-way}
 use Rattle.host.specs.declared.Host.{Host}
 use Rattle.rules.specs.declared.Answer.{Answer}
+
+shut : (h : Host) → Shut (withProgram h noProgram)
+unfolding withProgram noProgram stageTaken pick
+shut h = record { program = refl; active = refl; slots = refl }
 
 module _ (z : ℕ) (h : Host) (a : Areas) where
   opening : (o : Opening) → opens z h o .host .places ≡ h .places
@@ -82,17 +87,17 @@ module _ (z : ℕ) (h : Host) (a : Areas) where
     unended : going (h .program .terms) (h .program .progress) ≡ true → Untouched a h (closes z h a g)
     unended e = close-ways g (Untouched a h) same-refused (same-up 0) (same-up 14) (λ _ _ _ ended. never (sym e ∙ ended))
 
-    done : closes z h a g .number ≡ 0 → closes z h a g .host .program ≡ noProgram
-    unfolding givenUp commit withPlaces withProgram
+    done : closes z h a g .number ≡ 0 → Shut (closes z h a g .host)
+    unfolding givenUp commit
     done =
-        close-ways g (λ r. r .number ≡ 0 → r .host .program ≡ noProgram) (λ n lo _ e. absurd (omega arith))
-        (λ _. refl) (λ _. refl) (λ _ _ _ _ _. refl)
+        close-ways g (λ r. r .number ≡ 0 → Shut (r .host)) (λ n lo _ e. absurd (omega arith)) (λ _. shut h) (λ _. shut h)
+        (λ _ _ _ _ _. shut _)
 
-    dropped : closes z h a g .number ≡ 14 → closes z h a g .host .program ≡ noProgram
-    unfolding givenUp commit withPlaces withProgram
+    dropped : closes z h a g .number ≡ 14 → Shut (closes z h a g .host)
+    unfolding givenUp commit
     dropped =
-        close-ways g (λ r. r .number ≡ 14 → r .host .program ≡ noProgram) (λ n _ hi e. absurd (omega arith))
-        (λ _. refl) (λ _. refl) (λ _ _ _ _ _. refl)
+        close-ways g (λ r. r .number ≡ 14 → Shut (r .host)) (λ n _ hi e. absurd (omega arith)) (λ _. shut h) (λ _. shut h)
+        (λ _ _ _ _ _. shut _)
 
     gives-up : inOrder z h ≡ true → areasRight z h (a .disk) (a .stage) ≡ true → h .program .active ≡ true → g .agree ≡ false
         → closes z h a g ≡ givenUp 0 (a .disk) h

@@ -10,21 +10,25 @@ use lib.Dec.{eqb}
 use Rattle.area.specs.Pick.{pick}
 use Rattle.area.specs.Area.{part}
 use Rattle.area.specs.Little.{bytesOf, le8}
-use Rattle.area.proofs.Laws.Pick.{by, never}
+use Rattle.area.proofs.Laws.Pick.{by, never, skips}
 use Rattle.host.specs.With.{withProgram, withCame, withProgress, withRunning, withStaged}
 use Rattle.rules.specs.View.{Setting, Turn, settingOf, turnOf, withRun, parentSpots}
 use Rattle.rules.specs.Inputs.{inputsOf}
 use Rattle.rules.specs.Plan.{judged}
 use Rattle.rules.specs.Record.{Pair, runningPair, recordBytes, successBytes}
 use Rattle.rules.specs.Run.{failedProgress, failing, ranProgress, succeeding, stepped, current, step, ready, runs, run}
+use Rattle.rules.specs.Calls.{reachedPair, reached}
 use Rattle.rules.specs.Visit.{Areas}
-use Rattle.rules.specs.Trace.{leftBy, made, after, recordOf, recorded, trail, firstRecords, lastOf, running}
+use Rattle.rules.specs.Trace.{leftBy, made, after, recordOf, recorded, trail, firstRecords, lastOf, running, pairing}
+use Rattle.rules.specs.Demand2.{Tells}
+use Rattle.rules.proofs.Laws.Ways.{either-way}
 use Rattle.rules.proofs.Laws.Steps.{runs-zero, runs-go, runs-stop}
 use Rattle.rules.proofs.Laws.Trails.{trail-zero, trail-go, trail-stop}
 use Rattle.rules.proofs.Laws.Lengths.{length-root}
 use Rattle.rules.proofs.Records.{first-records}
 use Rattle.sia.specs.declared.Instruction.{Instruction}
 use Rattle.host.specs.declared.Host.{Host}
+use Rattle.rules.specs.declared.Reached.{Reached}
 
 abbrev shown : Pair → List ℕ
 shown pair = le8 (pair .size) ++ pair .root
@@ -98,3 +102,12 @@ module _ (z : ℕ) (h : Host) (a : Areas) (all : List ℕ) (k : ℕ) (le : k ≤
       let q = first-records z h a all k le in
       ap (λ (l : List (List ℕ)). part (lastOf [] l) 16 40) q
       ∙ runs-shows z s all k (h .program .terms .head .count) u (omega (arith, some, ap length q)) f
+
+-- ---- the call that tells it
+
+pub tells : (z : ℕ) (h : Host) (a : Areas) → Tells z h a
+unfolding reached reachedPair
+tells z h a =
+    let way = either-way (λ (r : Reached). r .number ≡ 0 → h .program .progress .failed ≡ false → pairing (r .size) (r .root) ≡ running z h a) in
+    way _ _ _ (λ _ e. absurd (omega arith)) (λ _. way _ _ _ (λ _ e. absurd (omega arith)) (λ _. way _ _ _ (λ _ e. absurd (omega arith))
+    (λ _ _ good. skips _ _ _ good)))

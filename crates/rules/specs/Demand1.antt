@@ -6,7 +6,6 @@ use mathlib.Core.Bool.{true, false}
 use mathlib.Core.List.{List}
 use Prim.Native.Nat.{ℕ, _<_}
 use lib.IntN.{pos}
-use Rattle.host.specs.Empty.{noProgram}
 use Rattle.host.specs.Order.{inOrder}
 use Rattle.host.specs.Calls.{freshed, formed, dropped}
 use Rattle.host.specs.Calls as Contract
@@ -15,7 +14,7 @@ use Rattle.rules.specs.Run.{going}
 use Rattle.rules.specs.Calls.{answered, pieced, interrupted, reachedAt, noPair}
 use Rattle.rules.specs.Commit.{closed, givenUp}
 use Rattle.rules.specs.Visit.{Areas, Opening, Agreement, opens, gives, stops, reaches, closes, Ready}
-use Rattle.rules.specs.Outcome.{Refused, Kept, Untouched}
+use Rattle.rules.specs.Outcome.{Refused, Kept, Untouched, Shut}
 use Rattle.host.specs.declared.Host.{Host}
 
 -- "A refused call changes no byte and no number": its whole answer is its number, zeros, and host and areas as they were
@@ -43,10 +42,10 @@ pub record Nothing (z : ℕ) (h : Host) (a : Areas) : Type 0 where
   -- the same of a program that has not ended
   pub unended : (g : Agreement) → going (h .program .terms) (h .program .progress) ≡ true → Untouched a h (closes z h a g)
 
--- a close that is answered with 0 or 14 leaves no program open (`noProgram` is not active); "Every close frees all stage slots."
+-- a close that is answered with 0 or 14 leaves no program open; "Every close frees all stage slots."
 pub record Closing (z : ℕ) (h : Host) (a : Areas) (g : Agreement) : Type 0 where
-  pub done : closes z h a g .number ≡ 0 → closes z h a g .host .program ≡ noProgram
-  pub dropped : closes z h a g .number ≡ 14 → closes z h a g .host .program ≡ noProgram
+  pub done : closes z h a g .number ≡ 0 → Shut (closes z h a g .host)
+  pub dropped : closes z h a g .number ≡ 14 → Shut (closes z h a g .host)
   -- "Giving up always closes and commits nothing.": the whole answer
   pub up : inOrder z h ≡ true → areasRight z h (a .disk) (a .stage) ≡ true → h .program .active ≡ true → g .agree ≡ false
       → closes z h a g ≡ givenUp 0 (a .disk) h

@@ -15,7 +15,7 @@ use Rattle.rules.specs.View.{Setting, Turn, areasRight}
 use Rattle.rules.specs.Roots.{sectorRoot, firstRoot}
 use Rattle.rules.specs.Run.{going}
 use Rattle.rules.specs.Calls.{Pieced}
-use Rattle.rules.specs.Visit.{Areas, Opening, Agreement, opens, closes, Declared, Visit}
+use Rattle.rules.specs.Visit.{Areas, Opening, Agreement, opens, reaches, closes, Declared, Visit}
 use Rattle.rules.specs.Trace.{together, visited, leftBy, closesAfter, firstRecords, lastOf, charged, running, pairing}
 use Rattle.rules.specs.Outcome.{Instructed, Untouched, Committed}
 use Rattle.sia.specs.declared.Head.{Head}
@@ -31,6 +31,11 @@ pub record Ran (z : ℕ) (h : Host) (o : Opening) (a : Areas) (all : List ℕ) (
   -- if the program has not failed, its last record shows, behind number and cost, the pair that an agreement must name
   pub shows : 0 < length (firstRecords z h a all k) → w .host .program .progress .failed ≡ false
       → let pair = running z (w .host) (leftBy a w) in part (lastOf [] (firstRecords z h a all k)) 16 40 ≡ le8 (pair .size) ++ pair .root
+
+-- the call `reached` tells the running pair of a program that has not failed
+abbrev pub Tells : ℕ → Host → Areas → Type 0
+Tells z h a = let r = reaches z h a in
+    r .number ≡ 0 → h .program .progress .failed ≡ false → pairing (r .size) (r .root) ≡ running z h a
 
 -- an agreement that a host answers
 pub record Agreed (z : ℕ) (h : Host) (a : Areas) (g : Agreement) : Type 0 where
@@ -54,6 +59,7 @@ pub record Demand2 : Type 0 where
   pub visits : (z : ℕ) (h : Host) (o : Opening) (a : Areas) (all : List ℕ) → Visit z h o a all
       → (b : List ℕ) (bs : List (List ℕ)) (rest : List ℕ) → together (b ∷ bs) ++ rest ≡ all
       → Ran z (opens z h o .host) o a all (length (together (b ∷ bs))) (visited z h o a (b ∷ bs))
+  pub tells : (z : ℕ) (h : Host) (a : Areas) → Tells z h a
   pub agreements : (z : ℕ) (h : Host) (a : Areas) (g : Agreement) → g .agree ≡ true → Agreed z h a g
   -- whatever pieces, accepted or not
   pub closings : (z : ℕ) (h : Host) (o : Opening) (a : Areas) (bs : List (List ℕ)) (g : Agreement) → Declared z h

@@ -1,16 +1,18 @@
 -- What a call leaves, as facts with names that the demands speak of. z is the sector size. Assumes nothing.
 use mathlib.Core.Path.{_≡_}
-use mathlib.Core.Bool.{true, false}
-use mathlib.Core.List.{List}
+use mathlib.Core.Bool.{true, false, not}
+use mathlib.Core.List.{List, []}
 use Prim.Native.Nat.{ℕ, _+_, _*_, _/_, _<_}
 use lib.ListN.{length, getD}
 use lib.Dec.{eqb}
 use lib.IntN.{pos, _-ℤ_}
+use Rattle.area.specs.Pick.{pick}
 use Rattle.area.specs.Area.{same, part, put}
 use Rattle.area.specs.Little.{Bytes}
 use Rattle.sia.specs.Names.{opOf}
 use Rattle.host.specs.With.{withWritten, withFailed}
-use Rattle.host.specs.Empty.{none}
+use Rattle.host.specs.Lists.{those}
+use Rattle.host.specs.Empty.{none, noProgram}
 use Rattle.host.specs.Places.{whose}
 use Rattle.host.specs.Calls.{formed, dropped}
 use Rattle.rules.specs.View.{Setting, Turn}
@@ -63,6 +65,18 @@ pub record Instructed (z : ℕ) (s : Setting) (i : Instruction) (l : List (List 
 pub record Untouched (a : Areas) (h : Host) (after : Closed) : Type 0 where
   pub bytes : after .disk ≡ a .disk
   pub places : after .host .places ≡ h .places
+
+-- the stage slots that a host has taken: those of the staged positions of an open program
+unfoldable pub stageTaken : Host → List ℕ
+stageTaken h =
+    let staged = those (λ n. not (eqb n none)) (h .program .progress .staged) in
+    pick (h .program .active) staged []
+
+-- no program is open, its fields are zeros again, and no stage slot is taken
+pub record Shut (h : Host) : Type 0 where
+  pub program : h .program ≡ noProgram
+  pub active : h .program .active ≡ false
+  pub slots : stageTaken h ≡ []
 
 -- a close commits: the parent has the size, root and bytes that it was read with; every other contract is as it was, and so is each slot
 -- into which no staged position goes ("No other byte changes."); the tally, and the growth, "final less starting size"
