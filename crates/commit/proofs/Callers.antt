@@ -86,7 +86,7 @@ within z n m a lt e = omega (arith, mul-le-mul-right {m = suc n} {n = m} z lt, s
 
 -- ---- a host in order with an open program
 
-module _ (disk : List ℕ) (h : Host) (stage : List ℕ) (declared : Declared 4096 h) (o : inOrder 4096 h ≡ true)
+module _ (disk : List ℕ) (h : Host) (stage : List ℕ) (sound : Declared 4096 h) (o : inOrder 4096 h ≡ true)
     (areas : areasRight 4096 h disk stage ≡ true) (live : h .program .active ≡ true) where
   abbrev id : List ℕ
   id = h .program .terms .head .contract
@@ -98,10 +98,10 @@ module _ (disk : List ℕ) (h : Host) (stage : List ℕ) (declared : Declared 40
   staged = h .program .progress .staged
 
   good : Good 4096 (settingOf h disk) (h .program .progress)
-  good = order-good 4096 h disk o live (declared .staged)
+  good = order-good 4096 h disk o live (sound .staged)
 
   solid : Solid 4096 (settingOf h disk)
-  solid = order-solid 4096 h disk stage (declared .some) o areas
+  solid = order-solid 4096 h disk stage (sound .some) o areas
 
   -- what `final_slots` asks
   pub few-slots : h .disk ≤ 64
@@ -144,7 +144,7 @@ module _ (disk : List ℕ) (h : Host) (stage : List ℕ) (declared : Declared 40
       by (whose id (h .places) .held)
       (λ e. let q = order-places 4096 h o in
       let s = split id (h .places) (place-twins 4096 (h .disk) (h .places) (q .0)) e in
-      let f = final 4096 (h .disk) size id (h .places) s (declared .some) (q .1) (q .0) (declared .places) (good .orderly .whole) (good .orderly .within) in
+      let f = final 4096 (h .disk) size id (h .places) s (sound .some) (q .1) (q .0) (sound .places) (good .orderly .whole) (good .orderly .within) in
       let is = ap (λ (x : Place). finalSlots 4096 (h .disk) (h .places) x size) (s .whose-is) ∙ f .is in
       let all : every (λ n. ltb n (h .disk)) (f .slots) ≡ true =
       every-fore _ (f .slots) (taken 4096 (s .behind)) (every-aft _ (taken 4096 (s .before)) _ (f .below)) in

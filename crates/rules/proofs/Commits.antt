@@ -82,7 +82,7 @@ agreement z disk h stage size root e =
 
 -- ---- a held parent
 
-module _ (z : ℕ) (disk : List ℕ) (h : Host) (stage : List ℕ) (declared : Declared z h) (o : inOrder z h ≡ true) (areas : areasRight z h disk stage ≡ true) (live : h .program .active ≡ true) where
+module _ (z : ℕ) (disk : List ℕ) (h : Host) (stage : List ℕ) (sound : Declared z h) (o : inOrder z h ≡ true) (areas : areasRight z h disk stage ≡ true) (live : h .program .active ≡ true) where
   unfoldable id : List ℕ
   id = h .program .terms .head .contract
 
@@ -101,17 +101,17 @@ module _ (z : ℕ) (disk : List ℕ) (h : Host) (stage : List ℕ) (declared : D
   commit-left = refl
 
   good : Good z (settingOf h disk) (h .program .progress)
-  good = order-good z h disk o live (declared .staged)
+  good = order-good z h disk o live (sound .staged)
 
   solid : Solid z (settingOf h disk)
-  solid = order-solid z h disk stage (declared .some) o areas
+  solid = order-solid z h disk stage (sound .some) o areas
 
   few : h .program .progress .size / z ≤ length (h .program .progress .staged)
   unfolding settingOf
   few =
       let q : h .program .progress .size / z ≤ h .disk =
-      le-of-mul-le-mul-right {m = h .program .progress .size / z} {n = h .disk} {k = z} (omega (arith, whole-sectors z (h .program .progress .size) (good .orderly .whole), good .orderly .within)) (declared .some) in
-      omega (arith, order-places z h o .1, declared .staged)
+      le-of-mul-le-mul-right {m = h .program .progress .size / z} {n = h .disk} {k = z} (omega (arith, whole-sectors z (h .program .progress .size) (good .orderly .whole), good .orderly .within)) (sound .some) in
+      omega (arith, order-places z h o .1, sound .staged)
 
   module _ (s : Split id (h .places)) (f : Final z (h .disk) size id (h .places) s) where
     unfoldable x : Place
@@ -293,7 +293,7 @@ module _ (z : ℕ) (disk : List ℕ) (h : Host) (stage : List ℕ) (declared : D
       by (whose id (h .places) .held)
       (λ e. let q = order-places z h o in
       let s = split id (h .places) (place-twins z (h .disk) (h .places) (q .0)) e in
-      let f = final z (h .disk) size id (h .places) s (declared .some) (q .1) (q .0) (declared .places) (good .orderly .whole) (good .orderly .within) in
+      let f = final z (h .disk) size id (h .places) s (sound .some) (q .1) (q .0) (sound .places) (good .orderly .whole) (good .orderly .within) in
       subst (Committed z h (lends disk stage))
       (sym (commit-left ∙ ap (λ (x : Place). left x (finalSlots z (h .disk) (h .places) x size)) (s .whose-is) ∙ ap (left (s .it)) (f .is)))
       (held-commits s f))

@@ -226,16 +226,16 @@ final-place z disk size id ps it l e f =
 
 pub commit-order : (z : ℕ) (disk : List ℕ) (h : Host) (stage : List ℕ) → Declared z h → inOrder z h ≡ true → h .program .active ≡ true → inOrder z (commit z disk h stage .host) ≡ true
 unfolding settingOf place old
-commit-order z disk h stage declared o live =
+commit-order z disk h stage sound o live =
     let id = h .program .terms .head .contract in
     let size = h .program .progress .size in
     let q = order-places z h o in
-    let g = order-good z h disk o live (declared .staged) .orderly in
+    let g = order-good z h disk o live (sound .staged) .orderly in
     ap (inOrder z) (commit-places z disk h stage)
     ∙ idle-order z h _ o
     (by (whose id (h .places) .held)
     (λ e. let s = split id (h .places) (place-twins z (h .disk) (h .places) (q .0)) e in
     ap (λ (x : Place). placesInOrder z (h .disk) (replaced id x (h .places)))
-    (final-place z (h .disk) size id (h .places) (s .it) _ (s .whose-is) (final-is z (h .disk) size id (h .places) s (declared .some) (q .1) (q .0) (declared .places) (g .whole) (g .within)))
-    ∙ committed-order z (h .disk) size id (h .places) s (declared .some) (q .1) (q .0) (declared .places) (g .whole) (g .within))
+    (final-place z (h .disk) size id (h .places) (s .it) _ (s .whose-is) (final-is z (h .disk) size id (h .places) s (sound .some) (q .1) (q .0) (sound .places) (g .whole) (g .within)))
+    ∙ committed-order z (h .disk) size id (h .places) s (sound .some) (q .1) (q .0) (sound .places) (g .whole) (g .within))
     (λ e. ap (placesInOrder z (h .disk)) (replaced-none id _ (h .places) (none-of id (h .places) e)) ∙ q .0))

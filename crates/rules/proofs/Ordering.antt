@@ -67,14 +67,14 @@ begun-good : (z : ℕ) (h : Host) (hd : Head) (budget : ℕ) (p : Prices) (room 
     → both (not (same (hd .contract) readOnly)) (not (whose (hd .contract) (h .places) .held)) ≡ false → p .init ≤ budget
     → programInOrder z (h .disk) (h .stage) (h .places) (begun h hd budget p room) ≡ true
 unfolding programInOrder termsInOrder parentInOrder roomRight begun started inOrder placesInOrder progressInOrder
-begun-good z h hd budget p room declared o hh right held paid =
+begun-good z h hd budget p room sound o hh right held paid =
     let id = hd .contract in
     let b = both-right _ _ o in
     let ps = both-left _ _ (both-right _ _ b) in
     let each-place = both-left _ _ ps in
     let slots = both-right _ _ (both-right _ _ ps) in
     let few = pigeons (h .disk) (taken z (h .places)) (both-left _ _ slots) (both-right _ _ slots) in
-    let fits = sizes z id (h .places) each-place (declared .places) in
+    let fits = sizes z id (h .places) each-place (sound .places) in
     both-join _ _
     (both-join _ _
     (by (same id readOnly)
@@ -105,29 +105,29 @@ begun-order z h hd budget p room o g = with-program z h (begun h hd budget p roo
 pub opening : (z : ℕ) (h : Host) (bytes : List ℕ) (budget : ℕ) (p : Prices) (room : ℕ) → Declared z h → Bytes bytes → inOrder z h ≡ true
     → inOrder z (opened z h bytes budget p room .host) ≡ true
 unfolding opened openedHead
-opening z h bytes budget p room declared bs o =
+opening z h bytes budget p room sound bs o =
     let way = either-way (λ (r : Answer). inOrder z (r .host) ≡ true) in
     way _ _ _ (λ _. o) (λ _. way _ _ _ (λ _. o) (λ right. way _ _ _ (λ _. o) (λ _. way _ _ _ (λ _. o) (λ fault. way _ _ _ (λ _. o) (λ held. way _ _ _ (λ _. o) (λ paid.
     begun-order z h (decode bytes .head) budget p room o
-    (begun-good z h (decode bytes .head) budget p room declared o (read-head bytes bs (eqb-true _ _ (not-false _ fault))) (not-false _ right) held (ltb-false _ _ paid))))))))
+    (begun-good z h (decode bytes .head) budget p room sound o (read-head bytes bs (eqb-true _ _ (not-false _ fault))) (not-false _ right) held (ltb-false _ _ paid))))))))
 
 -- ---- pieces
 
 accepted-order : (z : ℕ) (disk : List ℕ) (h : Host) (stage input output bytes : List ℕ) → Declared z h → inOrder z h ≡ true → h .program .active ≡ true
     → h .program .came + length bytes ≤ h .program .terms .head .length → inOrder z (accepted z disk h stage input output bytes .host) ≡ true
 unfolding accepted run turnOf
-accepted-order z disk h stage input output bytes declared o live fit =
+accepted-order z disk h stage input output bytes sound o live fit =
     good-order z h disk (h .program .came + length bytes) _ o fit
     (runs-good z (settingOf h disk) (put input (h .program .came) bytes) (h .program .came + length bytes) (settingOf h disk .terms .head .count) (turnOf h stage output)
-    (order-lent z h disk (declared .some) o) (order-good z h disk o live (declared .staged)))
+    (order-lent z h disk (sound .some) o) (order-good z h disk o live (sound .staged)))
 
 pieces : (z : ℕ) (disk : List ℕ) (h : Host) (stage input output bytes : List ℕ) → Declared z h → inOrder z h ≡ true
     → inOrder z (piece z disk h stage input output bytes .host) ≡ true
 unfolding piece
-pieces z disk h stage input output bytes declared o =
+pieces z disk h stage input output bytes sound o =
     let way = either-way (λ (r : Pieced). inOrder z (r .host) ≡ true) in
     way _ _ _ (λ _. o) (λ _. way _ _ _ (λ _. o) (λ _. way _ _ _ (λ _. o) (λ _. way _ _ _ (λ _. o) (λ live. way _ _ _ (λ _. o) (λ fit.
-    accepted-order z disk h stage input output bytes declared o (not-false _ live) (ltb-false _ _ fit))))))
+    accepted-order z disk h stage input output bytes sound o (not-false _ live) (ltb-false _ _ fit))))))
 
 -- ---- interrupts
 
@@ -138,16 +138,16 @@ came-within z h o live = leb-true _ _ (both-left _ _ (both-right _ _ (order-prog
 stopped-order : (z : ℕ) (disk : List ℕ) (h : Host) (output : List ℕ) → Declared z h → inOrder z h ≡ true → h .program .active ≡ true
     → going (h .program .terms) (h .program .progress) ≡ true → inOrder z (stopped z disk h output .host) ≡ true
 unfolding stopped failing turnOf settingOf
-stopped-order z disk h output declared o live g =
+stopped-order z disk h output sound o live g =
     good-order z h disk (h .program .came) _ o (came-within z h o live)
-    (failed-good z (settingOf h disk) (h .program .progress) (not-failed (settingOf h disk) (turnOf h [] output) g) (order-good z h disk o live (declared .staged)))
+    (failed-good z (settingOf h disk) (h .program .progress) (not-failed (settingOf h disk) (turnOf h [] output) g) (order-good z h disk o live (sound .staged)))
 
 interrupts : (z : ℕ) (disk : List ℕ) (h : Host) (output : List ℕ) → Declared z h → inOrder z h ≡ true → inOrder z (interrupt z disk h output .host) ≡ true
 unfolding interrupt
-interrupts z disk h output declared o =
+interrupts z disk h output sound o =
     let way = either-way (λ (r : Interrupted). inOrder z (r .host) ≡ true) in
     way _ _ _ (λ _. o) (λ _. way _ _ _ (λ _. o) (λ _. way _ _ _ (λ _. o) (λ _. way _ _ _ (λ _. o) (λ live.
-    way _ _ _ (λ g. stopped-order z disk h output declared o (not-false _ live) g) (λ _. o)))))
+    way _ _ _ (λ g. stopped-order z disk h output sound o (not-false _ live) g) (λ _. o)))))
 
 -- ---- closing
 
@@ -158,10 +158,10 @@ given-up z n disk h o = with-program z h noProgram o (picks (not false) true _ r
 closing : (z : ℕ) (disk : List ℕ) (h : Host) (stage : List ℕ) (agree : Bool) (size : ℕ) (root : List ℕ) → Declared z h → inOrder z h ≡ true
     → inOrder z (close z disk h stage agree size root .host) ≡ true
 unfolding close agreed
-closing z disk h stage agree size root declared o =
+closing z disk h stage agree size root sound o =
     let way = either-way (λ (r : Closed). inOrder z (r .host) ≡ true) in
     way _ _ _ (λ _. o) (λ _. way _ _ _ (λ _. o) (λ _. way _ _ _ (λ _. o) (λ live. way _ _ _ (λ _. given-up z 0 disk h o) (λ _. way _ _ _ (λ _. o) (λ _.
-    way _ _ _ (λ _. commit-order z disk h stage declared o (not-false _ live)) (λ _. given-up z 14 disk h o))))))
+    way _ _ _ (λ _. commit-order z disk h stage sound o (not-false _ live)) (λ _. given-up z 14 disk h o))))))
 
 -- ---- a host that is not in order
 

@@ -5,7 +5,7 @@ use mir.Facts.{toZ-ofZ}
 use mathlib.Core.Path.{ap, _∙_}
 use Rattle.host.specs.With.{withPlaces, withProgram}
 use Rattle.rules.specs.Commit.{Closed, closed}
-use Rattle.commit.proofs.Laws.Shapes.{declares}
+use Rattle.commit.proofs.Laws.Shapes.{sounds}
 use Rattle.commit.proofs.Callers.{few-slots, few-sectors, last-size, first-size, backs, commit-made}
 use Rattle.host.specs.declared.Program.{Program}
 use borrow.Author.Needs.{needs}
@@ -16,7 +16,7 @@ place-of-requires : tie.Need-place-of-requires
 place-of-requires c κs = search needs
 
 final-slots-requires : tie.Need-final-slots-requires
-final-slots-requires c κs = (few-slots _ (c .before .before .before .before .before .before .before .before .before .before .args .host) _ (declares (c .before .before .before .before .before .before .before .before .before .before .args .host) _ (c .before .before .before .before .before .before .before .before .before .before .good .0)) (c .before .before .before .before .before .before .before .before .before .before .pre .order) (c .before .before .before .before .before .before .before .before .before .before .pre .areas) (c .before .before .before .before .before .before .before .before .before .before .pre .live), few-sectors _ (c .before .before .before .before .before .before .before .before .before .before .args .host) _ (declares (c .before .before .before .before .before .before .before .before .before .before .args .host) _ (c .before .before .before .before .before .before .before .before .before .before .good .0)) (c .before .before .before .before .before .before .before .before .before .before .pre .order) (c .before .before .before .before .before .before .before .before .before .before .pre .areas) (c .before .before .before .before .before .before .before .before .before .before .pre .live))
+final-slots-requires c κs = (few-slots _ (c .before .before .before .before .before .before .before .before .before .before .args .host) _ (sounds (c .before .before .before .before .before .before .before .before .before .before .args .host) _ (c .before .before .before .before .before .before .before .before .before .before .good .0)) (c .before .before .before .before .before .before .before .before .before .before .pre .order) (c .before .before .before .before .before .before .before .before .before .before .pre .areas) (c .before .before .before .before .before .before .before .before .before .before .pre .live), few-sectors _ (c .before .before .before .before .before .before .before .before .before .before .args .host) _ (sounds (c .before .before .before .before .before .before .before .before .before .before .args .host) _ (c .before .before .before .before .before .before .before .before .before .before .good .0)) (c .before .before .before .before .before .before .before .before .before .before .pre .order) (c .before .before .before .before .before .before .before .before .before .before .pre .areas) (c .before .before .before .before .before .before .before .before .before .before .pre .live))
 
 final-place-requires : tie.Need-final-place-requires
 final-place-requires c κs = search needs
@@ -25,10 +25,10 @@ replaced-in-requires : tie.Need-replaced-in-requires
 replaced-in-requires c κs = search needs
 
 growth-requires : tie.Need-growth-requires
-growth-requires c κs = (last-size _ (c .before .before .before .before .before .before .before .before .before .before .before .before .before .args .host) _ (declares (c .before .before .before .before .before .before .before .before .before .before .before .before .before .args .host) _ (c .before .before .before .before .before .before .before .before .before .before .before .before .before .good .0)) (c .before .before .before .before .before .before .before .before .before .before .before .before .before .pre .order) (c .before .before .before .before .before .before .before .before .before .before .before .before .before .pre .areas) (c .before .before .before .before .before .before .before .before .before .before .before .before .before .pre .live), first-size _ (c .before .before .before .before .before .before .before .before .before .before .before .before .before .args .host) _ (declares (c .before .before .before .before .before .before .before .before .before .before .before .before .before .args .host) _ (c .before .before .before .before .before .before .before .before .before .before .before .before .before .good .0)) (c .before .before .before .before .before .before .before .before .before .before .before .before .before .pre .order) (c .before .before .before .before .before .before .before .before .before .before .before .before .before .pre .areas) (c .before .before .before .before .before .before .before .before .before .before .before .before .before .pre .live) (c .before .before .before .place-of .ensures))
+growth-requires c κs = (last-size _ (c .before .before .before .before .before .before .before .before .before .before .before .before .before .args .host) _ (sounds (c .before .before .before .before .before .before .before .before .before .before .before .before .before .args .host) _ (c .before .before .before .before .before .before .before .before .before .before .before .before .before .good .0)) (c .before .before .before .before .before .before .before .before .before .before .before .before .before .pre .order) (c .before .before .before .before .before .before .before .before .before .before .before .before .before .pre .areas) (c .before .before .before .before .before .before .before .before .before .before .before .before .before .pre .live), first-size _ (c .before .before .before .before .before .before .before .before .before .before .before .before .before .args .host) _ (sounds (c .before .before .before .before .before .before .before .before .before .before .before .before .before .args .host) _ (c .before .before .before .before .before .before .before .before .before .before .before .before .before .good .0)) (c .before .before .before .before .before .before .before .before .before .before .before .before .before .pre .order) (c .before .before .before .before .before .before .before .before .before .before .before .before .before .pre .areas) (c .before .before .before .before .before .before .before .before .before .before .before .before .before .pre .live) (c .before .before .before .place-of .ensures))
 
 copy-back-requires : tie.Need-copy-back-requires
-copy-back-requires c κs = backs _ (c .before .before .before .before .before .before .before .before .before .before .before .before .before .before .before .args .host) _ (declares (c .before .before .before .before .before .before .before .before .before .before .before .before .before .before .before .args .host) _ (c .before .before .before .before .before .before .before .before .before .before .before .before .before .before .before .good .0)) (c .before .before .before .before .before .before .before .before .before .before .before .before .before .before .before .pre .order) (c .before .before .before .before .before .before .before .before .before .before .before .before .before .before .before .pre .areas) (c .before .before .before .before .before .before .before .before .before .before .before .before .before .before .before .pre .live) (c .before .before .before .before .before .place-of .ensures) (c .before .before .before .before .final-slots .ensures)
+copy-back-requires c κs = backs _ (c .before .before .before .before .before .before .before .before .before .before .before .before .before .before .before .args .host) _ (sounds (c .before .before .before .before .before .before .before .before .before .before .before .before .before .before .before .args .host) _ (c .before .before .before .before .before .before .before .before .before .before .before .before .before .before .before .good .0)) (c .before .before .before .before .before .before .before .before .before .before .before .before .before .before .before .pre .order) (c .before .before .before .before .before .before .before .before .before .before .before .before .before .before .before .pre .areas) (c .before .before .before .before .before .before .before .before .before .before .before .before .before .before .before .pre .live) (c .before .before .before .before .before .place-of .ensures) (c .before .before .before .before .final-slots .ensures)
 
 none-requires : tie.Need-none-requires
 none-requires c κs = search needs

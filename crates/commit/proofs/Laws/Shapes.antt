@@ -32,8 +32,8 @@ field-placed (p ∷ ps) [] g = absurd g
 field-placed (p ∷ ps) (u ∷ us) g = (placed p (u ∷ []) (g .0), field-placed ps us (g .1))
 
 -- a host
-pub declares : (h : Host) (vs : List Val) → Is (row host.the-type) h vs → Declared 4096 h
-declares h vs g = record {
+pub sounds : (h : Host) (vs : List Val) → Is (row host.the-type) h vs → Declared 4096 h
+sounds h vs g = record {
   some = omega arith;
   places = let a = g .1 .1 .1 .1 .0 in field-placed (h .places) (a .0) (a .1 .1);
   staged = hosted h vs g;
