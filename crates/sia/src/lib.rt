@@ -174,6 +174,17 @@ pub fn op_of(name: [u8; 16]) -> Op
     Op::Unknown
 }
 
+// The name as a head holds it: one of the six is its fixed byte string, compared in all 16 bytes; an unknown name is taken as it stands.
+pub fn fixed_name(name: [u8; 16]) -> [u8; 16]
+    ensures { λ r. ⌜ r ≡ name ⌝ }
+{
+    let op = op_of(name);
+    if let Op::Unknown = op {
+        return name;
+    }
+    op.name()
+}
+
 // Whether two ids are the same, all 32 bytes.
 pub fn same_id(one: [u8; 32], two: [u8; 32]) -> bool
     ensures { λ r. ⌜ r ≡ same one two ⌝ }
@@ -186,6 +197,16 @@ pub fn is_read_only(id: [u8; 32]) -> bool
     ensures { λ r. ⌜ r ≡ same id readOnly ⌝ }
 {
     same_id(id, Head::READ_ONLY)
+}
+
+// The id as a head holds it: the ReadOnly word is its fixed byte string, compared in all 32 bytes; any other id is taken as it stands.
+pub fn fixed_id(id: [u8; 32]) -> [u8; 32]
+    ensures { λ r. ⌜ r ≡ id ⌝ }
+{
+    if is_read_only(id) {
+        return Head::READ_ONLY;
+    }
+    id
 }
 
 // The number that a part of an input is.
