@@ -92,6 +92,9 @@ pub struct Answer {
 }
 
 impl Place {
+    // The bytes of an id.
+    pub const ID: usize = 32;
+
     // The positions that a place has slots for.
     pub const SLOTS: u64 = 64;
 
@@ -110,6 +113,9 @@ impl Place {
 }
 
 impl Prices {
+    // What every program is charged memory for, besides its data.
+    pub const MEMORY: u64 = 1_048_576;
+
     pub fn none() -> Prices
         ensures { λ r. ⌜ r ≡ noPrices ⌝ }
     {
@@ -181,8 +187,10 @@ impl Program {
 }
 
 impl Host {
-    // The bytes of a sector.
+    // The bytes of a sector; the same as a length in an area.
     pub const SECTOR: u64 = 4_096;
+
+    pub const SECTOR_LEN: usize = Host::SECTOR as usize;
 
     // The most sectors of a disk area, and of a stage area.
     pub const DISK: u64 = 64;
