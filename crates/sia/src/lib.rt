@@ -3,7 +3,7 @@
 ghost use mathlib.Core.Path.{_≡_};
 ghost use lib.ListN.{length};
 ghost use Rattle.area.specs.Area.{same};
-ghost use Rattle.sia.specs.Number.{number};
+ghost use Rattle.sia.specs.Number.{numberGiven, number};
 ghost use Rattle.sia.specs.Names.{nameOf, opOf, readOnly};
 ghost use Rattle.sia.specs.Empty.{noOperand, noInstruction, noHead};
 
@@ -209,9 +209,9 @@ pub fn fixed_id(id: [u8; 32]) -> [u8; 32]
     id
 }
 
-// The number that a part of an input is.
+// The number that a part of an input is; 23 where it is not 8 bytes.
 pub fn number_of(part: &[u8]) -> Number
-    ensures { λ r. ⌜ r ≡ number (now (part .entry)) ⌝ }
+    ensures { λ r. ⌜ numberGiven r ≡ number (now (part .entry)) ⌝ }
 {
     if part.len() != 8 {
         return Number::Refused;
