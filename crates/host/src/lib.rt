@@ -10,7 +10,6 @@ ghost use Rattle.host.specs.Order as Order;
 mod places; // places.rt: contracts by id, and their sizes
 mod slots; // slots.rt: the slots that contracts take, and the lowest free ones
 
-pub use places::find;
 pub use places::place_of;
 pub use places::replaced_in;
 pub use places::sizes_fit;
@@ -19,7 +18,6 @@ pub use slots::Slots;
 pub use slots::below;
 pub use slots::distinct;
 pub use slots::free_copy;
-pub use slots::free_slot;
 pub use slots::sectors;
 pub use slots::slots_taken;
 pub use slots::staged_in;
@@ -77,12 +75,6 @@ pub struct Host {
     pub stage: u64,
     pub places: [Place; 8],
     pub program: Program,
-}
-
-// Where the first place of a kind is.
-pub enum Found {
-    At(usize),
-    Nothing,
 }
 
 // What a call answers: document 01's number, and the host.

@@ -9,7 +9,7 @@ use lib.Seq.{ext-getD, length-take-le}
 use lib.Dec.{eqb, ltb}
 use borrow.Author.Tests.{eq-eqb, eqb-true, le-ltb, leb-true}
 use Rattle.area.specs.Pick.{pick}
-use Rattle.area.specs.Area.{same, put, zeros}
+use Rattle.area.specs.Area.{same, put}
 use Rattle.area.specs.Little.{valueOf, bytesOf, le8, Bytes}
 use Rattle.area.proofs.Laws.Pick.{picks, skips, by, both-left, both-right}
 use Rattle.area.proofs.Laws.Same.{same-eq, eq-same}
@@ -107,11 +107,6 @@ head-length h p e =
 pub truncate-alone : (id : List ℕ) → length id ≡ 32 → length (encode (truncateAlone id)) ≡ 89
 unfolding encode truncateAlone truncate instructionBytes operandBytes joined filled bytesOf
 truncate-alone id e = length-append id _ ∙ ap (λ (n : ℕ). n + 57) e
-
--- the same, as it computes
-pub truncate-alone-computes : length (encode (truncateAlone (zeros 32))) ≡ 89
-unfolding encode truncateAlone truncate instructionBytes operandBytes joined filled bytesOf
-truncate-alone-computes = refl
 
 -- ---- ids
 
