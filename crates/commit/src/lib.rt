@@ -19,8 +19,6 @@ use host::Place;
 use host::Progress;
 use host::Slots;
 
-const SECTOR: usize = 4096;
-
 // A mark for slot x; a slot that has no entry is passed by.
 fn mark(flags: [u8; 64], x: u64) -> [u8; 64]
     ensures { λ r. ⌜ r ≡ set flags x 1 ⌝ }
@@ -151,10 +149,10 @@ fn one_back(stage: &[u8], from: u8, to: u8, disk: &mut [u8])
     }
     area::copy_between(
         stage,
-        from as usize * SECTOR,
+        from as usize * Host::SECTOR_LEN,
         disk,
-        to as usize * SECTOR,
-        SECTOR,
+        to as usize * Host::SECTOR_LEN,
+        Host::SECTOR_LEN,
     );
 }
 

@@ -13,7 +13,7 @@ ghost use Prim.Native.Nat.{_+_, _≤_};
 ghost use lib.ListN.{length, take};
 ghost use Rattle.area.specs.Area.{part};
 ghost use Rattle.sia.specs.Names.{opOf};
-ghost use Rattle.sia.specs.Number.{number};
+ghost use Rattle.sia.specs.Number.{numberGiven, number};
 ghost use Rattle.sia.specs.declared.Op.the-variants.{Read, Write, Copy, Truncate};
 ghost use Rattle.host.specs.Lists.{some};
 ghost use Rattle.rules.specs.Inputs.{illFormed, pastEnd, inputsOf};
@@ -37,7 +37,7 @@ fn key_of(part: &[u8]) -> Key
 
 // How many bytes of data stand behind the count in a part of an input; refused where there is no count, or another one.
 fn data_of(part: &[u8]) -> Number
-    ensures { λ r. ⌜ r ≡ dataOf (now (part .entry)) ⌝ }
+    ensures { λ r. ⌜ numberGiven r ≡ dataOf (now (part .entry)) ⌝ }
 {
     if part.len() < 8 {
         return Number::Refused;
@@ -61,7 +61,7 @@ fn key_at(input: &[u8], o: Operand) -> Key
 
 fn number_at(input: &[u8], o: Operand) -> Number
     requires { ⌜ o .offset + o .len ≤ length (now input) ⌝ }
-    ensures { λ r. ⌜ r ≡ number (part (now (input .entry)) (o .offset) (o .len)) ⌝ }
+    ensures { λ r. ⌜ numberGiven r ≡ number (part (now (input .entry)) (o .offset) (o .len)) ⌝ }
 {
     let a = o.offset as usize;
     let e = a + o.len as usize;
@@ -70,7 +70,7 @@ fn number_at(input: &[u8], o: Operand) -> Number
 
 fn data_at(input: &[u8], o: Operand) -> Number
     requires { ⌜ o .offset + o .len ≤ length (now input) ⌝ }
-    ensures { λ r. ⌜ r ≡ dataOf (part (now (input .entry)) (o .offset) (o .len)) ⌝ }
+    ensures { λ r. ⌜ numberGiven r ≡ dataOf (part (now (input .entry)) (o .offset) (o .len)) ⌝ }
 {
     let a = o.offset as usize;
     let e = a + o.len as usize;

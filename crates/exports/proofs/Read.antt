@@ -3,36 +3,27 @@ use mathlib.Core.Path.{_≡_, refl, sym, ap, _∙_}
 use mathlib.Core.Bool.{true, false}
 use mathlib.Core.List.{List}
 use Prim.Native.Nat.{ℕ}
-use native.Mathlib.Omega.{arith}
 use lib.ListN.{length}
 use borrow.Author.Tests.{eq-eqb, ne-eqb}
 use Rattle.area.specs.Area.{put, part}
 use Rattle.area.proofs.Laws.Parts.{part-whole}
 use Rattle.area.proofs.Laws.Puts.{put-all}
-use Rattle.area.proofs.Laws.Pick.{by, picks, skips, yes, no, both-join, both-not-left, both-not-right}
+use Rattle.area.proofs.Laws.Pick.{yes, no, both-join, both-not-left, both-not-right}
 use Rattle.tree.specs.Tree.{root}
-use Rattle.tree.specs.Answers.{Root, numberOf, rootGiven, rootIf, rooted, wholes}
+use Rattle.tree.specs.Answers.{rootGiven, rooted, wholes}
 use Rattle.tree.specs.declared.Answer.{Answer}
 use Rattle.tree.specs.declared.Answer.the-variants.{Done, Refused}
-use Rattle.tree.proofs.Promise.{roots}
+use Rattle.tree.proofs.Promise.{roots, calls}
 use Rattle.exports.specs.Numbers.{numbered, rootLaid}
 
 module _ (bytes : List ℕ) {a : Answer} {x : List ℕ} (e : rootGiven (record { answer = a; root = x }) ≡ rooted bytes) where
   -- done: the bytes are whole segments, and this is their root, of 32 bytes
   pub done : a ≡ Done → (wholes 64 bytes ≡ true) × (x ≡ root bytes) × (length x ≡ 32)
-  unfolding rooted rootIf
-  done t =
-      by (wholes 64 bytes)
-      (λ w. let r : x ≡ root bytes = ap (λ (r : Root). r .root) (e ∙ picks (wholes 64 bytes) _ _ w) in (w, r, ap length r ∙ roots .root-long bytes))
-      (λ w. absurd (let z : _≡_ {A = ℕ} 0 2 = sym (ap numberOf t) ∙ ap (λ (r : Root). r .number) (e ∙ skips (wholes 64 bytes) _ _ w) in omega arith))
+  done t = let d = calls .root-done (record { answer = a; root = x }) bytes e t in (d .0, d .1, ap length (d .1) ∙ roots .root-long bytes)
 
   -- refused: they are not whole segments
   pub refused : a ≡ Refused → wholes 64 bytes ≡ false
-  unfolding rooted rootIf
-  refused t =
-      by (wholes 64 bytes)
-      (λ w. absurd (let z : _≡_ {A = ℕ} 2 0 = sym (ap numberOf t) ∙ ap (λ (r : Root). r .number) (e ∙ picks (wholes 64 bytes) _ _ w) in omega arith))
-      (λ w. w)
+  refused t = calls .root-refused (record { answer = a; root = x }) bytes e t
 
 -- the three ways out
 pub other-length : (bytes out : List ℕ) → (length out ≡ 32 → ⊥) → numbered 2 out ≡ rootLaid bytes out

@@ -1,7 +1,7 @@
--- Contracts by id, their sizes, the slots that they take and the lowest free one. z is the sector size. Assumes nothing.
+-- Contracts by id, their sizes, the slots that they take and the lowest free one of the stage. z is the sector size. Assumes nothing.
 use mathlib.Core.Bool.{Bool, not}
 use mathlib.Core.List.{List, [], _∷_}
-use Prim.Native.Nat.{ℕ, suc, _/_}
+use Prim.Native.Nat.{ℕ, _/_}
 use lib.ListN.{take}
 use Rattle.area.specs.Pick.{pick, both}
 use Rattle.area.specs.Area.{same}
@@ -10,8 +10,6 @@ use Rattle.sia.specs.Encode.{joined}
 use Rattle.host.specs.Lists.{each, sum, unused}
 use Rattle.host.specs.Empty.{noPlace}
 use Rattle.host.specs.declared.Place.{Place}
-use Rattle.host.specs.declared.Found.{Found}
-use Rattle.host.specs.declared.Found.the-variants.{At, Nothing}
 
 -- ---- contracts by id
 
@@ -23,15 +21,6 @@ hasId id p = both (p .held) (same (p .id) id)
 unfoldable pub whose : List ℕ → List Place → Place
 whose id [] = noPlace
 whose id (p ∷ ps) = let rest = whose id ps in pick (hasId id p) p rest
-
--- where the first place that passes the test is, counted from i
-unfoldable pub firstFrom : (Place → Bool) → ℕ → List Place → Found
-firstFrom t i [] = Nothing
-firstFrom t i (p ∷ ps) = let rest = firstFrom t (suc i) ps in pick (t p) (At i) rest
-
--- where the contract of that id is
-unfoldable pub found : List ℕ → List Place → Found
-found id ps = firstFrom (hasId id) 0 ps
 
 -- ---- sizes
 
@@ -53,9 +42,6 @@ committed z p = pick (p .held) (take (p .size / z) (p .slots)) []
 unfoldable pub taken : ℕ → List Place → List ℕ
 taken z ps = joined (committed z) ps
 
--- "Every choice of slot, disk or stage, is the lowest free one." The disk's, and the stage's; the number of all where none is free
-unfoldable pub freeSlot : ℕ → ℕ → List Place → ℕ
-freeSlot z disk ps = lowest (unused (taken z ps)) 0 disk
-
+-- "Every choice of slot, disk or stage, is the lowest free one." The stage's; the number of all where none is free
 unfoldable pub freeCopy : ℕ → List ℕ → ℕ
 freeCopy stage staged = lowest (unused staged) 0 stage

@@ -33,12 +33,6 @@ withProgress g p = record { active = g .active; terms = g .terms; came = g .came
 
 -- ---- of the progress of a program
 
-unfoldable pub withRan : Progress → ℕ → Progress
-withRan p n = record { ran = n; tally = p .tally; written = p .written; size = p .size; failed = p .failed; staged = p .staged }
-
-unfoldable pub withTally : Progress → ℕ → Progress
-withTally p n = record { ran = p .ran; tally = n; written = p .written; size = p .size; failed = p .failed; staged = p .staged }
-
 unfoldable pub withWritten : Progress → ℕ → Progress
 withWritten p n = record { ran = p .ran; tally = p .tally; written = n; size = p .size; failed = p .failed; staged = p .staged }
 

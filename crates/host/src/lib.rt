@@ -10,7 +10,6 @@ ghost use Rattle.host.specs.Order as Order;
 mod places; // places.rt: contracts by id, and their sizes
 mod slots; // slots.rt: the slots that contracts take, and the lowest free ones
 
-pub use places::find;
 pub use places::place_of;
 pub use places::replaced_in;
 pub use places::sizes_fit;
@@ -19,7 +18,6 @@ pub use slots::Slots;
 pub use slots::below;
 pub use slots::distinct;
 pub use slots::free_copy;
-pub use slots::free_slot;
 pub use slots::sectors;
 pub use slots::slots_taken;
 pub use slots::staged_in;
@@ -79,12 +77,6 @@ pub struct Host {
     pub program: Program,
 }
 
-// Where the first place of a kind is.
-pub enum Found {
-    At(usize),
-    Nothing,
-}
-
 // What a call answers: document 01's number, and the host.
 pub struct Answer {
     pub number: u64,
@@ -92,6 +84,9 @@ pub struct Answer {
 }
 
 impl Place {
+    // The bytes of an id.
+    pub const ID: usize = 32;
+
     // The positions that a place has slots for.
     pub const SLOTS: u64 = 64;
 
@@ -110,6 +105,9 @@ impl Place {
 }
 
 impl Prices {
+    // What every program is charged memory for, besides its data.
+    pub const MEMORY: u64 = 1_048_576;
+
     pub fn none() -> Prices
         ensures { λ r. ⌜ r ≡ noPrices ⌝ }
     {
@@ -181,8 +179,10 @@ impl Program {
 }
 
 impl Host {
-    // The bytes of a sector.
+    // The bytes of a sector; the same as a length in an area.
     pub const SECTOR: u64 = 4_096;
+
+    pub const SECTOR_LEN: usize = Host::SECTOR as usize;
 
     // The most sectors of a disk area, and of a stage area.
     pub const DISK: u64 = 64;

@@ -1,11 +1,11 @@
 // Contracts by id, and their sizes; the places with another one for a contract.
-use crate::Found;
+use crate::Host;
 use crate::Place;
 ghost use mathlib.Core.Path.{_≡_};
 ghost use Prim.Native.Nat.{_+_};
 ghost use lib.Dec.{leb};
 ghost use Rattle.area.specs.Pick.{pick};
-ghost use Rattle.host.specs.Places.{hasId, whose, found, ownSize, others};
+ghost use Rattle.host.specs.Places.{hasId, whose, ownSize, others};
 ghost use Rattle.host.specs.Calls.{replaced};
 
 // Whether a place holds the contract of an id, all 32 bytes.
@@ -19,27 +19,12 @@ pub fn has_id(p: Place, id: [u8; 32]) -> bool
     sia::same_id(own, id)
 }
 
-// Where the contract of an id is.
-pub fn find(places: [Place; 8], id: [u8; 32]) -> Found
-    ensures { λ r. ⌜ r ≡ found id places ⌝ }
-{
-    let mut i: usize = 0;
-    while i < 8 {
-        let p = places[i];
-        if has_id(p, id) {
-            return Found::At(i);
-        }
-        i += 1;
-    }
-    Found::Nothing
-}
-
 // The contract of an id, or a place that holds none.
 pub fn place_of(places: [Place; 8], id: [u8; 32]) -> Place
     ensures { λ r. ⌜ r ≡ whose id places ⌝ }
 {
     let mut i: usize = 0;
-    while i < 8 {
+    while i < Host::PLACES {
         let p = places[i];
         if has_id(p, id) {
             return p;
@@ -73,7 +58,7 @@ pub fn sizes_fit(places: [Place; 8], id: [u8; 32], size: u64, limit: u64) -> boo
     }
     let mut left = limit - size;
     let mut i: usize = 0;
-    while i < 8 {
+    while i < Host::PLACES {
         let p = places[i];
         let own = own_size(p, id);
         if left < own {
@@ -101,7 +86,7 @@ pub fn replaced_in(places: [Place; 8], id: [u8; 32], by: Place) -> [Place; 8]
 {
     let mut ps = places;
     let mut i: usize = 0;
-    while i < 8 {
+    while i < Host::PLACES {
         let q = places[i];
         let r = replacing(q, id, by);
         ps[i] = r;

@@ -1,4 +1,4 @@
-// The slots that contracts take, and the lowest free slot of the disk and of the stage.
+// The slots that contracts take, and the lowest free slot of the stage.
 use crate::Host;
 use crate::Place;
 ghost use mathlib.Core.Path.{_≡_};
@@ -9,7 +9,7 @@ ghost use lib.Seq.{slice};
 ghost use lib.Dec.{ltb, eqb};
 ghost use Rattle.sia.specs.Encode.{every};
 ghost use Rattle.host.specs.Lists.{some, apart};
-ghost use Rattle.host.specs.Places.{committed, taken, freeSlot, freeCopy};
+ghost use Rattle.host.specs.Places.{committed, taken, freeCopy};
 ghost use Rattle.host.specs.Listed.{listed};
 
 // Slots in an array: the first `count`. Eight places of 64 fill it.
@@ -63,7 +63,7 @@ pub fn slots_taken(places: [Place; 8]) -> Slots
     let items = [0u8; 512];
     let mut s = Slots { count: 0, items };
     let mut k: usize = 0;
-    while k < 8 {
+    while k < Host::PLACES {
         let p = places[k];
         s = with_slots(s, p);
         k += 1;
@@ -116,23 +116,6 @@ pub fn below(items: [u8; 512], end: usize, limit: u64) -> bool
         i += 1;
     }
     true
-}
-
-// The lowest disk slot that no committed position has; the number of sectors where there is none.
-pub fn free_slot(disk: u64, places: [Place; 8]) -> u64
-    ensures { λ r. ⌜ r ≡ freeSlot 4096 disk places ⌝ }
-{
-    let s = slots_taken(places);
-    let items = s.items;
-    let count = s.count;
-    let mut i: u64 = 0;
-    while i < disk {
-        if !again(items, 0, count, i) {
-            return i;
-        }
-        i += 1;
-    }
-    i
 }
 
 // Whether a position is staged in slot x.

@@ -6,10 +6,9 @@ use lib.ListN.{length, getD}
 use Rattle.area.specs.Pick.{pick}
 use Rattle.area.specs.Area.{part, zeros}
 use Rattle.sia.specs.Empty.{noOperand}
+use Rattle.sia.specs.Number.{Decoded, decoded}
 use Rattle.rules.specs.Inputs.{isKey, isData, wellFormed, argsOf}
 use Rattle.rules.specs.Inputs as Says
-use Rattle.sia.specs.declared.Number.{Number}
-use Rattle.sia.specs.declared.Number.the-variants.{Is, Refused}
 use Rattle.sia.specs.declared.Operand.{Operand}
 use Rattle.sia.specs.declared.Instruction.{Instruction}
 use Rattle.sia.specs.declared.Op.{Op}
@@ -37,9 +36,9 @@ three area os = inputAt area os 0 ∷ inputAt area os 1 ∷ inputAt area os 2 �
 unfoldable pub keyOf : List ℕ → Key
 keyOf b = pick (isKey b) (record { told = true; bytes = b }) (record { told = false; bytes = zeros 32 })
 
--- the length of Write's data, "count excluded"
-unfoldable pub dataOf : List ℕ → Number
-dataOf b = pick (isData b) (Is (length b - 8)) Refused
+-- the length of Write's data, "count excluded", or 23
+unfoldable pub dataOf : List ℕ → Decoded
+dataOf b = pick (isData b) (decoded 0 (length b - 8)) (decoded 23 0)
 
 -- ---- all inputs
 

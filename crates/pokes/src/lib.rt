@@ -10,9 +10,6 @@ use sia::Head;
 use sia::Instruction;
 use sia::Operand;
 
-// What is as large as any number.
-const ANY: u64 = 18_446_744_073_709_551_615;
-
 // The largest i of a field; any where the field does not use it.
 fn last_i(field: u64) -> u64 {
     match field {
@@ -21,7 +18,7 @@ fn last_i(field: u64) -> u64 {
         16 => 31,
         19..=23 => 31,
         24 => 6,
-        _ => ANY,
+        _ => u64::MAX,
     }
 }
 
@@ -32,7 +29,7 @@ fn last_j(field: u64) -> u64 {
         5 => 63,
         19 => 15,
         21..=22 => 3,
-        _ => ANY,
+        _ => u64::MAX,
     }
 }
 
@@ -42,7 +39,7 @@ fn most(field: u64) -> u64 {
         2 | 6 | 11 | 23 => 1,
         3 | 5 | 13 | 16 | 19 => 255,
         24 => 65_535,
-        _ => ANY,
+        _ => u64::MAX,
     }
 }
 

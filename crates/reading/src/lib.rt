@@ -181,7 +181,7 @@ fn operands(bytes: &[u8], at: usize, n: usize, none: [Operand; 4]) -> ReadOperan
     }
 }
 
-// An instruction, into an entry that is empty so far: a 16-byte name, operand count, operands, proof flag.
+// An instruction, into an entry that is empty so far: a 16-byte name, compared with the six, operand count, operands, proof flag.
 fn instruction(bytes: &[u8], at: usize, entry: Instruction) -> ReadInstruction
     requires { ⌜ at ≤ length (now bytes) ⌝ }
     requires { ⌜ entry ≡ noInstruction ⌝ }
@@ -194,8 +194,9 @@ fn instruction(bytes: &[u8], at: usize, entry: Instruction) -> ReadInstruction
             value: entry,
         };
     }
-    let mut name = entry.name;
-    area::copy_between(bytes, at, &mut name, 0, 16);
+    let mut read = entry.name;
+    area::copy_between(bytes, at, &mut read, 0, 16);
+    let name = sia::fixed_name(read);
     let counted = limited(bytes, at + 16, Instruction::OPERANDS);
     if counted.number != 0 {
         return ReadInstruction {
@@ -266,7 +267,7 @@ fn instructions(bytes: &[u8], at: usize, n: usize) -> ReadInstructions
     }
 }
 
-// A head up to its last section: contract id, instruction count, instructions, declared data length.
+// A head up to its last section: contract id, compared with the ReadOnly word, instruction count, instructions, declared data length.
 fn head(bytes: &[u8]) -> ReadHead
     ensures { λ r. ⌜ Reads (Says.head (now (bytes .entry))) (now (bytes .entry)) (r .number) (r .next) (r .value) ⌝ }
 {
@@ -278,8 +279,9 @@ fn head(bytes: &[u8]) -> ReadHead
             value: none,
         };
     }
-    let mut contract = [0u8; 32];
-    area::copy_between(bytes, 0, &mut contract, 0, 32);
+    let mut read = [0u8; 32];
+    area::copy_between(bytes, 0, &mut read, 0, 32);
+    let contract = sia::fixed_id(read);
     let counted = limited(bytes, 32, Head::INSTRUCTIONS);
     if counted.number != 0 {
         return ReadHead {

@@ -5,9 +5,8 @@ ghost use Prim.Native.Nat.{_<_};
 ghost use Rattle.rules.specs.Effect as Says;
 ghost use Rattle.staging.specs.Parts.{alone, staging, grown};
 ghost use Rattle.staging.specs.Asks.{Lent, Free, Sized};
+use host::Host;
 use host::Progress;
-
-const SECTOR: usize = 4096;
 
 // Position `at` in the lowest free slot, with zeros.
 fn new_zeros(copies: u64, staged: [u8; 64], stage: &mut [u8], at: usize) -> [u8; 64]
@@ -17,7 +16,7 @@ fn new_zeros(copies: u64, staged: [u8; 64], stage: &mut [u8], at: usize) -> [u8;
     ensures { λ r. ⌜ staging r (now (stage .exit)) ≡ grown 4096 (alone copies) at (staging staged (now (stage .entry))) ⌝ }
 {
     let slot = host::free_copy(copies, staged);
-    area::fill(stage, slot as usize * SECTOR, SECTOR, 0);
+    area::fill(stage, slot as usize * Host::SECTOR_LEN, Host::SECTOR_LEN, 0);
     let mut after = staged;
     after[at] = slot as u8;
     after
@@ -30,11 +29,11 @@ pub fn resized(copies: u64, staged: [u8; 64], stage: &mut [u8], size: usize, new
     ensures { λ r. ⌜ staging r (now (stage .exit)) ≡ Says.resized 4096 (alone copies) size new (staging staged (now (stage .entry))) ⌝ }
 {
     if size < new {
-        return new_zeros(copies, staged, stage, size / SECTOR);
+        return new_zeros(copies, staged, stage, size / Host::SECTOR_LEN);
     }
     let mut after = staged;
     if new < size {
-        after[new / SECTOR] = Progress::NONE;
+        after[new / Host::SECTOR_LEN] = Progress::NONE;
     }
     after
 }

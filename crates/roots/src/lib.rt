@@ -7,6 +7,7 @@ ghost use Rattle.area.specs.Area.{put};
 ghost use Rattle.sia.specs.Encode.{joined};
 ghost use Rattle.rules.specs.Roots.{sectorRoot, contractRoot, rangeProof};
 ghost use Rattle.view.specs.Seen.{spotsOf, Lies, Ranged};
+use host::Host;
 use view::Seen;
 
 // The roots of the sectors that are seen, one after another.
@@ -59,10 +60,10 @@ pub fn range_proof<'a>(
     let slots = seen.slots;
     let staged = seen.staged;
     let count = seen.count;
-    let place = at / Seen::SECTOR;
+    let place = at / Host::SECTOR_LEN;
     let spot = view::spot_of(slots, staged, place);
     let bytes = view::sector(disk, stage, spot);
-    let first = at % Seen::SECTOR / Seen::SEGMENT;
+    let first = at % Host::SECTOR_LEN / Seen::SEGMENT;
     let end = first + n / Seen::SEGMENT;
     if count == 1 {
         proving::prove(bytes, first, end, out);

@@ -7,11 +7,9 @@ use lib.Dec.{leb, ltb, eqb}
 use Rattle.area.specs.Pick.{pick, both, either}
 use Rattle.area.specs.Area.{part, zeros}
 use Rattle.sia.specs.Names.{opOf}
-use Rattle.sia.specs.Number.{number}
+use Rattle.sia.specs.Number.{Decoded, number}
 use Rattle.sia.specs.Encode.{operandsIn}
 use Rattle.host.specs.Lists.{some, each}
-use Rattle.sia.specs.declared.Number.{Number}
-use Rattle.sia.specs.declared.Number.the-variants.{Is, Refused}
 use Rattle.sia.specs.declared.Operand.{Operand}
 use Rattle.sia.specs.declared.Instruction.{Instruction}
 use Rattle.sia.specs.declared.Op.{Op}
@@ -67,13 +65,11 @@ abbrev pub nth : List (List ℕ) → ℕ → List ℕ
 nth l n = getD l n []
 
 -- the number, where the decoder tells one
-unfoldable pub isTold : Number → Bool
-isTold (Is n) = true
-isTold Refused = false
+unfoldable pub isTold : Decoded → Bool
+isTold d = eqb (d .number) 0
 
-unfoldable pub told : Number → ℕ
-told (Is n) = n
-told Refused = 0
+unfoldable pub told : Decoded → ℕ
+told d = d .value
 
 -- ---- 23
 

@@ -9,18 +9,17 @@ use lib.Seq.{ext-getD, length-take-le}
 use lib.Dec.{eqb, ltb}
 use borrow.Author.Tests.{eq-eqb, eqb-true, le-ltb, leb-true}
 use Rattle.area.specs.Pick.{pick}
-use Rattle.area.specs.Area.{same, put, zeros}
+use Rattle.area.specs.Area.{same, put}
 use Rattle.area.specs.Little.{valueOf, bytesOf, le8, Bytes}
 use Rattle.area.proofs.Laws.Pick.{picks, skips, by, both-left, both-right}
 use Rattle.area.proofs.Laws.Same.{same-eq, eq-same}
 use Rattle.area.proofs.Laws.Little.{length-bytes, value-bytes, bytes-value}
-use Rattle.sia.specs.declared.Number.the-variants.{Is, Refused}
 use Rattle.sia.specs.declared.Op.{Op}
 use Rattle.sia.specs.declared.Op.the-variants.{Read, ReadSector, Write, Copy, Swap, Truncate, Unknown}
 use Rattle.sia.specs.declared.Instruction.{Instruction}
 use Rattle.sia.specs.declared.Head.{Head}
 use Rattle.sia.specs.declared.Told.{Told}
-use Rattle.sia.specs.Number.{number}
+use Rattle.sia.specs.Number.{Decoded, decoded, number}
 use Rattle.sia.specs.Names.{nameOf, opOf}
 use Rattle.sia.specs.Empty.{noHead, filled}
 use Rattle.sia.specs.Encode.{joined, operandBytes, instructionBytes, instructionsIn, encode, every, fewOperands, within, Left, left, write}
@@ -109,11 +108,6 @@ pub truncate-alone : (id : List ℕ) → length id ≡ 32 → length (encode (tr
 unfolding encode truncateAlone truncate instructionBytes operandBytes joined filled bytesOf
 truncate-alone id e = length-append id _ ∙ ap (λ (n : ℕ). n + 57) e
 
--- the same, as it computes
-pub truncate-alone-computes : length (encode (truncateAlone (zeros 32))) ≡ 89
-unfolding encode truncateAlone truncate instructionBytes operandBytes joined filled bytesOf
-truncate-alone-computes = refl
-
 -- ---- ids
 
 -- Two ids are the same exactly when all 32 bytes are equal.
@@ -155,16 +149,16 @@ name-of-op name o known e =
 -- ---- numbers
 
 -- A number of 64 bits is read back from its 8 bytes.
-pub number-of-bytes : (n : ℕ) → n < 2 ^ 64 → number (le8 n) ≡ Is n
+pub number-of-bytes : (n : ℕ) → n < 2 ^ 64 → number (le8 n) ≡ decoded 0 n
 unfolding number
-number-of-bytes n h = picks _ _ _ (eq-eqb (length (le8 n)) 8 (length-bytes 8 n)) ∙ ap Is (value-bytes 8 n h)
+number-of-bytes n h = picks _ _ _ (eq-eqb (length (le8 n)) 8 (length-bytes 8 n)) ∙ ap (decoded 0) (value-bytes 8 n h)
 
 -- Bytes that are a number are its 8 bytes.
-pub bytes-of-number : (bs : List ℕ) → Bytes bs → (n : ℕ) → number bs ≡ Is n → le8 n ≡ bs
+pub bytes-of-number : (bs : List ℕ) → Bytes bs → (n : ℕ) → number bs ≡ decoded 0 n → le8 n ≡ bs
 unfolding number
 bytes-of-number bs b n e =
     by (eqb (length bs) 8)
     (λ t.
-    let v : valueOf bs ≡ n = cc (picks (eqb (length bs) 8) (Is (valueOf bs)) Refused t) in
+    let v : valueOf bs ≡ n = ap (λ (d : Decoded). d .value) (sym (picks (eqb (length bs) 8) _ _ t) ∙ e) in
     sym (λ i. bytesOf (eqb-true (length bs) 8 t i) (v i)) ∙ bytes-value bs b)
-    (λ f. absurd (let z : _≡_ {A = ℕ} 0 1 = cc (skips (eqb (length bs) 8) (Is (valueOf bs)) Refused f) in omega arith))
+    (λ f. absurd (omega (arith, ap (λ (d : Decoded). d .number) (sym (skips (eqb (length bs) 8) _ _ f) ∙ e))))

@@ -3,7 +3,7 @@
 ghost use mathlib.Core.Path.{_≡_};
 ghost use lib.ListN.{length};
 ghost use Rattle.area.specs.Area.{same};
-ghost use Rattle.sia.specs.Number.{number};
+ghost use Rattle.sia.specs.Number.{numberGiven, number};
 ghost use Rattle.sia.specs.Names.{nameOf, opOf, readOnly};
 ghost use Rattle.sia.specs.Empty.{noOperand, noInstruction, noHead};
 
@@ -174,6 +174,17 @@ pub fn op_of(name: [u8; 16]) -> Op
     Op::Unknown
 }
 
+// The name as a head holds it: one of the six is its fixed byte string, compared in all 16 bytes; an unknown name is taken as it stands.
+pub fn fixed_name(name: [u8; 16]) -> [u8; 16]
+    ensures { λ r. ⌜ r ≡ name ⌝ }
+{
+    let op = op_of(name);
+    if let Op::Unknown = op {
+        return name;
+    }
+    op.name()
+}
+
 // Whether two ids are the same, all 32 bytes.
 pub fn same_id(one: [u8; 32], two: [u8; 32]) -> bool
     ensures { λ r. ⌜ r ≡ same one two ⌝ }
@@ -188,9 +199,19 @@ pub fn is_read_only(id: [u8; 32]) -> bool
     same_id(id, Head::READ_ONLY)
 }
 
-// The number that a part of an input is.
+// The id as a head holds it: the ReadOnly word is its fixed byte string, compared in all 32 bytes; any other id is taken as it stands.
+pub fn fixed_id(id: [u8; 32]) -> [u8; 32]
+    ensures { λ r. ⌜ r ≡ id ⌝ }
+{
+    if is_read_only(id) {
+        return Head::READ_ONLY;
+    }
+    id
+}
+
+// The number that a part of an input is; 23 where it is not 8 bytes.
 pub fn number_of(part: &[u8]) -> Number
-    ensures { λ r. ⌜ r ≡ number (now (part .entry)) ⌝ }
+    ensures { λ r. ⌜ numberGiven r ≡ number (now (part .entry)) ⌝ }
 {
     if part.len() != 8 {
         return Number::Refused;

@@ -6,9 +6,7 @@ ghost use Rattle.area.specs.Area.{part};
 ghost use Rattle.single.specs.Single.{idsIn, formedInTurn};
 use host::Answer;
 use host::Host;
-
-// The bytes of an id.
-const ID: usize = 32;
+use host::Place;
 
 // The id that stands at a place.
 fn id_at(ids: &[u8], at: usize) -> [u8; 32]
@@ -16,7 +14,7 @@ fn id_at(ids: &[u8], at: usize) -> [u8; 32]
     ensures { λ r. ⌜ r ≡ part (now (ids .entry)) at 32 ⌝ }
 {
     let mut id = [0u8; 32];
-    area::copy_between(ids, at, &mut id, 0, ID);
+    area::copy_between(ids, at, &mut id, 0, Place::ID);
     id
 }
 
@@ -24,11 +22,11 @@ fn id_at(ids: &[u8], at: usize) -> [u8; 32]
 pub fn form_in_turn(host: Host, ids: &[u8]) -> Answer
     ensures { λ r. ⌜ r ≡ formedInTurn 4096 host (idsIn (now (ids .entry))) ⌝ }
 {
-    let n = ids.len() / ID;
+    let n = ids.len() / Place::ID;
     let mut made = host;
     let mut i: usize = 0;
     while i < n {
-        let id = id_at(ids, i * ID);
+        let id = id_at(ids, i * Place::ID);
         let formed = forming::form(made, id);
         if formed.number != 0 {
             return formed;

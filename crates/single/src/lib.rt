@@ -21,6 +21,11 @@ pub struct Outcome {
     pub host: Host,
 }
 
+impl Outcome {
+    // The bytes of the price count, prices, budget and contract count, ahead of the ids.
+    pub const FRONT: usize = 80;
+}
+
 // Plays one program on a fresh host for the areas that are lent: 2 for their lengths; 5, 6, 8 of the first id that is refused; opening's 2,
 // 9, 10, 7, 11; the piece's 2, 12; closing's 13. The ids stand one behind another, 32 bytes each.
 pub fn run(

@@ -5,10 +5,8 @@ ghost use Prim.Native.Nat.{_+_, _≤_};
 ghost use lib.ListN.{length};
 ghost use Rattle.single.specs.Input as Says;
 ghost use Rattle.single.specs.Input.{numberAt, pricesRight, cutShort, idsEnd, headEnd, pricesIn};
+use crate::Outcome;
 use host::Prices;
-
-// The price count, prices, budget and contract count.
-const FRONT: usize = 80;
 
 // Whether no price passes 65,535.
 fn prices_right(all: &[u8]) -> bool
@@ -30,7 +28,7 @@ fn cut_short(all: &[u8]) -> bool
     requires { ⌜ 80 ≤ length (now all) ⌝ }
     ensures { λ r. ⌜ r ≡ cutShort (now (all .entry)) ⌝ }
 {
-    let left = all.len() - FRONT;
+    let left = all.len() - Outcome::FRONT;
     let count = area::load(all, 72);
     if ((left / 32) as u64) < count {
         return true;
@@ -47,7 +45,7 @@ fn cut_short(all: &[u8]) -> bool
 pub fn wrong(all: &[u8]) -> bool
     ensures { λ r. ⌜ r ≡ Says.wrong (now (all .entry)) ⌝ }
 {
-    if all.len() < FRONT {
+    if all.len() < Outcome::FRONT {
         return true;
     }
     if area::load(all, 0) != 7 {
@@ -89,7 +87,7 @@ pub fn ids_end(all: &[u8]) -> usize
     requires { ⌜ Says.wrong (now all) ≡ false ⌝ }
     ensures { λ r. ⌜ r ≡ idsEnd (now (all .entry)) ⌝ }
 {
-    FRONT + (area::load(all, 72) as usize) * 32
+    Outcome::FRONT + (area::load(all, 72) as usize) * 32
 }
 
 // Where the head ends.

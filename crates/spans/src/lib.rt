@@ -7,8 +7,7 @@ ghost use Rattle.area.specs.Area.{part};
 ghost use Rattle.rules.specs.Effect.{spanWritten};
 ghost use Rattle.staging.specs.Parts.{ground, staging, spanCopied, spansSwapped};
 ghost use Rattle.staging.specs.Asks.{Lent, From, Over, Two};
-
-const SECTOR: usize = 4096;
+use host::Host;
 
 // Bytes over the parent's from `at` on: n bytes of the input from `from` on.
 pub fn write(
@@ -28,7 +27,7 @@ pub fn write(
     ensures { λ r. ⌜ staging r (now (stage .exit)) ≡
         spanWritten 4096 (ground copies slots (now (disk .entry))) at (part (now (input .entry)) from n) (staging staged (now (stage .entry))) ⌝ }
 {
-    let after = staging::copied(copies, slots, disk, staged, stage, at / SECTOR);
+    let after = staging::copied(copies, slots, disk, staged, stage, at / Host::SECTOR_LEN);
     area::copy_between(input, from, stage, staging::place(after, at), n);
     after
 }
@@ -49,9 +48,9 @@ pub fn copy(
     requires { ⌜ From 4096 (ground copies slots (now disk)) (staging staged (now stage)) from n ⌝ }
     ensures { λ r. ⌜ staging r (now (stage .exit)) ≡ spanCopied 4096 (ground copies slots (now (disk .entry))) to from n (staging staged (now (stage .entry))) ⌝ }
 {
-    let after = staging::copied(copies, slots, disk, staged, stage, to / SECTOR);
+    let after = staging::copied(copies, slots, disk, staged, stage, to / Host::SECTOR_LEN);
     let there = staging::place(after, to);
-    if staging::is_bare(after, from / SECTOR) {
+    if staging::is_bare(after, from / Host::SECTOR_LEN) {
         area::copy_between(disk, staging::place(slots, from), stage, there, n);
     } else {
         area::move_within(stage, staging::place(after, from), there, n);
@@ -74,8 +73,8 @@ pub fn swap(
     requires { ⌜ Two 4096 (ground copies slots (now disk)) (staging staged (now stage)) one two n ⌝ }
     ensures { λ r. ⌜ staging r (now (stage .exit)) ≡ spansSwapped 4096 (ground copies slots (now (disk .entry))) one two n (staging staged (now (stage .entry))) ⌝ }
 {
-    let first = staging::copied(copies, slots, disk, staged, stage, two / SECTOR);
-    let after = staging::copied(copies, slots, disk, first, stage, one / SECTOR);
+    let first = staging::copied(copies, slots, disk, staged, stage, two / Host::SECTOR_LEN);
+    let after = staging::copied(copies, slots, disk, first, stage, one / Host::SECTOR_LEN);
     area::swap_within(
         stage,
         staging::place(after, one),

@@ -9,9 +9,8 @@ ghost use Rattle.host.specs.Empty.{none};
 ghost use Rattle.rules.specs.Effect as Says;
 ghost use Rattle.staging.specs.Parts.{ground, staging, placeOf};
 ghost use Rattle.staging.specs.Asks.{Lent, Room};
+use host::Host;
 use host::Progress;
-
-const SECTOR: usize = 4096;
 
 // Whether a position has no copy.
 pub fn is_bare(staged: [u8; 64], at: usize) -> bool
@@ -40,10 +39,10 @@ pub fn copied(
     let slot = host::free_copy(copies, staged);
     area::copy_between(
         disk,
-        slots[at] as usize * SECTOR,
+        slots[at] as usize * Host::SECTOR_LEN,
         stage,
-        slot as usize * SECTOR,
-        SECTOR,
+        slot as usize * Host::SECTOR_LEN,
+        Host::SECTOR_LEN,
     );
     let mut after = staged;
     after[at] = slot as u8;
@@ -61,5 +60,5 @@ pub fn place(slots: [u8; 64], at: usize) -> usize
     requires { ⌜ at / 4096 < 64 ⌝ }
     ensures { λ r. ⌜ r ≡ placeOf 4096 slots at ⌝ }
 {
-    wide(slots[at / SECTOR]) * SECTOR + at % SECTOR
+    wide(slots[at / Host::SECTOR_LEN]) * Host::SECTOR_LEN + at % Host::SECTOR_LEN
 }

@@ -2,7 +2,7 @@
 -- Sectors are 4,096 bytes where that is said. Assumes nothing.
 use mathlib.Core.Path.{_≡_, refl, sym, ap, _∙_}
 use mathlib.Core.Bool.{true, false}
-use mathlib.Core.List.{List, [], _∷_, _++_}
+use mathlib.Core.List.{List, [], _∷_}
 use Prim.Native.Nat.{ℕ, suc, _+_, _*_, _/_, _%_, _≤_, _<_}
 use native.Mathlib.Nat.{mul-le-mul-right, suc-mul}
 use native.Mathlib.Omega.{arith}
@@ -11,14 +11,11 @@ use lib.Dec.{ltb, eqb}
 use borrow.Author.Tests.{ltb-true, ltb-false, le-leb, eqb-true, eqb-false, not-false}
 use Rattle.area.specs.Area.{part, tab}
 use Rattle.area.proofs.Laws.Pick.{both-left, both-right, both-join, either-left, either-right}
-use Rattle.sia.specs.Encode.{joined, every}
-use Rattle.tree.specs.Tree.{root}
+use Rattle.sia.specs.Encode.{every}
 use Rattle.tree.specs.Walk.{count}
 use Rattle.tree.proofs.Promise.{proofs}
-use Rattle.host.specs.Lists.{each}
-use Rattle.host.specs.Places.{committed, taken}
-use Rattle.rules.specs.View.{Setting, sector, spotOf, parent, parentSpots, committedSpots, allSpots, whole}
-use Rattle.rules.specs.Roots.{contractRoot, rangeProof, rangeCount, firstRoot}
+use Rattle.rules.specs.View.{Setting, sector, spotOf, parent, parentSpots, whole}
+use Rattle.rules.specs.Roots.{rangeProof, rangeCount}
 use Rattle.rules.specs.Inputs.{Args}
 use Rattle.rules.specs.Plan.{badSpan, badProof}
 use Rattle.rules.specs.Record.{outputOf}
@@ -59,33 +56,6 @@ module _ (z : ℕ) (s : Setting) (disk stage : List ℕ) (d : length disk ≡ s 
     few = omega (arith, seen-count v, ap length q);
     spots = ap (every (lies z disk stage)) q ∙ every-lies l h;
   }
-
--- ---- sectors on the disk: the stage is not looked at
-
-module _ (z : ℕ) (disk stage : List ℕ) where
-  disk-lies : (l : List ℕ) → every (holds z disk) l ≡ true → every (lies z disk stage) (each OnDisk l) ≡ true
-  unfolding every each lies
-  disk-lies [] h = refl
-  disk-lies (x ∷ xs) h = both-join _ _ (both-left _ _ h) (disk-lies xs (both-right _ _ h))
-
-  -- `committed_seen` of a contract whose slots are within the disk
-  pub committed-lies : (v : Seen) (p : Place) → spotsOf v ≡ committedSpots z p → v .count ≤ 64 → every (holds z disk) (committed z p) ≡ true → Lies z disk stage v
-  unfolding committedSpots
-  committed-lies v p q few h = record { few = few; spots = ap (every (lies z disk stage)) q ∙ disk-lies (committed z p) h }
-
-  disk-whole : (other l : List ℕ) → whole z disk stage (each OnDisk l) ≡ whole z disk other (each OnDisk l)
-  unfolding whole joined each sector
-  disk-whole other [] = refl
-  disk-whole other (x ∷ xs) = ap (λ (b : List ℕ). part disk (x * z) z ++ b) (disk-whole other xs)
-
-  disk-contract : (other l : List ℕ) → contractRoot z disk stage (each OnDisk l) ≡ contractRoot z disk other (each OnDisk l)
-  unfolding contractRoot each
-  disk-contract other [] = refl
-  disk-contract other (x ∷ xs) = ap root (disk-whole other (x ∷ xs))
-
-  pub committed-root : (other : List ℕ) (p : Place) → contractRoot z disk stage (committedSpots z p) ≡ contractRoot z disk other (committedSpots z p)
-  unfolding committedSpots
-  committed-root other p = disk-contract other (committed z p)
 
 -- ---- checks 26 and 27 give what is asked of a span and of a range
 
@@ -142,8 +112,3 @@ proof-room disk stage v at n l some =
 pub parent-spots : (z : ℕ) (s : Setting) (p : Progress) (q : Place) → q ≡ parent s → tab 0 (p .size / z) (spotOf (q .slots) (p .staged)) ≡ parentSpots z s p
 unfolding parentSpots
 parent-spots z s p q e = ap (λ (x : Place). tab 0 (p .size / z) (spotOf (x .slots) (p .staged))) e
-
--- `find_root` looks at all committed sectors
-pub all-spots : (z : ℕ) (s : Setting) (key : List ℕ) → firstRoot z (s .disk) key (each OnDisk (taken z (s .places))) ≡ firstRoot z (s .disk) key (allSpots z s)
-unfolding allSpots
-all-spots z s key = refl

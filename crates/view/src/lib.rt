@@ -19,8 +19,6 @@ pub struct Seen {
 }
 
 impl Seen {
-    // The bytes of a sector, and of a segment.
-    pub const SECTOR: usize = 4_096;
-
+    // The bytes of a segment.
     pub const SEGMENT: usize = 64;
 }

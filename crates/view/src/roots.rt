@@ -7,6 +7,7 @@ ghost use Rattle.rules.specs.Roots.{sectorRoot};
 ghost use Rattle.view.specs.Seen.{lies, Ranged};
 use crate::Seen;
 use crate::sectors;
+use host::Host;
 use rules::Spot;
 
 // The root of a sector.
@@ -25,7 +26,7 @@ pub fn range_count(sectors: usize, at: usize, n: usize) -> usize
     requires { ⌜ Ranged 4096 sectors at n ⌝ }
     ensures { λ r. ⌜ r ≡ count (sectors * 64) (at / 64) ((at + n) / 64) ⌝ }
 {
-    let segments = sectors * (Seen::SECTOR / Seen::SEGMENT);
+    let segments = sectors * (Host::SECTOR_LEN / Seen::SEGMENT);
     let counted = tree::count(segments, at / Seen::SEGMENT, (at + n) / Seen::SEGMENT);
     counted.count
 }

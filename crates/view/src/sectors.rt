@@ -7,6 +7,7 @@ ghost use Rattle.rules.specs.View as Says;
 ghost use Rattle.rules.specs.View.{spotOf};
 ghost use Rattle.view.specs.Seen.{lies, spanOf, Lies, Inside};
 use crate::Seen;
+use host::Host;
 use host::Progress;
 use rules::Spot;
 
@@ -29,12 +30,12 @@ pub fn sector<'a>(disk: &'a [u8], stage: &'a [u8], spot: Spot) -> &'a [u8]
 {
     match spot {
         Spot::OnDisk(n) => {
-            let from = n * Seen::SECTOR;
-            &disk[from..from + Seen::SECTOR]
+            let from = n * Host::SECTOR_LEN;
+            &disk[from..from + Host::SECTOR_LEN]
         }
         Spot::InStage(n) => {
-            let from = n * Seen::SECTOR;
-            &stage[from..from + Seen::SECTOR]
+            let from = n * Host::SECTOR_LEN;
+            &stage[from..from + Host::SECTOR_LEN]
         }
     }
 }
@@ -47,8 +48,8 @@ pub fn span<'a>(disk: &'a [u8], stage: &'a [u8], seen: Seen, at: usize, n: usize
 {
     let slots = seen.slots;
     let staged = seen.staged;
-    let spot = spot_of(slots, staged, at / Seen::SECTOR);
+    let spot = spot_of(slots, staged, at / Host::SECTOR_LEN);
     let bytes = sector(disk, stage, spot);
-    let from = at % Seen::SECTOR;
+    let from = at % Host::SECTOR_LEN;
     &bytes[from..from + n]
 }

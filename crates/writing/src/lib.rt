@@ -70,13 +70,14 @@ fn flag_byte(proof: bool) -> u8
     0
 }
 
-// The bytes of an instruction, laid over an area from `at` on.
+// The bytes of an instruction, laid over an area from `at` on: one of the six names from its fixed byte string.
 fn put_instruction(x: Instruction, out: &mut [u8], at: usize)
     requires { ⌜ x .count ≤ 4 ⌝ }
     requires { ⌜ at + length (instructionBytes x) ≤ length (now out) ⌝ }
     ensures { λ _. ⌜ now (out .exit) ≡ put (now (out .entry)) at (instructionBytes x) ⌝ }
 {
-    let name = x.name;
+    let held = x.name;
+    let name = sia::fixed_name(held);
     area::copy_between(&name, 0, out, at, 16);
     area::store(out, at + 16, 8, x.count);
     let n = x.count as usize;
@@ -103,13 +104,14 @@ fn put_instructions(list: [Instruction; 32], n: usize, out: &mut [u8], at: usize
     place
 }
 
-// The bytes of a head, laid over the front of an area.
+// The bytes of a head, laid over the front of an area: the ReadOnly word from its fixed byte string.
 fn put_head(head: Head, out: &mut [u8])
     requires { ⌜ Says.within head ≡ true ⌝ }
     requires { ⌜ length (encode head) ≤ length (now out) ⌝ }
     ensures { λ _. ⌜ now (out .exit) ≡ put (now (out .entry)) 0 (encode head) ⌝ }
 {
-    let contract = head.contract;
+    let held = head.contract;
+    let contract = sia::fixed_id(held);
     area::copy_between(&contract, 0, out, 0, 32);
     area::store(out, 32, 8, head.count);
     let list = head.instructions;

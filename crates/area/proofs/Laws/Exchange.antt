@@ -1,6 +1,6 @@
 -- Two spans of an area exchanged: piece by piece where they do not overlap; where they do, what both have is moved and the ends are
 -- exchanged. Assumes nothing.
-use mathlib.Core.Path.{_≡_, refl, sym, ap, _∙_}
+use mathlib.Core.Path.{_≡_, sym, ap, _∙_}
 use mathlib.Core.Logic.{_⊎_, inl, inr, ⊎-elim}
 use mathlib.Core.List.{List, [], _∷_}
 use Prim.Native.Nat.{ℕ, _+_, _-_, _≤_, _<_}
@@ -133,12 +133,3 @@ met-above d one two n m k apart whole h e f =
     let t : k + m ≡ n = omega arith in
     f ∙ ap (λ (l : List ℕ). exchanged l one two k) e
     ∙ swapped-above d one two m k apart (omega arith) ∙ ap (exchanged d one two) t
-
--- spans that overlap, each way
-shown-below : exchanged (1 ∷ 2 ∷ 3 ∷ 4 ∷ []) 0 1 3 ≡ 2 ∷ 3 ∷ 4 ∷ 3 ∷ []
-unfolding exchanged put part
-shown-below = refl
-
-shown-above : exchanged (1 ∷ 2 ∷ 3 ∷ 4 ∷ []) 1 0 3 ≡ 2 ∷ 1 ∷ 2 ∷ 3 ∷ []
-unfolding exchanged put part
-shown-above = refl

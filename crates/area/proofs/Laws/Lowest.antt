@@ -26,14 +26,6 @@ module _ (p : ℕ → Bool) where
 
   -- ---- what it is
 
-  -- it is one of them, or the first past them
-  pub lowest-within : (i n : ℕ) → lowest p i n ≤ i + n
-  unfolding lowest
-  lowest-within i zero = omega arith
-  lowest-within i (suc n) =
-      by (p i) (λ e. omega (arith, picks (p i) i (lowest p (suc i) n) e))
-      (λ e. omega (arith, skips (p i) i (lowest p (suc i) n) e, lowest-within (suc i) n))
-
   -- one of them passes the test
   pub lowest-passes : (i n : ℕ) → lowest p i n < i + n → p (lowest p i n) ≡ true
   unfolding lowest

@@ -1,8 +1,9 @@
 -- `decoding::read_args` meets its contract: the three inputs in turn. Assumes nothing.
-use mathlib.Core.Path.{sym, _∙_}
+use mathlib.Core.Path.{sym, ap, _∙_}
 use native.Mathlib.Omega.{arith}
 use borrow.Author.Tests.{not-true, not-false}
 use Rattle.area.proofs.Laws.Pick.{both-not-left, both-not-right}
+use Rattle.sia.specs.Number.{numberGiven}
 use Rattle.rules.specs.Inputs.{wellFormed}
 use Rattle.inputs.specs.Given.{inputAt, three}
 use Rattle.inputs.proofs.Laws.Given.{key-told, number-refused, read-accepted, refused, ends-within}
@@ -57,7 +58,7 @@ returns-2 c =
     let s = at-number-at .before .before .before .before .before .before .before .before in
     c .malformed2 .ensures ∙ refused Read (three (s .args .input .now) (s .args .t2)) 0
     (both-not-right _ _ (both-not-left _ _ (number-refused (inputAt (s .args .input .now) (s .args .t2) 1)
-    (sym (at-number-at .number-at .ensures) ∙ c .before .enum-told .given .1))))
+    (sym (at-number-at .number-at .ensures) ∙ ap numberGiven (c .before .enum-told .given .1)))))
 
 number-at-requires-2 : tie.Need-number-at-requires-2
 number-at-requires-2 c κs =
@@ -80,7 +81,7 @@ returns-3 c =
     let s = at-number-at2 .before .before .before .before .before .before .before .before .before .before .before .before in
     c .malformed3 .ensures ∙ refused Read (three (s .args .input .now) (s .args .t2)) 0
     (both-not-right _ _ (both-not-right _ _ (number-refused (inputAt (s .args .input .now) (s .args .t2) 2)
-    (sym (at-number-at2 .number-at2 .ensures) ∙ c .before .enum-told2 .given .1))))
+    (sym (at-number-at2 .number-at2 .ensures) ∙ ap numberGiven (c .before .enum-told2 .given .1)))))
 
 returns-4 : tie.Need-returns-4
 returns-4 c =
@@ -92,8 +93,8 @@ returns-4 c =
     let at-key-at = at-if1 .before .before in
     let s = at-key-at .before .before .before .before .before in
     read-accepted (s .args .input .now) (s .args .t2) _ _ _ (at-key-at .key-at .ensures) (not-false _ (at-if1 .if1 .left))
-    (sym (at-number-at .number-at .ensures) ∙ at-first .first .given .1)
-    (sym (at-number-at2 .number-at2 .ensures) ∙ at-len .len .given .1)
+    (sym (at-number-at .number-at .ensures) ∙ ap numberGiven (at-first .first .given .1))
+    (sym (at-number-at2 .number-at2 .ensures) ∙ ap numberGiven (at-len .len .given .1))
 
 pub read-args-spec : {M : Type 1} → statement M
 read-args-spec =

@@ -1,6 +1,7 @@
 -- `decoding::size_args` meets its contract. Assumes nothing.
-use mathlib.Core.Path.{sym, _∙_}
+use mathlib.Core.Path.{sym, ap, _∙_}
 use native.Mathlib.Omega.{arith}
+use Rattle.sia.specs.Number.{numberGiven}
 use Rattle.rules.specs.Inputs.{wellFormed}
 use Rattle.inputs.specs.Given.{inputAt, one}
 use Rattle.inputs.proofs.Laws.Given.{number-refused, size-accepted, refused, ends-within}
@@ -32,13 +33,13 @@ returns c =
     let at-number-at = c .before .before .before in
     let s = at-number-at .before .before .before in
     c .malformed .ensures ∙ refused Truncate (one (s .args .input .now) (s .args .t2)) 0
-    (number-refused (inputAt (s .args .input .now) (s .args .t2) 0) (sym (at-number-at .number-at .ensures) ∙ c .before .enum-told .given .1))
+    (number-refused (inputAt (s .args .input .now) (s .args .t2) 0) (sym (at-number-at .number-at .ensures) ∙ ap numberGiven (c .before .enum-told .given .1)))
 
 returns-2 : tie.Need-returns-2
 returns-2 c =
     let at-number-at = c .before .before .before in
     let s = at-number-at .before .before .before in
-    size-accepted (s .args .input .now) (s .args .t2) _ (sym (at-number-at .number-at .ensures) ∙ c .before .first .given .1)
+    size-accepted (s .args .input .now) (s .args .t2) _ (sym (at-number-at .number-at .ensures) ∙ ap numberGiven (c .before .first .given .1))
 
 pub size-args-spec : {M : Type 1} → statement M
 size-args-spec =

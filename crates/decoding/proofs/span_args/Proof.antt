@@ -1,7 +1,8 @@
 -- `decoding::span_args` meets its contract: the three inputs in turn. Assumes nothing.
-use mathlib.Core.Path.{sym, _∙_}
+use mathlib.Core.Path.{sym, ap, _∙_}
 use native.Mathlib.Omega.{arith}
 use Rattle.area.proofs.Laws.Pick.{both-not-left, both-not-right}
+use Rattle.sia.specs.Number.{numberGiven}
 use Rattle.rules.specs.Inputs.{wellFormed}
 use Rattle.inputs.specs.Given.{inputAt, three}
 use Rattle.inputs.proofs.Laws.Given.{number-refused, span-accepted, refused, ends-within}
@@ -40,7 +41,7 @@ returns c =
     let s = at-number-at .before .before .before .before .before in
     c .malformed .ensures ∙ refused Copy (three (s .args .input .now) (s .args .t2)) 0
     (both-not-left _ _ (number-refused (inputAt (s .args .input .now) (s .args .t2) 0)
-    (sym (at-number-at .number-at .ensures) ∙ c .before .enum-told .given .1)))
+    (sym (at-number-at .number-at .ensures) ∙ ap numberGiven (c .before .enum-told .given .1))))
 
 number-at-requires-2 : tie.Need-number-at-requires-2
 number-at-requires-2 c κs =
@@ -63,7 +64,7 @@ returns-2 c =
     let s = at-number-at2 .before .before .before .before .before .before .before .before .before in
     c .malformed2 .ensures ∙ refused Copy (three (s .args .input .now) (s .args .t2)) 0
     (both-not-right _ _ (both-not-left _ _ (number-refused (inputAt (s .args .input .now) (s .args .t2) 1)
-    (sym (at-number-at2 .number-at2 .ensures) ∙ c .before .enum-told2 .given .1))))
+    (sym (at-number-at2 .number-at2 .ensures) ∙ ap numberGiven (c .before .enum-told2 .given .1)))))
 
 number-at-requires-3 : tie.Need-number-at-requires-3
 number-at-requires-3 c κs =
@@ -86,7 +87,7 @@ returns-3 c =
     let s = at-number-at3 .before .before .before .before .before .before .before .before .before .before .before .before .before in
     c .malformed3 .ensures ∙ refused Copy (three (s .args .input .now) (s .args .t2)) 0
     (both-not-right _ _ (both-not-right _ _ (number-refused (inputAt (s .args .input .now) (s .args .t2) 2)
-    (sym (at-number-at3 .number-at3 .ensures) ∙ c .before .enum-told3 .given .1))))
+    (sym (at-number-at3 .number-at3 .ensures) ∙ ap numberGiven (c .before .enum-told3 .given .1)))))
 
 returns-4 : tie.Need-returns-4
 returns-4 c =
@@ -96,9 +97,9 @@ returns-4 c =
     let at-first = at-number-at2 .before .before in
     let at-number-at = at-first .before .before in
     let s = at-number-at .before .before .before .before .before in
-    span-accepted (s .args .input .now) (s .args .t2) _ _ _ (sym (at-number-at .number-at .ensures) ∙ at-first .first .given .1)
-    (sym (at-number-at2 .number-at2 .ensures) ∙ at-second .second .given .1)
-    (sym (at-number-at3 .number-at3 .ensures) ∙ c .before .len .given .1)
+    span-accepted (s .args .input .now) (s .args .t2) _ _ _ (sym (at-number-at .number-at .ensures) ∙ ap numberGiven (at-first .first .given .1))
+    (sym (at-number-at2 .number-at2 .ensures) ∙ ap numberGiven (at-second .second .given .1))
+    (sym (at-number-at3 .number-at3 .ensures) ∙ ap numberGiven (c .before .len .given .1))
 
 pub span-args-spec : {M : Type 1} → statement M
 span-args-spec =

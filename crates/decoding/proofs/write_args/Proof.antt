@@ -1,10 +1,11 @@
 -- `decoding::write_args` meets its contract: the two inputs in turn. Assumes nothing.
-use mathlib.Core.Path.{sym, _∙_}
+use mathlib.Core.Path.{sym, ap, _∙_}
 use native.Mathlib.Omega.{arith}
 use lib.ListN.{getD}
 use Rattle.area.proofs.Laws.Pick.{both-not-left, both-not-right}
 use Rattle.area.proofs.Laws.Parts.{length-part}
 use Rattle.sia.specs.Empty.{noOperand}
+use Rattle.sia.specs.Number.{numberGiven}
 use Rattle.rules.specs.Inputs.{wellFormed}
 use Rattle.inputs.specs.Given.{inputAt, two}
 use Rattle.inputs.proofs.Laws.Given.{number-refused, data-refused, data-told, data-long, write-accepted, refused, ends-within}
@@ -40,7 +41,7 @@ returns c =
     let s = at-number-at .before .before .before .before in
     c .malformed .ensures ∙ refused Write (two (s .args .input .now) (s .args .t2)) _
     (both-not-left _ _ (number-refused (inputAt (s .args .input .now) (s .args .t2) 0)
-    (sym (at-number-at .number-at .ensures) ∙ c .before .enum-told .given .1)))
+    (sym (at-number-at .number-at .ensures) ∙ ap numberGiven (c .before .enum-told .given .1))))
 
 data-at-requires : tie.Need-data-at-requires
 data-at-requires c κs =
@@ -63,7 +64,7 @@ returns-2 c =
     let s = at-data-at .before .before .before .before .before .before .before .before in
     c .malformed2 .ensures ∙ refused Write (two (s .args .input .now) (s .args .t2)) _
     (both-not-right _ _ (data-refused (inputAt (s .args .input .now) (s .args .t2) 1)
-    (sym (at-data-at .data-at .ensures) ∙ c .before .enum-told2 .given .1)))
+    (sym (at-data-at .data-at .ensures) ∙ ap numberGiven (c .before .enum-told2 .given .1))))
 
 add-from : tie.Need-add-from
 add-from c =
@@ -79,7 +80,7 @@ add-from c =
       within,
       long,
       data-long _
-          (data-told (inputAt (s .args .input .now) (s .args .t2) 1) _ (sym (at-data-at .data-at .ensures) ∙ at-len .len .given .1)),
+          (data-told (inputAt (s .args .input .now) (s .args .t2) 1) _ (sym (at-data-at .data-at .ensures) ∙ ap numberGiven (at-len .len .given .1))),
     )
 
 returns-3 : tie.Need-returns-3
@@ -89,8 +90,8 @@ returns-3 c =
     let at-first = at-data-at .before .before in
     let at-number-at = at-first .before .before in
     let s = at-number-at .before .before .before .before in
-    write-accepted (s .args .input .now) (s .args .t2) _ _ (sym (at-number-at .number-at .ensures) ∙ at-first .first .given .1)
-    (sym (at-data-at .data-at .ensures) ∙ at-len .len .given .1)
+    write-accepted (s .args .input .now) (s .args .t2) _ _ (sym (at-number-at .number-at .ensures) ∙ ap numberGiven (at-first .first .given .1))
+    (sym (at-data-at .data-at .ensures) ∙ ap numberGiven (at-len .len .given .1))
 
 pub write-args-spec : {M : Type 1} → statement M
 write-args-spec =

@@ -1,12 +1,7 @@
 -- An effect by the instruction, and what a change of size does not look at. z is the sector size. Assumes nothing.
 use mathlib.Core.Path.{_≡_, refl, sym, ap, _∙_}
 use mathlib.Core.List.{List}
-use Prim.Native.Nat.{ℕ, _+_, _-_, _≤_}
-use native.Mathlib.Omega.{arith}
-use lib.ListN.{drop, length-take, length-drop}
-use lib.Seq.{take-all}
-use Rattle.area.specs.Area.{part}
-use Rattle.area.proofs.Laws.Parts.{part-part}
+use Prim.Native.Nat.{ℕ, _-_}
 use Rattle.rules.specs.Inputs.{Args}
 use Rattle.rules.specs.Effect.{Ground, Staging, newCopy, resized, effect}
 use Rattle.sia.specs.declared.Op.{Op}
@@ -44,11 +39,3 @@ effect-args z e size Copy a bs g h = refl
 effect-args z e size Swap a bs g h = refl
 effect-args z e size Truncate a bs g h = refl
 effect-args z e size Unknown a bs g h = refl
-
--- ---- Write's data behind its count, as a part of the input area
-
-pub behind-count : (input : List ℕ) (at n : ℕ) → 8 ≤ n → drop 8 (part input at n) ≡ part input (at + 8) (n - 8)
-unfolding part
-behind-count input at n h =
-    sym (take-all (n - 8) (drop 8 (part input at n)) (omega (arith, length-drop 8 (part input at n), length-take n (drop at input))))
-    ∙ part-part input at n 8 (n - 8) (omega arith)

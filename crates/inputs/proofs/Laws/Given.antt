@@ -12,12 +12,11 @@ use Rattle.area.specs.Little.{valueOf}
 use Rattle.area.proofs.Laws.Pick.{yes, no, by, picks, skips, both-join, both-left, both-right, both-not-right, either-left, either-right}
 use Rattle.area.proofs.Laws.Parts.{length-part, part-part}
 use Rattle.sia.specs.Names.{opOf}
-use Rattle.sia.specs.Number.{number}
+use Rattle.sia.specs.Number.{Decoded, decoded, number}
 use Rattle.sia.specs.Empty.{noOperand}
 use Rattle.host.specs.Lists.{some, each}
 use Rattle.rules.specs.Inputs.{known, operandsOf, illFormed, pastEnd, inputsOf, nth, isTold, told, isNumber, isKey, isData, wellFormed}
 use Rattle.rules.specs.Inputs.{readArgs, spanArgs, argsOf}
-use Rattle.sia.specs.declared.Number.the-variants.{Is, Refused}
 use Rattle.sia.specs.declared.Operand.{Operand}
 use Rattle.sia.specs.declared.Instruction.{Instruction}
 use Rattle.sia.specs.declared.Op.{Op}
@@ -43,32 +42,31 @@ key-bytes b k e u = ap (λ (x : Key). x .bytes) (e ∙ picks _ _ _ u)
 -- ---- numbers
 
 module _ (b : List ℕ) where
-  pub number-refused : number b ≡ Refused → isNumber b ≡ false
+  pub number-refused : number b ≡ decoded 23 0 → isNumber b ≡ false
   unfolding isNumber isTold
   number-refused e = ap isTold e
 
-  pub number-told : (n : ℕ) → number b ≡ Is n → isNumber b ≡ true
+  pub number-told : (n : ℕ) → number b ≡ decoded 0 n → isNumber b ≡ true
   unfolding isNumber isTold
   number-told n e = ap isTold e
 
-  pub number-value : (n : ℕ) → number b ≡ Is n → n ≡ told (number b)
+  pub number-value : (n : ℕ) → number b ≡ decoded 0 n → n ≡ told (number b)
   unfolding told
   number-value n e = sym (ap told e)
 
   -- ---- data
 
-  pub data-refused : dataOf b ≡ Refused → isData b ≡ false
+  pub data-refused : dataOf b ≡ decoded 23 0 → isData b ≡ false
   unfolding dataOf
-  data-refused e = by (isData b) (λ u. let q : Is (length b - 8) ≡ Refused = sym (picks _ _ _ u)
-      ∙ e in let z : _≡_ {A = ℕ} 0 1 = cc in absurd (omega arith)) (λ u. u)
+  data-refused e = by (isData b) (λ u. absurd (omega (arith, ap (λ (d : Decoded). d .number) (sym (picks (isData b) _ _ u) ∙ e)))) (λ u. u)
 
-  pub data-told : (n : ℕ) → dataOf b ≡ Is n → isData b ≡ true
+  pub data-told : (n : ℕ) → dataOf b ≡ decoded 0 n → isData b ≡ true
   unfolding dataOf
-  data-told n e = by (isData b) (λ u. u) (λ u. let q : Refused ≡ Is n = sym (skips _ _ _ u) ∙ e in let z : _≡_ {A = ℕ} 0 1 = cc in absurd (omega arith))
+  data-told n e = by (isData b) (λ u. u) (λ u. absurd (omega (arith, ap (λ (d : Decoded). d .number) (sym (skips (isData b) _ _ u) ∙ e))))
 
-  pub data-value : (n : ℕ) → dataOf b ≡ Is n → n ≡ length b - 8
+  pub data-value : (n : ℕ) → dataOf b ≡ decoded 0 n → n ≡ length b - 8
   unfolding dataOf
-  data-value n e = let q : Is n ≡ Is (length b - 8) = sym e ∙ picks _ _ _ (data-told n e) in cc
+  data-value n e = ap (λ (d : Decoded). d .value) (sym e ∙ picks (isData b) _ _ (data-told n e))
 
   pub data-long : isData b ≡ true → 8 ≤ length b
   unfolding isData
@@ -80,11 +78,11 @@ module _ (b : List ℕ) where
     count-told = ap told (picks _ _ _ (eq-eqb _ _ (length-take-le 8 b long))) ∙ sym loaded
 
     -- the count is not the rest's length
-    pub data-other : (v ≡ length b - 8 → ⊥) → Refused ≡ dataOf b
+    pub data-other : (v ≡ length b - 8 → ⊥) → decoded 23 0 ≡ dataOf b
     unfolding dataOf isData
     data-other n = no _ _ _ (both-not-right _ _ (ne-eqb _ _ (λ q. n (sym count-told ∙ q)))) refl
 
-    pub data-right : v ≡ length b - 8 → Is (length b - 8) ≡ dataOf b
+    pub data-right : v ≡ length b - 8 → decoded 0 (length b - 8) ≡ dataOf b
     unfolding dataOf isData
     data-right q = yes _ _ _ (both-join _ _ (le-leb _ _ long) (eq-eqb _ _ (count-told ∙ q))) refl
 
@@ -100,7 +98,8 @@ unfolding given
 accepted op l from a e q = yes _ _ _ e (ap (λ (x : Args). record { told = true; args = x }) q)
 
 module _ (area : List ℕ) (os : List Operand) (m n : ℕ) where
-  pub read-accepted : (k : Key) → k ≡ keyOf (inputAt area os 0) → k .told ≡ true → number (inputAt area os 1) ≡ Is m → number (inputAt area os 2) ≡ Is n
+  pub read-accepted : (k : Key) → k ≡ keyOf (inputAt area os 0) → k .told ≡ true
+      → number (inputAt area os 1) ≡ decoded 0 m → number (inputAt area os 2) ≡ decoded 0 n
       → record { told = true; args = record { key = k .bytes; first = m; second = 0; len = n; from = 0 } } ≡ given Read (three area os) 0
   unfolding wellFormed three argsOf readArgs placed
   read-accepted k e t p q =
@@ -111,7 +110,7 @@ module _ (area : List ℕ) (os : List Operand) (m n : ℕ) where
       accepted Read (three area os) 0 _ (both-join _ _ right (both-join _ _ (number-told _ m p) (number-told _ n q)))
       (λ i. record { key = one i; first = two i; second = 0; len = last i; from = 0 })
 
-  pub span-accepted : (k : ℕ) → number (inputAt area os 0) ≡ Is k → number (inputAt area os 1) ≡ Is m → number (inputAt area os 2) ≡ Is n
+  pub span-accepted : (k : ℕ) → number (inputAt area os 0) ≡ decoded 0 k → number (inputAt area os 1) ≡ decoded 0 m → number (inputAt area os 2) ≡ decoded 0 n
       → record { told = true; args = record { key = zeros 32; first = k; second = m; len = n; from = 0 } } ≡ given Copy (three area os) 0
   unfolding wellFormed three argsOf spanArgs placed
   span-accepted k e p q =
@@ -121,7 +120,7 @@ module _ (area : List ℕ) (os : List Operand) (m n : ℕ) where
       accepted Copy (three area os) 0 _ (both-join _ _ (number-told _ k e) (both-join _ _ (number-told _ m p) (number-told _ n q)))
       (λ i. record { key = zeros 32; first = one i; second = two i; len = last i; from = 0 })
 
-  pub write-accepted : number (inputAt area os 0) ≡ Is m → dataOf (inputAt area os 1) ≡ Is n
+  pub write-accepted : number (inputAt area os 0) ≡ decoded 0 m → dataOf (inputAt area os 1) ≡ decoded 0 n
       → record { told = true; args = record { key = zeros 32; first = m; second = 0; len = n; from = dataFrom os } } ≡ given Write (two area os) (dataFrom os)
   unfolding wellFormed two argsOf placed
   write-accepted p q =
@@ -130,7 +129,7 @@ module _ (area : List ℕ) (os : List Operand) (m n : ℕ) where
       accepted Write (two area os) (dataFrom os) _ (both-join _ _ (number-told _ m p) (data-told _ n q))
       (λ i. record { key = zeros 32; first = one i; second = 0; len = last i; from = dataFrom os })
 
-pub size-accepted : (area : List ℕ) (os : List Operand) (m : ℕ) → number (inputAt area os 0) ≡ Is m
+pub size-accepted : (area : List ℕ) (os : List Operand) (m : ℕ) → number (inputAt area os 0) ≡ decoded 0 m
     → record { told = true; args = record { key = zeros 32; first = m; second = 0; len = 0; from = 0 } } ≡ given Truncate (one area os) 0
 unfolding wellFormed one argsOf placed
 size-accepted area os m p =

@@ -1,5 +1,5 @@
--- `reading::head` meets its contract: contract id, instruction count, instructions and declared length, one behind the other.
--- Assumes nothing.
+-- `reading::head` meets its contract: contract id, instruction count, instructions and declared length, one behind the other. The fixed id is
+-- the id that was read. Assumes nothing.
 use mathlib.Core.Path.{_≡_, refl, sym, ap, _∙_}
 use mathlib.Core.List.{List}
 use Prim.Native.Nat.{ℕ, _≤_}
@@ -18,11 +18,17 @@ use Rattle.reading.proofs.head.Tie as tie
 
 -- ---- seen from the count on: where the function begins, that 32 bytes were there, and the id read from them
 
+abbrev copied : tie.After-limited → tie.After-copy-between
+copied c = c .before .before .before
+
+abbrev tested : tie.After-copy-between → tie.Else1
+tested c = c .before .before
+
 abbrev start : tie.After-limited → tie.Start
-start c = c .before .before .before .before .before .before .before
+start c = tested (copied c) .before .before .before
 
 there : (c : tie.After-limited) → 32 ≤ length (start c .args .bytes .now)
-there c = c .before .before .before .before .if1 .left
+there c = tested (copied c) .if1 .left
 
 identified : (c : tie.After-limited) (next : List ℕ → List ℕ → Reading Head) {r : Reading Head}
     → r ≡ next (part (start c .args .bytes .now) 0 32) (drop 32 (start c .args .bytes .now))
@@ -95,7 +101,7 @@ returns-5 c =
     let list = declared .before .before .before in
     let count = list .before .before .before in
     let bytes = start count .args .bytes .now in
-    let id = put-part _ bytes 0 32 refl (there count) (count .before .before .copy-between .ensures) in
+    let id = count .before .fixed-id .ensures ∙ put-part _ bytes 0 32 refl (there count) (copied count .copy-between .ensures) in
     record {
       stays = declared .limited2 .ensures .stays;
       says =
@@ -114,6 +120,7 @@ head-spec =
     returns
     slice-aggregate-copy-between
     copy-between-requires
+    (λ c κs. search needs)
     limited-requires
     returns-2
     instructions-requires

@@ -1,5 +1,5 @@
 -- `reading::instruction` meets its contract: name, operand count, operands and flag, one behind the other. The entry's name and
--- operands are empty, so the name that is laid over is the one that was read. Assumes nothing.
+-- operands are empty, so the name that is laid over is the one that was read, and the fixed name is that name. Assumes nothing.
 use mathlib.Core.Path.{_≡_, sym, ap, _∙_}
 use mathlib.Core.List.{List}
 use Prim.Native.Nat.{ℕ, _+_, _-_, _≤_}
@@ -18,11 +18,17 @@ use Rattle.reading.proofs.instruction.Tie as tie
 
 -- ---- seen from the count on: where the function begins, that 16 bytes were there, and the name read from them
 
+abbrev copied : tie.After-limited → tie.After-copy-between
+copied c = c .before .before .before
+
+abbrev tested : tie.After-copy-between → tie.Else1
+tested c = c .before .before .before
+
 abbrev start : tie.After-limited → tie.Start
-start c = c .before .before .before .before .before .before .before
+start c = tested (copied c) .before .before
 
 there : (c : tie.After-limited) → 16 ≤ length (start c .args .bytes .now) - start c .args .at
-there c = c .before .before .before .before .before .if1 .left
+there c = tested (copied c) .if1 .left
 
 named : (c : tie.After-limited) (next : List ℕ → List ℕ → Reading Instruction) {r : Reading Instruction}
     → r ≡ next (part (start c .args .bytes .now) (start c .args .at) 16) (drop (start c .args .at + 16) (start c .args .bytes .now))
@@ -104,7 +110,10 @@ returns-5 c =
     let count = list .before .before .before .before in
     let bytes = start count .args .bytes .now in
     let entry = start count .args .entry .name in
-    let name = put-part entry bytes (start count .args .at) 16 (ap (λ (x : Instruction). length (x .name)) (start count .pre .1)) (omega (arith, there count)) (count .before .before .copy-between .ensures) in
+    let empty = ap (λ (x : Instruction). length (x .name)) (start count .pre .1) in
+    let name =
+    count .before .fixed-name .ensures
+    ∙ put-part entry bytes (start count .args .at) 16 empty (omega (arith, there count)) (copied count .copy-between .ensures) in
     record {
       stays = proof .flag .ensures .stays;
       says =
@@ -123,6 +132,7 @@ instruction-spec =
     returns
     slice-aggregate-copy-between
     copy-between-requires
+    (λ c κs. search needs)
     add-limited
     limited-requires
     returns-2

@@ -2,7 +2,8 @@
 use mathlib.Core.Path.{sym, _∙_}
 use native.Mathlib.Omega.{arith}
 use borrow.Author.Needs.{needs}
-use Rattle.view.proofs.Laws.Roots.{join-given, seen-none, seen-roots, seen-join}
+use Rattle.tree.proofs.Promise.{calls}
+use Rattle.view.proofs.Laws.Roots.{seen-none, seen-roots, seen-join}
 use Rattle.roots.proofs.contract_root.Statement.{statement}
 use Rattle.roots.proofs.contract_root.Tie as tie
 
@@ -30,7 +31,7 @@ returns-2 : tie.Need-returns-2
 returns-2 c =
     let s = c .before .before .before .before .before .before .before in
     let roots = c .before .before .before .sector-roots in
-    join-given (c .before .join .result) _ (c .before .join .ensures) (omega (arith, seen-roots _ _ (s .args .seen) (s .pre) (roots .ensures)))
+    calls .join-told (c .before .join .result) _ (c .before .join .ensures) (omega (arith, seen-roots _ _ (s .args .seen) (s .pre) (roots .ensures)))
     ∙ seen-join _ _ (s .args .seen) (s .pre) (roots .ensures)
 
 pub contract-root-spec : {M : Type 1} → statement M

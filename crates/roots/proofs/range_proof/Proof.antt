@@ -5,8 +5,9 @@ use lib.ListN.{length}
 use borrow.Author.Needs.{needs}
 use Rattle.area.specs.Area.{put}
 use Rattle.rules.specs.View.{sector}
+use Rattle.tree.proofs.Promise.{calls}
 use Rattle.view.proofs.Laws.Sectors.{seen-lies}
-use Rattle.view.proofs.Laws.Roots.{proof-given, proof-in-given, sector-provable, sector-provable-in, ranges, seen-one, seen-roots, seen-proof}
+use Rattle.view.proofs.Laws.Roots.{ranges, seen-one, seen-roots, seen-proof}
 use Rattle.roots.proofs.range_proof.Statement.{statement}
 use Rattle.roots.proofs.range_proof.Tie as tie
 
@@ -34,8 +35,9 @@ returns c =
     let range = ranges (s .args .seen .count) (s .args .at) (s .args .n) (s .pre .1 .0) in
     let bytes = at-sector .sector .ensures .0 ∙ ap (sector 4096 (s .args .disk .now) (s .args .stage .now)) (at-sector .before .spot-of .ensures) in
     let e = seen-one _ _ (s .args .seen) (s .args .at) (s .args .n) (c .before .before .before .before .if1 .taken) (s .pre .1 .0) bytes in
-    proof-given (c .before .before .prove .result) _ _ _ _ _ (c .before .before .prove .ensures)
-    (sector-provable _ _ _ (at-sector .sector .ensures .1) (range .0) (range .1)) (omega (arith, ap length e, s .pre .1 .1))
+    let long = at-sector .sector .ensures .1 in
+    calls .proof-laid (c .before .before .prove .result) _ _ _ _ _ (c .before .before .prove .ensures)
+    (omega (arith, long)) (range .0) (omega (arith, long, range .1)) (omega (arith, ap length e, s .pre .1 .1))
     ∙ ap (put (s .args .out .now) 0) e
 
 sector-roots-requires : tie.Need-sector-roots-requires
@@ -66,10 +68,9 @@ returns-2 c =
     let range = ranges (s .args .seen .count) (s .args .at) (s .args .n) (s .pre .1 .0) in
     let bytes = at-sector .sector .ensures .0 ∙ ap (sector 4096 (s .args .disk .now) (s .args .stage .now)) (at-sector .before .spot-of .ensures) in
     let e = seen-proof _ _ (s .args .seen) (s .pre .0) (at-roots .sector-roots .ensures) (s .args .at) (s .args .n) (s .pre .1 .0) bytes in
-    proof-in-given (c .before .before .prove-in .result) _ _ _ _ _ _ _ (c .before .before .prove-in .ensures)
-    (sector-provable-in _ (s .args .seen .count) _ _ _ _ (seen-roots _ _ (s .args .seen) (s .pre .0) (at-roots .sector-roots .ensures))
-    (s .pre .1 .0 .inside .below) (at-sector .sector .ensures .1) (range .0) (range .1))
-    (omega (arith, ap length e, s .pre .1 .1))
+    calls .proof-in-laid (c .before .before .prove-in .result) _ _ _ _ _ _ _ (c .before .before .prove-in .ensures)
+    (s .args .seen .count) 6 (seen-roots _ _ (s .args .seen) (s .pre .0) (at-roots .sector-roots .ensures))
+    (s .pre .1 .0 .inside .below) (at-sector .sector .ensures .1) (omega arith) (range .0) (range .1) (omega (arith, ap length e, s .pre .1 .1))
     ∙ ap (put (s .args .out .now) 0) e
 
 pub range-proof-spec : {M : Type 1} → statement M

@@ -5,8 +5,7 @@ use borrow.Author.Tests.{eq-eqb, ne-eqb}
 use Rattle.area.specs.Little.{valueOf}
 use Rattle.area.proofs.Laws.Pick.{yes, no}
 use Rattle.area.proofs.Laws.Parts.{part-whole}
-use Rattle.sia.specs.Number.{number}
-use Rattle.sia.specs.declared.Number.the-variants.{Is}
+use Rattle.sia.specs.Number.{decoded, number}
 use Rattle.sia.proofs.number_of.Statement.{statement}
 use Rattle.sia.proofs.number_of.Tie as tie
 
@@ -21,7 +20,7 @@ returns-2 : tie.Need-returns-2
 unfolding number
 returns-2 c =
     let eight = c .before .if1 .left in
-    yes _ _ _ (eq-eqb _ _ eight) (ap Is (c .load .ensures ∙ ap valueOf (part-whole _ 8 (sym eight))))
+    yes _ _ _ (eq-eqb _ _ eight) (ap (decoded 0) (c .load .ensures ∙ ap valueOf (part-whole _ 8 (sym eight))))
 
 pub number-of-spec : {M : Type 1} → statement M
 number-of-spec = tie.close (tie.spec returns load-requires returns-2)

@@ -1,28 +1,18 @@
 -- Roots of sectors, and the root and proofs of all that is seen, by what the tree promises. Assumes nothing.
 use mathlib.Core.Path.{_≡_, refl, sym, ap, _∙_}
-use mathlib.Core.Bool.{Bool, true}
+use mathlib.Core.Bool.{true}
 use mathlib.Core.List.{List, [], _∷_, append-nil}
 use Prim.Native.Nat.{ℕ, _+_, _*_, _/_, _%_, _≤_, _<_}
 use native.Mathlib.Nat.{mul-comm}
 use native.Mathlib.Omega.{arith}
 use lib.ListN.{length, getD}
-use lib.Dec.{leb}
-use borrow.Author.Tests.{eq-eqb, lt-ltb, le-leb}
-use Rattle.area.specs.Pick.{pick, both}
-use Rattle.area.specs.Area.{part, put, zeros}
-use Rattle.area.proofs.Laws.Pick.{picks, both-join}
+use Rattle.area.specs.Area.{part, zeros}
 use Rattle.area.proofs.Laws.Tab.{length-tab, getD-tab}
 use Rattle.area.proofs.Laws.Parts.{part-whole}
 use Rattle.sia.specs.Encode.{joined, every}
 use Rattle.tree.specs.Tree.{root, join}
-use Rattle.tree.specs.Walk.{count, proof, proofIn}
-use Rattle.tree.specs.Checker.{ranged}
-use Rattle.tree.specs.Answers as answers
-use Rattle.tree.specs.Answers.{Root, rootGiven, rootIf, rooted, wholes, Count, countGiven, counted}
-use Rattle.tree.specs.Answers.{Left, left, hashesLaid, provable, proved, provableIn, provedIn, isPower}
+use Rattle.tree.specs.Walk.{proof, proofIn}
 use Rattle.tree.specs.Promise.{Parted}
-use Rattle.tree.specs.declared.Rooted.{Rooted}
-use Rattle.tree.specs.declared.Counted.{Counted}
 use Rattle.tree.proofs.Promise.{roots, proofs}
 use Rattle.rules.specs.View.{sector, spotOf, whole}
 use Rattle.rules.specs.Roots.{sectorRoot, contractRoot, rangeProof}
@@ -32,62 +22,6 @@ use Rattle.view.specs.Seen.{spotsOf, lies, Lies, Ranged}
 use Rattle.view.specs.declared.Seen.{Seen}
 use Rattle.view.proofs.Laws.Sectors.{sector-long}
 use Rattle.view.proofs.Laws.Pieces.{length-pieces, part-pieces}
-
--- ---- what the tree answers
-
-given : (r : Rooted) (asked : Bool) (x : List ℕ) → rootGiven r ≡ rootIf asked x → asked ≡ true → r .root ≡ x
-unfolding rootIf
-given r asked x e h = ap (λ (r : Root). r .root) (e ∙ picks asked _ _ h)
-
-pub root-given : (r : Rooted) (b : List ℕ) → rootGiven r ≡ rooted b → length b % 64 ≡ 0 → r .root ≡ root b
-unfolding rooted wholes
-root-given r b e h = given r (wholes 64 b) (root b) e (eq-eqb _ _ h)
-
-pub join-given : (r : Rooted) (b : List ℕ) → rootGiven r ≡ answers.joined b → length b % 32 ≡ 0 → r .root ≡ join b
-unfolding answers.joined wholes
-join-given r b e h = given r (wholes 32 b) (join b) e (eq-eqb _ _ h)
-
-pub count-given : (r : Counted) (n s e : ℕ) → countGiven r ≡ counted n s e → s < e → e ≤ n → r .count ≡ count n s e
-unfolding counted ranged
-count-given r n s e q lt le = ap (λ (x : Count). x .count) (q ∙ picks (ranged n s e) _ _ (both-join _ _ (lt-ltb s e lt) (le-leb e n le)))
-
-laid : (r : Counted) (asked : Bool) (hs out next : List ℕ) → left r next ≡ hashesLaid asked hs out → asked ≡ true → length hs ≤ length out → next ≡ put out 0 hs
-unfolding hashesLaid
-laid r asked hs out next q h room =
-    ap (λ (x : Left). x .out) (q ∙ picks (both asked (leb (length hs) (length out))) _ _ (both-join _ _ h (le-leb _ _ room)))
-
-pub proof-given : (r : Counted) (b : List ℕ) (s e : ℕ) (out next : List ℕ) → left r next ≡ proved b s e out
-    → provable b s e ≡ true → length (proof b s e) ≤ length out → next ≡ put out 0 (proof b s e)
-unfolding proved
-proof-given r b s e out next q asked room = laid r (provable b s e) (proof b s e) out next q asked room
-
-pub proof-in-given : (r : Counted) (rs : List ℕ) (at : ℕ) (b : List ℕ) (s e : ℕ) (out next : List ℕ) → left r next ≡ provedIn rs at b s e out
-    → provableIn rs at b s e ≡ true → length (proofIn rs at b s e) ≤ length out → next ≡ put out 0 (proofIn rs at b s e)
-unfolding provedIn
-proof-in-given r rs at b s e out next q asked room = laid r (provableIn rs at b s e) (proofIn rs at b s e) out next q asked room
-
-sixty-four : isPower 64 64 ≡ true
-unfolding isPower pick
-sixty-four = refl
-
--- a range of a sector can be proved
-pub sector-provable : (b : List ℕ) (s e : ℕ) → length b ≡ 4096 → s < e → e ≤ 64 → provable b s e ≡ true
-unfolding provable wholes ranged
-sector-provable b s e size lt le =
-    let whole-segments : length b % 64 ≡ 0 = omega arith in
-    let within : e ≤ length b / 64 = omega arith in
-    both-join _ _ (eq-eqb _ _ whole-segments) (both-join _ _ (lt-ltb _ _ lt) (le-leb _ _ within))
-
--- and of one of m sectors, with the roots of all
-pub sector-provable-in : (rs : List ℕ) (m at : ℕ) (b : List ℕ) (s e : ℕ) → length rs ≡ 32 * m → at < m → length b ≡ 4096 → s < e → e ≤ 64
-    → provableIn rs at b s e ≡ true
-unfolding provableIn wholes
-sector-provable-in rs m at b s e long here size lt le =
-    let n : length b / 64 ≡ 64 = omega arith in
-    let whole-roots : length rs % 32 ≡ 0 = omega arith in
-    let one-of : at < length rs / 32 = omega arith in
-    both-join _ _ (eq-eqb _ _ whole-roots)
-    (both-join _ _ (lt-ltb _ _ one-of) (both-join _ _ (ap (isPower 64) n ∙ sixty-four) (sector-provable b s e size lt le)))
 
 -- ---- sectors
 

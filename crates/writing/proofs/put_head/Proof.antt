@@ -1,5 +1,5 @@
--- `writing::put_head` meets its contract: four pieces, one behind the other. Assumes nothing.
-use mathlib.Core.Path.{_≡_, refl, sym}
+-- `writing::put_head` meets its contract: four pieces, one behind the other. The fixed id is the id. Assumes nothing.
+use mathlib.Core.Path.{_≡_, refl, sym, ap, _∙_}
 use Prim.Native.Nat.{_+_, _≤_}
 use native.Mathlib.Omega.{arith}
 use lib.ListN.{length}
@@ -15,8 +15,14 @@ use Rattle.writing.proofs.put_head.Tie as tie
 
 -- ---- the places that the answers look back to
 
+abbrev fixed : tie.After-copy-between → tie.After-fixed-id
+fixed c = c .before .before .before
+
+abbrev start : tie.After-fixed-id → tie.Start
+start c = c .before .before .before
+
 abbrev before-id : tie.After-copy-between → tie.Start
-before-id c = c .before .before .before .before .before
+before-id c = start (fixed c)
 
 abbrev before-count : tie.After-store → tie.After-copy-between
 before-count c = c .before .before .before .before
@@ -38,11 +44,12 @@ room s =
 
 -- ---- the answers
 
-slice-aggregate-copy-between : tie.Need-slice-aggregate-copy-between
-slice-aggregate-copy-between c = search needs
-
 copy-between-requires : tie.Need-copy-between-requires
-copy-between-requires c κs = let r = room (c .before .before .before .before) in (omega arith, omega arith)
+copy-between-requires c κs =
+    let at-fixed = c .before .before in
+    let r = room (start at-fixed) in
+    let long = ap length (at-fixed .fixed-id .ensures) in
+    (omega arith, omega arith)
 
 store-requires : tie.Need-store-requires
 store-requires c κs = let r = room (before-id (c .before .before .before)) in omega arith
@@ -63,8 +70,9 @@ returns c =
     let count = before-list list in
     let id = before-count count in
     let r = room (before-id id) in
+    let same = fixed id .fixed-id .ensures in
     lay-four _ _ _ _ _ _ _ _ _
-    (lay-same _ _ _ (id .copy-between .ensures) (part-whole _ 32 (sym (r .contract))))
+    (lay-same _ _ _ (id .copy-between .ensures) (part-whole _ 32 (sym (ap length same ∙ r .contract)) ∙ same))
     (count .store .ensures)
     (list .put-instructions .ensures .1)
     (c .before .before .store2 .ensures)
@@ -74,7 +82,8 @@ pub put-head-spec : {M : Type 1} → statement M
 put-head-spec =
     tie.close
     (tie.spec
-    slice-aggregate-copy-between
+    (λ c κs. search needs)
+    (λ c. search needs)
     copy-between-requires
     store-requires
     put-instructions-requires

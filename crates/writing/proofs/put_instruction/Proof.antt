@@ -1,4 +1,4 @@
--- `writing::put_instruction` meets its contract: four pieces, one behind the other. Assumes nothing.
+-- `writing::put_instruction` meets its contract: four pieces, one behind the other. The fixed name is the name. Assumes nothing.
 use mathlib.Core.Path.{_≡_, refl, sym, ap, _∙_}
 use mathlib.Core.List.{[], _∷_}
 use Prim.Native.Nat.{ℕ, _+_, _*_, _≤_}
@@ -16,8 +16,14 @@ use Rattle.writing.proofs.put_instruction.Tie as tie
 
 -- ---- the places that the answers look back to
 
+abbrev fixed : tie.After-copy-between → tie.After-fixed-name
+fixed c = c .before .before .before
+
+abbrev start : tie.After-fixed-name → tie.Start
+start c = c .before .before .before
+
 abbrev before-name : tie.After-copy-between → tie.Start
-before-name c = c .before .before .before .before .before
+before-name c = start (fixed c)
 
 abbrev before-count : tie.After-store → tie.After-copy-between
 before-count c = c .before .before .before .before
@@ -40,11 +46,12 @@ room s =
 
 -- ---- the answers
 
-slice-aggregate-copy-between : tie.Need-slice-aggregate-copy-between
-slice-aggregate-copy-between c = search needs
-
 copy-between-requires : tie.Need-copy-between-requires
-copy-between-requires c κs = let r = room (c .before .before .before .before) in (omega arith, omega arith)
+copy-between-requires c κs =
+    let at-fixed = c .before .before in
+    let r = room (start at-fixed) in
+    let long = ap length (at-fixed .fixed-name .ensures) in
+    (omega arith, omega arith)
 
 add-store : tie.Need-add-store
 add-store c = search needs
@@ -84,8 +91,9 @@ returns c =
     let name = before-count count in
     let r = room (before-name name) in
     let x = before-name name .args .x in
+    let same = fixed name .fixed-name .ensures in
     lay-four _ _ _ _ _ _ _ _ _
-    (lay-same _ _ _ (name .copy-between .ensures) (part-whole _ 16 (sym (r .name))))
+    (lay-same _ _ _ (name .copy-between .ensures) (part-whole _ 16 (sym (ap length same ∙ r .name)) ∙ same))
     (count .store .ensures)
     (operands .put-operands .ensures)
     (lay-same _ _ _ (c .before .before .fill .ensures) (ap (λ (b : ℕ). b ∷ []) (c .before .before .before .flag-byte .ensures)))
@@ -96,7 +104,8 @@ pub put-instruction-spec : {M : Type 1} → statement M
 put-instruction-spec =
     tie.close
     (tie.spec
-    slice-aggregate-copy-between
+    (λ c κs. search needs)
+    (λ c. search needs)
     copy-between-requires
     add-store
     store-requires

@@ -1,7 +1,4 @@
 -- `plan::Plan::failed` meets its contract. Assumes nothing.
-use Rattle.sia.specs.Number.{number}
-use Rattle.host.specs.Lists.{count}
-use Rattle.rules.specs.Plan.{cost}
 use Rattle.plan.specs.Planned.{failed}
 use borrow.Author.Needs.{needs}
 use Rattle.plan.proofs.Plan.failed.Statement.{statement}

@@ -2,7 +2,7 @@
 use native.Mathlib.Omega.{arith}
 use Prim.Native.Nat.{_+_, _*_, _/_, _≤_, _<_}
 use borrow.Author.Needs.{needs}
-use Rattle.view.proofs.Laws.Roots.{count-given}
+use Rattle.tree.proofs.Promise.{calls}
 use Rattle.view.proofs.roots.range_count.Statement.{statement}
 use Rattle.view.proofs.roots.range_count.Tie as tie
 
@@ -21,7 +21,7 @@ returns c =
     let g = s .pre .1 in
     let some : s .args .at / 64 < (s .args .at + s .args .n) / 64 = omega (arith, g .some, g .first, g .whole) in
     let within : (s .args .at + s .args .n) / 64 ≤ s .args .sectors * 64 = omega (arith, g .inside .below, g .inside .one) in
-    count-given (c .count .result) _ _ _ (c .count .ensures) some within
+    calls .count-told (c .count .result) _ _ _ (c .count .ensures) some within
 
 pub range-count-spec : {M : Type 1} → statement M
 range-count-spec = tie.close (tie.spec mul-segments add-count count-requires returns)

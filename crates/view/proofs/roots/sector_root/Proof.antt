@@ -1,7 +1,8 @@
 -- `sector_root` meets its contract: a sector is whole segments. Assumes nothing.
 use native.Mathlib.Omega.{arith}
 use borrow.Author.Needs.{needs}
-use Rattle.view.proofs.Laws.Roots.{root-given, root-is}
+use Rattle.tree.proofs.Promise.{calls}
+use Rattle.view.proofs.Laws.Roots.{root-is}
 use Rattle.view.proofs.roots.sector_root.Statement.{statement}
 use Rattle.view.proofs.roots.sector_root.Tie as tie
 
@@ -15,7 +16,7 @@ returns : tie.Need-returns
 returns c =
     let at-sector = c .before .before in
     root-is 4096 _ _ _ (at-sector .sector .ensures .0)
-    (root-given (c .before .root .result) _ (c .before .root .ensures) (omega (arith, at-sector .sector .ensures .1)))
+    (calls .root-told (c .before .root .result) _ (c .before .root .ensures) (omega (arith, at-sector .sector .ensures .1)))
 
 pub sector-root-spec : {M : Type 1} → statement M
 sector-root-spec = tie.close (tie.spec sector-requires root-requires returns)
