@@ -6,11 +6,12 @@ use Rattle.calls.proofs.play_all.Statement.{statement}
 use Rattle.calls.proofs.play_all.Tie as tie
 
 abbrev Inv-loop : tie.InvT-loop
-Inv-loop disk₀ stage₀ input₀ output₀ item₀ report₀ host₀ left₀ disk stage input output item report host left =
-    (length disk ≡ length disk₀) × (length stage ≡ length stage₀) × (length input ≡ length input₀) × (length output ≡ length output₀) × (length item ≡ length item₀) × (length report ≡ length report₀)
+Inv-loop item₀ disk₀ stage₀ input₀ output₀ report₀ host₀ left₀ turns₀ item disk stage input output report host left turns =
+    (length item ≡ length item₀) × (length disk ≡ length disk₀) × (length stage ≡ length stage₀) × (length input ≡ length input₀)
+    × (length output ≡ length output₀) × (length report ≡ length report₀)
 
 abbrev μ-loop : tie.MeasureT-loop
-μ-loop disk₀ stage₀ input₀ output₀ item₀ report₀ host₀ left₀ disk stage input output item report host left = left
+μ-loop item₀ disk₀ stage₀ input₀ output₀ report₀ host₀ left₀ turns₀ item disk stage input output report host left turns = turns
 
 no-host-requires : tie.Need-no-host-requires Inv-loop μ-loop
 no-host-requires c κs = search needs

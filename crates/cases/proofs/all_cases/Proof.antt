@@ -7,11 +7,11 @@ use Rattle.cases.proofs.all_cases.Statement.{statement}
 use Rattle.cases.proofs.all_cases.Tie as tie
 
 abbrev Inv-loop : tie.InvT-loop
-Inv-loop shown₀ left₀ shown left =
-    (length shown ≡ length shown₀) × (left ≤ 18446744073709551615)
+Inv-loop shown₀ turns₀ shown turns =
+    (length shown ≡ length shown₀) × (turns ≤ 18446744073709551615)
 
 abbrev μ-loop : tie.MeasureT-loop
-μ-loop shown₀ left₀ shown left = left
+μ-loop shown₀ turns₀ shown turns = turns
 
 loop-holds : tie.Need-loop-holds Inv-loop μ-loop
 loop-holds c = search needs

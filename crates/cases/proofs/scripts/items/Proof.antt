@@ -8,11 +8,12 @@ use Rattle.cases.proofs.scripts.items.Statement.{statement}
 use Rattle.cases.proofs.scripts.items.Tie as tie
 
 abbrev Inv-loop : tie.InvT-loop
-Inv-loop script disk₀ stage₀ input₀ output₀ shown₀ host₀ at₀ end₀ left₀ disk stage input output shown host at end left =
-    (length disk ≡ length disk₀) × (length stage ≡ length stage₀) × (length input ≡ length input₀) × (length output ≡ length output₀) × (length shown ≡ length shown₀) × (at ≤ length script) × (end ≤ length shown)
+Inv-loop many item₀ disk₀ stage₀ input₀ output₀ shown₀ host₀ left₀ end₀ turns₀ item disk stage input output shown host left end turns =
+    (length item ≡ length item₀) × (length disk ≡ length disk₀) × (length stage ≡ length stage₀) × (length input ≡ length input₀)
+    × (length output ≡ length output₀) × (length shown ≡ length shown₀) × (end ≤ length shown)
 
 abbrev μ-loop : tie.MeasureT-loop
-μ-loop script disk₀ stage₀ input₀ output₀ shown₀ host₀ at₀ end₀ left₀ disk stage input output shown host at end left = left
+μ-loop many item₀ disk₀ stage₀ input₀ output₀ shown₀ host₀ left₀ end₀ turns₀ item disk stage input output shown host left end turns = turns
 
 no-host-requires : tie.Need-no-host-requires Inv-loop μ-loop
 no-host-requires c κs = search needs
@@ -20,8 +21,8 @@ no-host-requires c κs = search needs
 loop-holds : tie.Need-loop-holds Inv-loop μ-loop
 loop-holds c = search needs
 
-item-requires : tie.Need-item-requires Inv-loop μ-loop
-item-requires c κs = search needs
+next-requires : tie.Need-next-requires Inv-loop μ-loop
+next-requires c κs = search needs
 
 still-requires : tie.Need-still-requires Inv-loop μ-loop
 still-requires c κs = search needs
@@ -47,6 +48,12 @@ same-length-4 c = search needs
 same-length-5 : tie.Need-same-length-5 Inv-loop μ-loop
 same-length-5 c = search needs
 
+same-length-6 : tie.Need-same-length-6 Inv-loop μ-loop
+same-length-6 c = search needs
+
+skip-requires : tie.Need-skip-requires Inv-loop μ-loop
+skip-requires c κs = search needs
+
 returns : tie.Need-returns Inv-loop μ-loop
 returns c = search needs
 
@@ -58,13 +65,15 @@ items-spec =
     μ-loop
     no-host-requires
     loop-holds
-    item-requires
+    next-requires
     still-requires
     loop-less
     loop-again
+    skip-requires
     same-length
     same-length-2
     same-length-3
     same-length-4
     same-length-5
+    same-length-6
     returns)
