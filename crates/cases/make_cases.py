@@ -126,6 +126,49 @@ def scripts():
     yield from (fresh + price[: 17 + 8 * k] + number(65_536) + price[25 + 8 * k :] + number(len(head)) + head for k in (0, 6))
     yield from (fresh + b"o" + number(72, 99, *[0] * 7, n) + head + bytes(3000) for n in (47, 49, 2896, 2897, 2898, 3048, 3049, 2**64 - 1))
     yield b"?" + fresh
+    yield from cut_items(fresh)
+
+def cut_items(fresh):
+    """Scripts whose last item is cut, or has a head or a piece longer than what is kept of it (2,897 and 65,537 bytes). An item that is
+    played follows where the long one is whole, and the same bytes follow where it is malformed."""
+    contract = bytes(range(1, 33))
+    reached = b"r" + number(262_144, 65_536)
+    head = contract + number(1) + b"Truncate".ljust(16, b"\0") + number(1, 0, 8) + b"\0" + number(65_536)
+    def open_(given, n=None):
+        return b"o" + number(72, 10**9, 7, 1, 3, 2, 5, 4, 6, len(given) if n is None else n) + given
+    def piece(given, n=None):
+        return b"p" + number(262_144, 65_536, 65_536, 72, len(given) if n is None else n) + given
+    ready = fresh + b"f" + contract
+    whole = {
+        "F": fresh,
+        "f": b"f" + contract,
+        "d": b"d" + contract,
+        "o": open_(head),
+        "p": piece(number(4096)),
+        "i": b"i" + number(262_144, 72),
+        "g": b"g" + number(262_144, 65_536),
+        "a": b"a" + number(262_144, 65_536, 0) + bytes(32),
+        "r": reached,
+        "x": b"x" + number(9, 0, 0, 1),
+    }
+    fixed = {"o": 81, "p": 41}
+    for kind, item in whole.items():
+        ahead = ready + (open_(head) if kind in "piga" else b"")
+        end = fixed.get(kind, len(item))
+        for n in sorted({1, 2, 8, 9, 16, 17, end - 8, end - 1, end, len(item) - 1} & set(range(1, len(item)))):
+            yield ahead + item[:n]
+        yield ahead + item + item[:1]
+    yield from (ready + bytes([kind]) + reached for kind in (0, ord("?"), ord("R"), ord("q"), 255))
+    for n in (2_897, 2_898, 2_899, 6_000):
+        long = head + bytes(n - len(head))
+        yield ready + open_(long) + reached
+        yield from (ready + open_(long)[:k] for k in (81 + 100, 81 + 2_896, 81 + 2_897, 81 + n - 1) if k < 81 + n)
+    yield ready + open_(head, 2**64 - 1) + bytes(3_000)
+    opened = ready + open_(head)
+    long = number(4096) + bytes(65_531)
+    yield from (opened + piece(long[:n]) + reached for n in (65_537, 65_538, 65_539))
+    yield from (opened + piece(long[:n], 65_539) for n in (65_536, 65_537, 65_538))
+    yield from (opened + piece(long[:9], n) for n in (65_536, 65_537, 65_538, 2**64 - 1))
 
 cases = chosen(generated()) + [("d", b) for b in depots()] + [("c", b) for b in scripts()]
 given = b"".join(kind.encode() + number(len(b)) + b for kind, b in cases)

@@ -84,7 +84,7 @@ pub fn reach(path: &str) {
     }
 }
 
-/// Runs the model on all inputs of a file, compares, prints the counts.
+/// Runs the model on all inputs of a file, compares, prints the counts. Where nothing was compared it says so, and ends with 1.
 pub fn run(path: &str, label: &str) {
     let named = |variable: &str| std::env::var(variable).ok().filter(|path| !path.is_empty());
     let (depot_program, calls_program) = (named("DEPOT"), named("CALLS"));
@@ -106,6 +106,10 @@ pub fn run(path: &str, label: &str) {
     }
     let seconds = start.elapsed().as_secs_f64();
     coverage::print();
+    if compared == 0 {
+        println!("{count} inputs, NOTHING COMPARED: neither DEPOT nor CALLS names a program");
+        std::process::exit(1);
+    }
     println!("{count} inputs, {compared} compared, no difference, {:.0} a second", count as f64 / seconds);
 }
 

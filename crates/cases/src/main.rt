@@ -1,6 +1,5 @@
 // Many inputs of the programs `depot` and `calls`, from standard input, and a line for each: its place, its kind, how many bytes the program
 // writes, and their digest. A case is its kind (`d` or `c`), its length in 8 bytes, and its bytes.
-ghost use Prim.Native.Nat.{_<_};
 
 mod depots; // depots.rt: an input of `depot`
 mod scripts; // scripts.rt: a script of `calls`
@@ -13,25 +12,14 @@ fn main() {
     all_cases(&mut shown);
 }
 
-// Case after case. No input has more than `left` counts.
+// Case after case. No input has more than `turns` counts.
 fn all_cases(shown: &mut [u8]) {
-    let mut left: u64 = 18_446_744_073_709_551_615;
-    while 0 < left {
-        let place = 18_446_744_073_709_551_615 - left;
+    let mut turns: u64 = u64::MAX;
+    while 0 < turns {
+        let place = u64::MAX - turns;
         let whole = one_case(place, shown);
-        left = still(whole, left);
+        turns = feed::still(whole, turns);
     }
-}
-
-// The turns that are left after a case.
-pub fn still(whole: bool, left: u64) -> u64
-    requires { ⌜ 0 < left ⌝ }
-    ensures { λ r. ⌜ r < left ⌝ }
-{
-    if whole {
-        return left - 1;
-    }
-    0
 }
 
 // Plays the next case, and writes its line. It answers false where there is none, or none that is whole.

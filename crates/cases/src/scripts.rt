@@ -1,42 +1,21 @@
-// A script of `calls`.
-ghost use mathlib.Core.Path.{_≡_};
+// A script of `calls`, read as `calls` reads it.
 ghost use Prim.Native.Nat.{_≤_};
 ghost use lib.ListN.{length};
-use crate::still;
 use host::Host;
-use libc::STDIN_FILENO;
 
-// Reads a script of so many bytes and plays it on areas of zeros; answers how many bytes `calls` writes, which stand at the front of `shown`.
+// Plays a script of so many bytes of standard input on areas of zeros; answers how many bytes `calls` writes, which stand at the front of
+// `shown`. What is behind a malformed item is read too, so that the next case begins behind it.
 pub fn play(many: u64, shown: &mut [u8]) -> usize
     ensures { λ r. ⌜ r ≤ length (now (shown .exit)) ⌝ }
 {
-    let mut all = [0u8; 131_072];
-    read(many, &mut all, shown)
-}
-
-fn read(many: u64, all: &mut [u8], shown: &mut [u8]) -> usize
-    ensures { λ r. ⌜ r ≤ length (now (shown .exit)) ⌝ }
-{
-    if (all.len() as u64) < many {
-        return 0;
-    }
-    let n = many as usize;
-    let got = io::read_full(STDIN_FILENO, &mut all[0..n]);
-    if got != n {
-        return 0;
-    }
-    on_zeros(&all[0..n], shown)
-}
-
-fn on_zeros(script: &[u8], shown: &mut [u8]) -> usize
-    ensures { λ r. ⌜ r ≤ length (now (shown .exit)) ⌝ }
-{
+    let mut item = [0u8; script::ITEM];
     let mut disk = [0u8; 262_144];
     let mut stage = [0u8; 65_536];
     let mut input = [0u8; 65_536];
     let mut output = [0u8; 65_536];
     items(
-        script,
+        many,
+        &mut item,
         &mut disk,
         &mut stage,
         &mut input,
@@ -45,17 +24,18 @@ fn on_zeros(script: &[u8], shown: &mut [u8]) -> usize
     )
 }
 
-// Where a script stands: the items before `at` are played, and their reports end at `end`.
+// Where a script stands: it may use `left` bytes more, and the reports of the items played end at `end`.
 struct Stands {
     fine: bool,
-    at: usize,
+    left: u64,
     end: usize,
     host: Host,
 }
 
 // Item after item, up to one that is malformed or the end.
 fn items(
-    script: &[u8],
+    many: u64,
+    item: &mut [u8],
     disk: &mut [u8],
     stage: &mut [u8],
     input: &mut [u8],
@@ -65,25 +45,26 @@ fn items(
     ensures { λ r. ⌜ r ≤ length (now (shown .exit)) ⌝ }
 {
     let mut host = script::no_host();
-    let mut at: usize = 0;
+    let mut left = many;
     let mut end: usize = 0;
-    let mut left: u64 = 18_446_744_073_709_551_615;
-    while 0 < left {
-        let stands = item(script, at, end, host, disk, stage, input, output, shown);
+    let mut turns: u64 = u64::MAX;
+    while 0 < turns {
+        let stands = next(left, end, item, host, disk, stage, input, output, shown);
         let after = stands.host;
         host = after;
-        at = stands.at;
+        left = stands.left;
         end = stands.end;
-        left = still(stands.fine, left);
+        turns = feed::still(stands.fine, turns);
     }
+    feed::skip(left);
     end
 }
 
 // One item, from where the script stands.
-fn item(
-    script: &[u8],
-    at: usize,
+fn next(
+    left: u64,
     end: usize,
+    item: &mut [u8],
     host: Host,
     disk: &mut [u8],
     stage: &mut [u8],
@@ -91,11 +72,12 @@ fn item(
     output: &mut [u8],
     shown: &mut [u8],
 ) -> Stands
-    requires { ⌜ (at ≤ length (now script)) × (end ≤ length (now shown)) ⌝ }
-    ensures { λ r. ⌜ (r .at ≤ length (now (script .entry))) × (r .end ≤ length (now (shown .exit))) ⌝ }
+    requires { ⌜ end ≤ length (now shown) ⌝ }
+    ensures { λ r. ⌜ r .end ≤ length (now (shown .exit)) ⌝ }
 {
-    let played = script::play(
-        &script[at..],
+    let played = script::play_next(
+        left,
+        item,
         host,
         disk,
         stage,
@@ -106,7 +88,7 @@ fn item(
     let after = played.host;
     Stands {
         fine: played.fine,
-        at: further(at, played.used, script.len()),
+        left: played.left,
         end: further(end, played.written, shown.len()),
         host: after,
     }

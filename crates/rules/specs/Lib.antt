@@ -5,6 +5,7 @@ pub mod Inputs
 pub mod Plan
 pub mod Effect
 pub mod Record
+pub mod Class
 pub mod Run
 pub mod Facts
 pub mod Calls

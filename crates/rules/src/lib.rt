@@ -1,4 +1,7 @@
-// What the machine means stands in specs/: document 01 as definitions, and the demands. Here are the structs and the enum that they use.
+// What the machine means stands in specs/: document 01 as definitions, and the demands. Here are the structs and the enums that they
+// use.
+pub mod class; // class.rt: the class of a record's number
+
 use host::Host;
 
 // Where the bytes of a sector are: in a slot of the disk, or of the stage.

@@ -6,19 +6,20 @@ ghost use Prim.Native.Nat.{_≤_};
 ghost use lib.ListN.{length};
 
 mod items; // items.rt: each kind of item, and its call
+mod reader; // reader.rt: items from standard input
 mod shapes; // shapes.rt: where an item ends
 
 use host::Host;
-pub use shapes::fixed;
-pub use shapes::most;
+pub use reader::ITEM;
 
 // The most bytes of a report: the answer of `reached` with its root, eight places with 64 slots each, an open program, four digests.
 pub const REPORT: usize = 5_248;
 
-// What an item did. Not fine: it is malformed, and nothing changed. `used` counts the bytes of the item, `written` those of its report.
+// What an item did. Not fine: it is malformed, and nothing changed. `left` counts the bytes that the script may still use, `written` those of
+// the item's report.
 pub struct Played {
     pub fine: bool,
-    pub used: usize,
+    pub left: u64,
     pub written: usize,
     pub host: Host,
 }
@@ -29,19 +30,48 @@ pub fn no_host() -> Host {
     made.host
 }
 
-fn malformed(host: Host) -> Played
-    ensures { λ r. ⌜ (r .used ≡ 0) × (r .written ≡ 0) ⌝ }
+fn malformed(left: u64, host: Host) -> Played
+    ensures { λ r. ⌜ (r .left ≡ left) × (r .written ≡ 0) ⌝ }
 {
     Played {
         fine: false,
-        used: 0,
+        left,
         written: 0,
         host,
     }
 }
 
+// Reads the next item of a script that may use `left` bytes more of standard input, and plays it. Where none is left, or none that is whole,
+// it is malformed.
+pub fn play_next(
+    left: u64,
+    item: &mut [u8],
+    host: Host,
+    disk: &mut [u8],
+    stage: &mut [u8],
+    input: &mut [u8],
+    output: &mut [u8],
+    report: &mut [u8],
+) -> Played
+    ensures { λ r. ⌜ (r .left ≤ left) × (r .written ≤ length (now (report .entry))) ⌝ }
+{
+    let came = reader::next_from(left, item);
+    let n = came.length;
+    play(
+        came.left,
+        &item[0..n],
+        host,
+        disk,
+        stage,
+        input,
+        output,
+        report,
+    )
+}
+
 // Plays the item that `item` begins with. The areas that its call lends are front parts of these.
-pub fn play(
+fn play(
+    left: u64,
     item: &[u8],
     host: Host,
     disk: &mut [u8],
@@ -50,21 +80,21 @@ pub fn play(
     output: &mut [u8],
     report: &mut [u8],
 ) -> Played
-    ensures { λ r. ⌜ (r .used ≤ length (now (item .entry))) × (r .written ≤ length (now (report .entry))) ⌝ }
+    ensures { λ r. ⌜ (r .left ≡ left) × (r .written ≤ length (now (report .entry))) ⌝ }
 {
     if report.len() < REPORT {
-        return malformed(host);
+        return malformed(left, host);
     }
     let used = shapes::whole(item);
     let made = items::make(&item[0..used], host, disk, stage, input, output);
     if !made.fine {
-        return malformed(host);
+        return malformed(left, host);
     }
     let written = reports::write(made, &*disk, &*stage, &*input, &*output, report);
     let after = made.host;
     Played {
         fine: true,
-        used,
+        left,
         written,
         host: after,
     }

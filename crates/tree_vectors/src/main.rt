@@ -1,11 +1,12 @@
 // Roots and proofs of segments whose bytes are set by their place, written out for comparison with `expected/main.go`, which makes the same
-// lines by another implementation; and damaged proofs, which the checker refuses.
+// lines by another implementation; and damaged proofs, which the checker refuses: each has the bytes and hashes that the walk for its count
+// and range wants, but for the one thing that its line names.
 ghost use Prim.Native.Nat.{_+_, _≤_};
 ghost use lib.ListN.{length};
 use libc::STDOUT_FILENO;
 
 // The counts of segments whose roots and proofs are written.
-const COUNTS: [usize; 11] = [1, 2, 3, 5, 7, 64, 65, 128, 192, 200, 320];
+const COUNTS: [usize; 12] = [1, 2, 3, 5, 7, 64, 65, 128, 192, 200, 320, 4096];
 
 fn fill(bytes: &mut [u8]) {
     let mut k = 0;
@@ -163,7 +164,7 @@ fn edges(bytes: &[u8], n: usize, out: &mut [u8]) {
 
 fn counts(bytes: &[u8], out: &mut [u8]) {
     let mut i = 0;
-    while i < 11 {
+    while i < 12 {
         root_line(bytes, COUNTS[i]);
         ranges(bytes, COUNTS[i], out);
         i += 1;
@@ -258,8 +259,8 @@ fn most_withins(bytes: &[u8], roots: &mut [u8], out: &mut [u8]) {
     within_line(bytes, 5, 4, 0, 64, roots, out);
 }
 
-// Whether the checker takes what stands in `all`: a root in the first `root` of 32 bytes, segments up to byte `given` of 160, hashes up to
-// byte `total`.
+// What the checker says to what stands in `all` (0 no, 1 yes; 2: it does not stand there): so many bytes of a root from byte 0 on, of two
+// segments from byte 32 on, and of hashes from byte 160 on.
 fn taken(
     all: &[u8],
     root: usize,
@@ -267,68 +268,73 @@ fn taken(
     first: usize,
     end: usize,
     given: usize,
-    total: usize,
-) -> bool {
+    hashes: usize,
+) -> u64 {
     if 32 < root {
-        return false;
+        return 2;
     }
-    if given < 32 {
-        return false;
+    if 128 < given {
+        return 2;
     }
-    if 160 < given {
-        return false;
+    if all.len() < 160 {
+        return 2;
     }
-    if total < 160 {
-        return false;
+    if all.len() - 160 < hashes {
+        return 2;
     }
-    if all.len() < total {
-        return false;
-    }
-    checking::check(
-        &all[0..root],
-        n,
-        first,
-        end,
-        &all[32..given],
-        &all[160..total],
-    )
-}
-
-// 1 if the checker takes it with a bit of byte k flipped, which is set back.
-fn flip(all: &mut [u8], k: usize, total: usize) -> usize
-    ensures { λ r. ⌜ r ≤ 1 ⌝ }
-{
-    if all.len() <= k {
-        return 0;
-    }
-    let kept = all[k];
-    all[k] = kept ^ 1;
-    let yes = taken(all, 32, 200, 63, 65, 160, total);
-    all[k] = kept;
+    let to = 32 + given;
+    let total = 160 + hashes;
+    let yes = checking::check(&all[0..root], n, first, end, &all[32..to], &all[160..total]);
     if yes {
         return 1;
     }
     0
 }
 
-// With a bit flipped in each byte in turn: how often the checker takes it.
-fn flipped(all: &mut [u8], total: usize) -> usize {
+// 0 if the checker says no with a bit of byte k flipped, which is set back; else 1.
+fn flip(all: &mut [u8], k: usize, hashes: usize) -> usize
+    ensures { λ r. ⌜ r ≤ 1 ⌝ }
+{
+    if all.len() <= k {
+        return 1;
+    }
+    let kept = all[k];
+    all[k] = kept ^ 1;
+    let said = taken(all, 32, 200, 63, 65, 128, hashes);
+    all[k] = kept;
+    if said == 0 {
+        return 0;
+    }
+    1
+}
+
+// With a bit flipped in each of the bytes in turn: how often the checker does not say no.
+fn flipped(all: &mut [u8], total: usize, hashes: usize) -> usize {
     let mut times = 0;
     let mut k = 0;
     while k < total {
-        times += flip(all, k, total);
+        times += flip(all, k, hashes);
         k += 1;
     }
     times
 }
 
-fn count_line(text: &[u8], n: usize) {
-    word(text);
+fn told(text: &[u8], n: usize) {
+    io::write_all(STDOUT_FILENO, text);
     io::print_decimal(STDOUT_FILENO, n as u64);
-    end_line();
 }
 
-fn damage(
+fn said(taken: u64) {
+    match taken {
+        0 => io::write_all(STDOUT_FILENO, b": no\n"),
+        1 => io::write_all(STDOUT_FILENO, b": yes\n"),
+        _ => io::write_all(STDOUT_FILENO, b": not laid\n"),
+    }
+    ;
+}
+
+// What is given to the checker, and what it says.
+fn given_line(
     text: &[u8],
     all: &[u8],
     root: usize,
@@ -336,71 +342,126 @@ fn damage(
     first: usize,
     end: usize,
     given: usize,
-    total: usize,
+    hashes: usize,
 ) {
-    word(text);
-    verdict(taken(all, root, n, first, end, given, total));
+    io::write_all(STDOUT_FILENO, text);
+    told(b": count ", n);
+    told(b", range ", first);
+    told(b" ", end);
+    told(b", root bytes ", root);
+    told(b", segment bytes ", given);
+    told(b", hashes ", hashes / 32);
+    told(b", hash bytes ", hashes);
+    said(taken(all, root, n, first, end, given, hashes));
 }
 
-// A proof of the segments from 63 up to 65 of 200 with one thing changed at a time, each with what the checker says.
-fn damages(all: &[u8], total: usize) {
-    if total < 192 {
+// A proof of the segments from 63 up to 65 of 200 with one length changed at a time.
+fn lengths(all: &[u8], hashes: usize) {
+    if hashes < 32 {
         return;
     }
-    if 992 < total {
+    if 1024 < hashes {
         return;
     }
-    damage(b"one hash more", all, 32, 200, 63, 65, 160, total + 32);
-    damage(b"one hash fewer", all, 32, 200, 63, 65, 160, total - 32);
-    damage(b"a hash of 31 bytes", all, 32, 200, 63, 65, 160, total - 1);
-    damage(b"a root of 31 bytes", all, 31, 200, 63, 65, 160, total);
-    damage(b"one segment fewer", all, 32, 200, 63, 65, 96, total);
-    damage(b"range swapped", all, 32, 200, 65, 63, 160, total);
-    damage(b"empty range", all, 32, 200, 63, 63, 160, total);
-    damage(b"range past the count", all, 32, 64, 63, 65, 160, total);
-    damage(b"count 0", all, 32, 0, 63, 65, 160, total);
-    damage(b"count 4097", all, 32, 4097, 63, 65, 160, total);
+    given_line(b"one hash more", all, 32, 200, 63, 65, 128, hashes + 32);
+    given_line(b"one hash fewer", all, 32, 200, 63, 65, 128, hashes - 32);
+    given_line(b"a hash of 31 bytes", all, 32, 200, 63, 65, 128, hashes - 1);
+    given_line(b"a root of 31 bytes", all, 31, 200, 63, 65, 128, hashes);
+    given_line(b"one segment fewer", all, 32, 200, 63, 65, 64, hashes);
 }
 
-// The area takes a root, the segments from 63 up to 65 of 200, and their proof.
-fn lay(bytes: &[u8], all: &mut [u8]) -> usize {
-    if bytes.len() < 12800 {
+fn damaged(bytes: &[u8], all: &mut [u8]) {
+    let hashes = lay(bytes, 200, 63, 65, all);
+    given_line(b"whole", all, 32, 200, 63, 65, 128, hashes);
+    told(
+        b"a bit flipped in each byte in turn: not refused ",
+        flipped(all, 160 + hashes, hashes),
+    );
+    end_line();
+    lengths(all, hashes);
+}
+
+// The range ends one past the count: the walk comes to the one segment of it that there is, and rebuilds the root.
+fn passed(bytes: &[u8], all: &mut [u8]) {
+    let hashes = lay(bytes, 200, 199, 200, all);
+    given_line(b"whole", all, 32, 200, 199, 200, 64, hashes);
+    given_line(b"range past the count", all, 32, 200, 199, 201, 128, hashes);
+}
+
+// The largest count, and one segment more, each with the root and the proof of that many segments.
+fn limits(bytes: &[u8], all: &mut [u8]) {
+    let most = lay(bytes, 4096, 4094, 4096, all);
+    given_line(b"count 4096", all, 32, 4096, 4094, 4096, 128, most);
+    let over = lay(bytes, 4097, 4095, 4097, all);
+    given_line(b"count 4097", all, 32, 4097, 4095, 4097, 128, over);
+}
+
+// Where the walk asks for one hash in place of the whole tree, and that hash is the root.
+fn tops(bytes: &[u8], all: &mut [u8]) {
+    lay_top(bytes, all);
+    given_line(b"empty range", all, 32, 200, 0, 0, 0, 32);
+    given_line(b"range swapped", all, 32, 200, 1, 0, 0, 32);
+    given_line(b"count 0", all, 32, 0, 0, 1, 64, 32);
+}
+
+// The area takes the root of the first n segments, the two segments from `first` on, and the proof of `first` up to `end`. Answers how many
+// bytes the proof has.
+fn lay(bytes: &[u8], n: usize, first: usize, end: usize, all: &mut [u8]) -> usize
+    ensures { λ r. ⌜ r ≤ 1024 ⌝ }
+{
+    if bytes.len() / 64 < n {
+        return 0;
+    }
+    if bytes.len() < 128 {
+        return 0;
+    }
+    if (bytes.len() - 128) / 64 < first {
         return 0;
     }
     if all.len() < 160 {
         return 0;
     }
-    lay_root(&bytes[0..12800], all);
-    area::copy_between(bytes, 4032, all, 32, 128);
-    let proved = proving::prove(&bytes[0..12800], 63, 65, &mut all[160..]);
-    proved.count
+    let whole = 64 * n;
+    lay_root(&bytes[0..whole], all, 0);
+    area::copy_between(bytes, 64 * first, all, 32, 128);
+    let proved = proving::prove(&bytes[0..whole], first, end, &mut all[160..]);
+    let count = proved.count;
+    if 32 < count {
+        return 0;
+    }
+    32 * count
 }
 
-fn lay_root(bytes: &[u8], all: &mut [u8])
-    requires { ⌜ 32 ≤ length (now all) ⌝ }
+// The area takes the root of 200 segments, the first two of them, and the root again for a hash.
+fn lay_top(bytes: &[u8], all: &mut [u8]) {
+    if bytes.len() < 12800 {
+        return;
+    }
+    if all.len() < 192 {
+        return;
+    }
+    lay_root(&bytes[0..12800], all, 0);
+    area::copy_between(bytes, 0, all, 32, 128);
+    lay_root(&bytes[0..12800], all, 160);
+}
+
+fn lay_root(bytes: &[u8], all: &mut [u8], at: usize)
+    requires { ⌜ at + 32 ≤ length (now all) ⌝ }
 {
     let rooted = tree::root(bytes);
     let root = rooted.root;
-    put_hash(&root, all, 0);
-}
-
-fn damaged(bytes: &[u8], all: &mut [u8]) {
-    let count = lay(bytes, all);
-    if 20 < count {
-        return;
-    }
-    let total = 160 + 32 * count;
-    damage(b"whole", all, 32, 200, 63, 65, 160, total);
-    count_line(b"a bit flipped in each byte in turn", flipped(all, total));
-    damages(all, total);
+    put_hash(&root, all, at);
 }
 
 fn main() {
-    let mut bytes = io::large_buffer();
+    let mut bytes = [0u8; 262_208];
     let mut roots = io::buffer();
     let mut out = io::buffer();
     fill(&mut bytes);
     counts(&bytes, &mut out);
     withins(&bytes, &mut roots, &mut out);
     damaged(&bytes, &mut out);
+    passed(&bytes, &mut out);
+    limits(&bytes, &mut out);
+    tops(&bytes, &mut out);
 }

@@ -8,10 +8,10 @@ use Rattle.tree_vectors.proofs.counts.Statement.{statement}
 use Rattle.tree_vectors.proofs.counts.Tie as tie
 
 abbrev Inv-loop : tie.InvT-loop
-Inv-loop bytes out₀ i₀ out i = (i ≤ 11) × (length out ≡ length out₀)
+Inv-loop bytes out₀ i₀ out i = (i ≤ 12) × (length out ≡ length out₀)
 
 abbrev μ-loop : tie.MeasureT-loop
-μ-loop bytes out₀ i₀ out i = 11 - i
+μ-loop bytes out₀ i₀ out i = 12 - i
 
 loop-holds : tie.Need-loop-holds Inv-loop μ-loop
 loop-holds c = (omega arith, refl)

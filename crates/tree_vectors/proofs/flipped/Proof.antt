@@ -8,10 +8,10 @@ use Rattle.tree_vectors.proofs.flipped.Statement.{statement}
 use Rattle.tree_vectors.proofs.flipped.Tie as tie
 
 abbrev Inv-loop : tie.InvT-loop
-Inv-loop all₀ total times₀ k₀ all times k = (k ≤ total) × (times ≤ k) × (length all ≡ length all₀)
+Inv-loop all₀ total hashes times₀ k₀ all times k = (k ≤ total) × (times ≤ k) × (length all ≡ length all₀)
 
 abbrev μ-loop : tie.MeasureT-loop
-μ-loop all₀ total times₀ k₀ all times k = total - k
+μ-loop all₀ total hashes times₀ k₀ all times k = total - k
 
 loop-holds : tie.Need-loop-holds Inv-loop μ-loop
 loop-holds c = (omega arith, omega arith, refl)

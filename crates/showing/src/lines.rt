@@ -3,6 +3,7 @@ ghost use Prim.Native.Nat.{_≤_};
 ghost use lib.ListN.{length};
 use crate::words;
 use libc::STDOUT_FILENO;
+use rules::class::Class;
 
 // The most bytes of an output that are shown.
 const SHOWN: usize = 64;
@@ -49,14 +50,22 @@ pub fn record_line(place: u64, ahead: &[u8], hashes: &[u8], output: &[u8])
     output_line(output);
 }
 
-// A record's number: a failure's with its words.
+// A record's number: a failure's with its class and its words.
 fn number(n: u64) {
-    if n == 0 {
-        text(b"done");
-        return;
+    let class = rules::class::class_of(n);
+    match class {
+        Class::Done => text(b"done"),
+        Class::Interrupted => failed(n, b" (interrupted)"),
+        Class::Invalid => failed(n, b" (invalid): "),
+        Class::Host => failed(n, b" (host): "),
+        Class::Unknown => failed(n, b" (no record's number)"),
     }
+}
+
+fn failed(n: u64, class: &[u8]) {
     text(b"failed, ");
     decimal(n);
+    text(class);
     words::failure(n);
 }
 

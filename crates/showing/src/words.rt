@@ -1,21 +1,20 @@
 // Numbers in words, as document 01's tables have them.
 use crate::lines::text;
 
-// A failed instruction's; nothing where there is no such number.
+// A failed instruction's; nothing where its class says all that there is to say.
 pub fn failure(number: u64) {
     match number {
-        20 => text(b": interrupted"),
-        21 => text(b": unknown name, or operand count wrong"),
-        22 => text(b": operand past the declared length"),
-        23 => text(b": input of a wrong length or count"),
-        24 => text(b": read-only mode"),
-        25 => text(b": contract or sector root not found"),
-        26 => text(b": span or size not possible"),
-        27 => text(b": proof not possible"),
-        28 => text(b": above the budget"),
-        40 => text(b": too few free stage slots"),
-        41 => text(b": disk too small"),
-        42 => text(b": record does not fit"),
+        21 => text(b"unknown name, or operand count wrong"),
+        22 => text(b"operand past the declared length"),
+        23 => text(b"input of a wrong length or count"),
+        24 => text(b"read-only mode"),
+        25 => text(b"contract or sector root not found"),
+        26 => text(b"span or size not possible"),
+        27 => text(b"proof not possible"),
+        28 => text(b"above the budget"),
+        40 => text(b"too few free stage slots"),
+        41 => text(b"disk too small"),
+        42 => text(b"record does not fit"),
         _ => text(b""),
     }
 }

@@ -2,7 +2,7 @@
 ghost use mathlib.Core.Path.{_≡_};
 ghost use Prim.Native.Nat.{_≤_};
 ghost use lib.ListN.{length};
-ghost use Rattle.show.specs.Whole.{Whole};
+ghost use Rattle.showing.specs.Whole.{lacking, partsAt, Whole};
 
 // The bytes ahead of the hashes, and of a hash.
 const AHEAD: usize = 64;
@@ -19,7 +19,7 @@ pub struct Parts {
 }
 
 fn missing(fault: u64, from: usize) -> Parts
-    ensures { λ r. ⌜ r .fault ≡ fault ⌝ }
+    ensures { λ r. ⌜ r ≡ lacking fault from ⌝ }
 {
     Parts {
         fault,
@@ -34,6 +34,7 @@ fn missing(fault: u64, from: usize) -> Parts
 // The record that begins at `at`.
 pub fn parts_at(input: &[u8], at: usize) -> Parts
     requires { ⌜ at ≤ length (now input) ⌝ }
+    ensures { λ r. ⌜ r ≡ partsAt (now (input .entry)) at ⌝ }
     ensures { λ r. ⌜ (r .fault ≡ 0 → Whole at (length (now (input .entry))) r) ⌝ }
 {
     if input.len() - at < AHEAD {
