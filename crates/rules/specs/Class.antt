@@ -1,5 +1,5 @@
 -- The class of a record's number, by document 01's table of checks. Assumes nothing.
-use mathlib.Core.Bool.{Bool}
+use mathlib.Core.Bool.{Bool, true, false}
 use Prim.Native.Nat.{ℕ}
 use lib.Dec.{leb, eqb}
 use Rattle.area.specs.Pick.{pick, both}
@@ -17,3 +17,10 @@ classOf n =
     (pick (eqb n 20) Interrupted
     (pick (between 21 28 n) Invalid
     (pick (between 40 42 n) Host Unknown)))
+
+abbrev pub isKnown : Class → Bool
+isKnown Done = true
+isKnown Interrupted = true
+isKnown Invalid = true
+isKnown Host = true
+isKnown Unknown = false

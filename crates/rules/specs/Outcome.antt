@@ -21,6 +21,7 @@ use Rattle.rules.specs.Plan.{cost, judged}
 use Rattle.rules.specs.Record.{pairOf, failureBytes}
 use Rattle.rules.specs.Run.{stepped, run}
 use Rattle.rules.specs.Commit.{Closed}
+use Rattle.rules.specs.Class.{isKnown, classOf}
 use Rattle.rules.specs.Visit.{Areas, Opening, Agreement, opens, gives, stops, reaches, closes, Ready}
 use Rattle.rules.specs.Trace.{recordOf, sectorsOf, parentIn, running, runningSectors}
 use Rattle.sia.specs.declared.Instruction.{Instruction}
@@ -55,6 +56,8 @@ pub record Failed (z : ℕ) (s : Setting) (number : ℕ) (t after : Turn) : Type
 pub record Instructed (z : ℕ) (s : Setting) (i : Instruction) (l : List (List ℕ)) (t : Turn) : Type 0 where
   -- "each record": from the first free byte of the output area
   pub writes : stepped z s i l t .output ≡ put (t .output) (t .progress .written) (recordOf z s i l t)
+  -- its number is one of document 01's table, and so has a class
+  pub classed : isKnown (classOf (judged z s (t .progress) i l)) ≡ true
   pub fails : (judged z s (t .progress) i l ≡ 0 → ⊥) → Failed z s (judged z s (t .progress) i l) t (stepped z s i l t)
   -- "A failure ends the program": nothing runs after it
   pub ends : (input : List ℕ) (k : ℕ) → t .progress .failed ≡ true → run z s input k t ≡ t
