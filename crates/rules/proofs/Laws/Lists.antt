@@ -32,12 +32,6 @@ module _ (p : ℕ → Bool) where
   every-drop (suc n) [] h = refl
   every-drop (suc n) (x ∷ xs) h = every-drop n xs (both-right _ _ h)
 
-  pub every-take : (n : ℕ) (l : List ℕ) → every p l ≡ true → every p (take n l) ≡ true
-  unfolding every
-  every-take zero l h = refl
-  every-take (suc n) [] h = refl
-  every-take (suc n) (x ∷ xs) h = both-join _ _ (both-left _ _ h) (every-take n xs (both-right _ _ h))
-
   -- a shorter front
   pub every-front : (s m : ℕ) (l : List ℕ) (n : ℕ) → m ≤ n → every p (drop s (take n l)) ≡ true → every p (drop s (take m l)) ≡ true
   unfolding every

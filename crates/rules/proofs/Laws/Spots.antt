@@ -51,11 +51,6 @@ unfolding pick
 either-second true b e f = never f
 either-second false b e f = e
 
-every-both : {A : Type 0} (p : A → Bool) (l m : List A) → every p l ≡ true → every p m ≡ true → every p (l ++ m) ≡ true
-unfolding every
-every-both p [] m h k = k
-every-both p (x ∷ xs) m h k = both-join _ _ (both-left _ _ h) (every-both p xs m (both-right _ _ h) k)
-
 every-fore : {A : Type 0} (p : A → Bool) (l m : List A) → every p (l ++ m) ≡ true → every p l ≡ true
 unfolding every
 every-fore p [] m h = refl
