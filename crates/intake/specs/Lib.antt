@@ -1,2 +1,3 @@
--- What is kept of an input, and that it is enough.
+-- What is kept of an input, that it is enough, and the reader that keeps it.
+pub mod Reader
 pub mod Kept
