@@ -1,7 +1,7 @@
 -- One byte fed, as the code does it: it is laid or only counted, its section ends or goes on. Assumes nothing.
 use mathlib.Core.Path.{_≡_, refl, sym, ap, ap₂, _∙_}
 use mathlib.Core.List.{List, [], _∷_}
-use Prim.Native.Nat.{ℕ, suc, _+_, _-_, _≤_, _<_, min}
+use Prim.Native.Nat.{ℕ, suc, _+_, _-_, _*_, _≤_, _<_, min}
 use native.Mathlib.Omega.{arith}
 use native.Mathlib.Numerals.{add-one}
 use lib.ListN.{length, take, drop, getD, set, drop-of-length-le}
@@ -12,8 +12,9 @@ use Rattle.area.specs.Area.{put}
 use Rattle.area.specs.Little.{le8}
 use Rattle.area.proofs.Laws.Pick.{yes, no, by, picks, skips}
 use Rattle.area.proofs.Laws.Puts.{put-nil, set-put}
-use Rattle.intake.specs.Reader.{State, state, reader, nextTo, next, laid, spare, onward, fedByte, fed, numberTo, lowered}
+use Rattle.intake.specs.Reader.{State, state, reader, nextTo, next, laid, spare, onward, fedByte, fed, numberTo, lowered, idsFrom, headFrom, dataFrom}
 use Rattle.intake.specs.declared.Section.{Section}
+use Rattle.intake.specs.declared.Section.the-variants.{Front, Ids, Length, Head, Data}
 use Rattle.intake.specs.declared.Reader.{Reader}
 
 pub same-state : {x : Section} {i l m a : ℕ} {l′ m′ a′ : ℕ} {u v : List ℕ} → l ≡ l′ → m ≡ m′ → a ≡ a′ → u ≡ v
@@ -61,10 +62,37 @@ module _ (r : Reader) (all : List ℕ) (b : ℕ) where
 
 -- ---- its section
 
--- the one behind it, by cases
-pub arm : (x : Section) (r : Reader) (all : List ℕ) {t : State} → r .section ≡ x → t ≡ nextTo x r all → t ≡ next (state r all)
-unfolding next
-arm x r all e f = f ∙ sym (ap (λ (y : Section). nextTo y r all) e)
+-- the one behind it
+module _ (r : Reader) (all : List ℕ) where
+  arm : (x : Section) {t : State} → r .section ≡ x → t ≡ nextTo x r all → t ≡ next (state r all)
+  unfolding next
+  arm x e f = f ∙ sym (ap (λ (y : Section). nextTo y r all) e)
+
+  pub behind-front : {n m : ℕ} {q : Reader} {after : List ℕ} → r .section ≡ Front → n ≡ numberTo all (r .at) → m ≡ min n 9
+      → q ≡ idsFrom n (m * 32) (r .at) → after ≡ lowered all (r .at) 9 → state q after ≡ next (state r all)
+  unfolding nextTo
+  behind-front {n} e f g h k =
+      let ids = h ∙ ap (λ (i : ℕ). idsFrom n (i * 32) (r .at)) g ∙ ap (λ (i : ℕ). idsFrom i (min i 9 * 32) (r .at)) f in
+      arm Front e (λ j. state (ids j) (k j))
+
+  pub behind-id : {q : Reader} → r .section ≡ Ids → q ≡ idsFrom (r .ids) (r .room) (r .at) → state q all ≡ next (state r all)
+  unfolding nextTo
+  behind-id e h = arm Ids e (λ j. state (h j) all)
+
+  pub behind-length : {n : ℕ} {q : Reader} {after : List ℕ} → r .section ≡ Length → n ≡ numberTo all (r .at)
+      → q ≡ headFrom n (r .at) → after ≡ lowered all (r .at) 2897 → state q after ≡ next (state r all)
+  unfolding nextTo
+  behind-length e f h k =
+      let head = h ∙ ap (λ (i : ℕ). headFrom i (r .at)) f in
+      arm Length e (λ j. state (head j) (k j))
+
+  pub behind-head : {q : Reader} → r .section ≡ Head → q ≡ dataFrom (r .at) → state q all ≡ next (state r all)
+  unfolding nextTo
+  behind-head e h = arm Head e (λ j. state (h j) all)
+
+  pub in-data : r .section ≡ Data → state r all ≡ next (state r all)
+  unfolding nextTo
+  in-data e = arm Data e refl
 
 module _ (s : State) (b : ℕ) where
   pub goes-on : {one : State} → one ≡ laid s (b ∷ []) → 0 < one .reader .left → one ≡ fedByte s b
