@@ -8,3 +8,4 @@ pub mod Laying
 pub mod Feeding
 pub mod Standing
 pub mod Reading
+pub mod Gathering

@@ -9,9 +9,9 @@ use lib.Dec.{ltb}
 use Rattle.area.specs.Pick.{pick, either}
 use Rattle.area.specs.Area.{part}
 use Rattle.area.specs.Little.{le8, Bytes}
-use Rattle.sia.specs.Encode.{joined}
 use Rattle.single.specs.Input.{numberAt, idsEnd, dataBytes, cutShort, answered}
-use Rattle.intake.specs.Reader.{State, state, fresh, fedAll, full, holds}
+use Rattle.intake.specs.Reader.{whole, readAll, full, holds}
+use Rattle.intake.specs.Gathered.{Gathered}
 
 -- how many ids are kept, how many bytes of head, and which data
 unfoldable pub idsKept : List ℕ → ℕ
@@ -37,13 +37,6 @@ missing all = either (ltb (length all) 80) (cutShort all)
 unfoldable pub keep : List ℕ → List ℕ
 keep all = pick (missing all) [] (kept all)
 
--- a new reader on an area, and what came in turn
-unfoldable pub readAll : List ℕ → List (List ℕ) → State
-readAll area pieces = fedAll (state fresh area) pieces
-
-abbrev pub whole : List (List ℕ) → List ℕ
-whole pieces = joined (λ p. p) pieces
-
 pub record Kept : Type 0 where
   -- what is kept is answered as the whole, and leaves the same host and areas
   pub answers : (z : ℕ) (all disk stage input output : List ℕ) → answered z (keep all) disk stage input output ≡ answered z all disk stage input output
@@ -53,3 +46,5 @@ pub record Kept : Type 0 where
   -- a reader that is full has it already, whatever follows
   pub stops : (area : List ℕ) (pieces : List (List ℕ)) (rest : List ℕ) → length area ≡ 68810 → Bytes (whole pieces ++ rest)
       → full (readAll area pieces .reader) ≡ true → holds (readAll area pieces) ≡ keep (whole pieces ++ rest)
+  -- so what `gather` leaves at the front of an area is what is kept of all that came
+  pub gathers : (before after : List ℕ) (n : ℕ) → length before ≡ 68810 → (g : Gathered before after n) → take n after ≡ keep (whole (g .came .pieces))

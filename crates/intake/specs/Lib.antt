@@ -1,3 +1,4 @@
--- What is kept of an input, that it is enough, and the reader that keeps it.
+-- The reader of an input, what is kept of it, and that this is enough.
 pub mod Reader
+pub mod Gathered
 pub mod Kept

@@ -7,6 +7,7 @@ use lib.Dec.{leb, ltb, eqb}
 use Rattle.area.specs.Pick.{pick, both}
 use Rattle.area.specs.Area.{put}
 use Rattle.area.specs.Little.{le8}
+use Rattle.sia.specs.Encode.{joined}
 use Rattle.single.specs.Input.{numberAt}
 use Rattle.intake.specs.declared.Section.{Section}
 use Rattle.intake.specs.declared.Section.the-variants.{Front, Ids, Length, Head, Data}
@@ -92,6 +93,13 @@ fed s (b ∷ bs) = fed (fedByte s b) bs
 unfoldable pub fedAll : State → List (List ℕ) → State
 fedAll s [] = s
 fedAll s (p ∷ ps) = fedAll (fed s p) ps
+
+-- a new reader on an area, and what came in turn
+unfoldable pub readAll : List ℕ → List (List ℕ) → State
+readAll area pieces = fedAll (state fresh area) pieces
+
+abbrev pub whole : List (List ℕ) → List ℕ
+whole pieces = joined (λ p. p) pieces
 
 -- ---- what stands in the area
 

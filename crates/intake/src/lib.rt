@@ -2,11 +2,12 @@
 // longest head has 2,896) and 65,537 bytes of data (at most 65,536 are declared). What is longer is counted and dropped, and the numbers
 // ahead of it are lowered, so that an input of any length has its answer.
 ghost use mathlib.Core.Path.{_≡_};
-ghost use Prim.Native.Nat.{_-_, _≤_, min};
+ghost use Prim.Native.Nat.{_-_, _≤_, _<_, min};
 ghost use lib.ListN.{length};
 ghost use mathlib.Core.List.{[], _∷_};
 ghost use Rattle.intake.specs.Reader as Says;
 ghost use Rattle.intake.specs.Reader.{state, fresh, idsFrom, headFrom, dataFrom, numberTo, fedByte, inData};
+ghost use Rattle.intake.specs.Gathered.{readsOn, Feeds, Gathered};
 use libc::STDIN_FILENO;
 
 // Which section the next byte belongs to.
@@ -199,6 +200,7 @@ impl Reader {
     }
 }
 
+// Whether all that stands ahead of the data has come.
 fn in_data(section: Section) -> bool
     ensures { λ r. ⌜ r ≡ inData section ⌝ }
 {
@@ -264,43 +266,60 @@ fn fill(left: u64, space: &mut [u8]) -> usize
     io::read_full(STDIN_FILENO, &mut space[0..n])
 }
 
-// Whether to read on.
-fn more(reader: Reader, left: u64, on: bool) -> bool {
-    if left == 0 {
+// Where a reader stands between two reads, and how many bytes are to come at most.
+struct Turn {
+    pub reader: Reader,
+    pub left: u64,
+}
+
+// Whether to read on: bytes may come, and either one of them may be kept or another input follows.
+fn more(turn: Turn, follows: bool) -> bool
+    ensures { λ r. ⌜ r ≡ readsOn (turn .left) follows (turn .reader) ⌝ }
+{
+    if turn.left == 0 {
         return false;
     }
-    if on {
+    if follows {
         return true;
     }
+    let reader = turn.reader;
     !reader.full()
+}
+
+// A piece of the input, fed.
+fn feed_piece(reader: Reader, bytes: &[u8], all: &mut [u8]) -> Reader
+    ensures { λ r. ⌜ Feeds (state reader (now (all .entry))) (state r (now (all .exit))) ⌝ }
+{
+    reader.feed(bytes, all)
+}
+
+// One read, and what it brought fed. Where it brought nothing, nothing more is to come.
+fn read_once(turn: Turn, all: &mut [u8]) -> Turn
+    requires { ⌜ 0 < turn .left ⌝ }
+    ensures { λ r. ⌜ Feeds (state (turn .reader) (now (all .entry))) (state (r .reader) (now (all .exit))) ⌝ }
+    ensures { λ r. ⌜ r .left < turn .left ⌝ }
+{
+    let reader = turn.reader;
+    let mut space = io::large_buffer();
+    let got = fill(turn.left, &mut space);
+    let left = turn.left - got as u64;
+    if got == 0 {
+        return Turn { reader, left: 0 };
+    }
+    let fed = feed_piece(reader, &space[0..got], all);
+    Turn { reader: fed, left }
 }
 
 // Reads an input of at most `left` bytes from standard input, keeps it at the front of an area, and answers how many bytes stand there. It
 // stops where nothing more is kept; where another input follows, it reads on to the end of this one.
 pub fn gather(left: u64, follows: bool, all: &mut [u8]) -> usize
-    ensures { λ r. ⌜ r ≤ length (now (all .exit)) ⌝ }
+    ensures { λ r. ⌜ Gathered (now (all .entry)) (now (all .exit)) r ⌝ }
 {
-    let mut space = io::large_buffer();
-    let mut reader = Reader::new();
-    let mut rest = left;
-    while more(reader, rest, follows) {
-        let got = fill(rest, &mut space);
-        if got == 0 {
-            return standing(reader, all);
-        }
-        reader = reader.feed(&space[0..got], all);
-        rest -= got as u64;
+    let reader = Reader::new();
+    let mut turn = Turn { reader, left };
+    while more(turn, follows) {
+        turn = read_once(turn, all);
     }
-    standing(reader, all)
-}
-
-// How many bytes of an area are the input to be answered.
-fn standing(reader: Reader, all: &[u8]) -> usize
-    ensures { λ r. ⌜ r ≤ length (now (all .entry)) ⌝ }
-{
-    let n = reader.held();
-    if all.len() < n {
-        return 0;
-    }
-    n
+    let last = turn.reader;
+    last.held()
 }

@@ -4,9 +4,9 @@ use mathlib.Core.Bool.{true}
 use mathlib.Core.List.{List, [], _∷_, _++_}
 use Prim.Native.Nat.{ℕ, zero, suc, _+_, _-_, _≤_, _<_, min}
 use native.Mathlib.Omega.{arith}
-use lib.ListN.{length, take, drop}
+use lib.ListN.{length, take}
 use lib.Seq.{take-nil}
-use lib.Dec.{ltb, eqb}
+use lib.Dec.{ltb}
 use borrow.Author.Tests.{lt-ltb, le-ltb, eqb-true}
 use Rattle.area.specs.Pick.{pick}
 use Rattle.area.specs.Area.{put}
@@ -88,7 +88,9 @@ within b (c ∷ cs) s h =
 pub stays : (s : State) (bs : List ℕ) → length bs < s .reader .left → fed s bs .reader .section ≡ s .reader .section
 unfolding fed onward laid
 stays s [] h = refl
-stays s (b ∷ bs) h = ap (λ (t : State). t .reader .section) (within b bs s (omega arith) ∙ picks _ _ _ (lt-ltb 0 (s .reader .left - length (b ∷ bs)) (omega arith)))
+stays s (b ∷ bs) h =
+    ap (λ (t : State). t .reader .section)
+    (within b bs s (omega arith) ∙ picks _ _ _ (lt-ltb 0 (s .reader .left - length (b ∷ bs)) (omega arith)))
 
 -- that ends with them
 pub ends : (s : State) (bs : List ℕ) → 0 < s .reader .left → length bs ≡ s .reader .left → fed s bs ≡ next (laid s bs)

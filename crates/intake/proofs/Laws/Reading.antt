@@ -6,7 +6,7 @@ use Prim.Native.Nat.{ℕ, zero, suc, _+_, _-_, _*_, _≤_, _<_, min}
 use native.Mathlib.Omega.{arith}
 use lib.ListN.{length, take, drop, length-take, length-drop, take-append-drop}
 use lib.Seq.{take-nil, take-all, take-take, take-add, drop-drop, length-take-le}
-use lib.Dec.{leb, ltb, eqb}
+use lib.Dec.{leb, ltb}
 use borrow.Author.Tests.{lt-ltb, le-ltb, ltb-true, ltb-false, leb-true, leb-false, ne-eqb}
 use Rattle.area.specs.Area.{part}
 use Rattle.area.specs.Little.{le8, Bytes}
@@ -17,7 +17,7 @@ use Rattle.single.specs.Input.{numberAt, idsEnd, headEnd, dataBytes, cutShort}
 use Rattle.intake.specs.Reader.{State, state, reader, fresh, idsFrom, dataFrom, headFrom, fed, laid, inData, held, holds}
 use Rattle.intake.specs.Kept.{idsKept, headKept, dataKept, kept, missing, keep}
 use Rattle.intake.specs.declared.Section.{Section}
-use Rattle.intake.specs.declared.Section.the-variants.{Front, Ids, Length, Head, Data}
+use Rattle.intake.specs.declared.Section.the-variants.{Front, Ids, Length, Head}
 use Rattle.intake.specs.declared.Reader.{Reader}
 use Rattle.intake.proofs.Laws.Missing.{later}
 use Rattle.intake.proofs.Laws.Feeding.{fed-append, stays, data-fed}
@@ -47,7 +47,7 @@ take-cut m n l =
     ∙ sym (take-add n (m - n) l)
     ∙ ap (λ (j : ℕ). take j l) e)
 
-regroup : (a b c d e f : List ℕ) → (((a ++ b ++ c) ++ d) ++ e) ++ f ≡ a ++ (b ++ (c ++ (d ++ (e ++ f))))
+regroup : (a b c d e f : List ℕ) → a ++ b ++ c ++ d ++ e ++ f ≡ a ++ (b ++ (c ++ (d ++ (e ++ f))))
 regroup a b c d e f = simp append-assoc
 
 -- ---- a section from which bytes are missing: nothing is held
@@ -158,6 +158,16 @@ front-part : (all : List ℕ) → take 80 all ≡ take 72 all ++ part all 72 8
 unfolding part
 front-part all = take-add 72 8 all
 
+-- the states between its sections
+abbrev atIds : State → List ℕ → State
+atIds s all = fed s (take 80 all)
+
+abbrev atLength : State → List ℕ → State
+atLength s all = fed (atIds s all) (part all 80 (numberAt all 72 * 32))
+
+abbrev atHead : State → List ℕ → State
+atHead s all = fed (atLength s all) (part all (idsEnd all) 8)
+
 module _ (all : List ℕ) (bytes : Bytes all) where
   after-front : {s : State} → Stands s fresh 0 [] → 80 ≤ length all
       → Stands (fed s (take 80 all)) (idsFrom (numberAt all 72) (idsKept all * 32) 80) 80 (take 72 all ++ le8 (idsKept all))
@@ -226,13 +236,13 @@ module _ (all : List ℕ) (bytes : Bytes all) where
           (cut-ahead (omega arith))
 
       module _ (ids : idsEnd all ≤ length all) where
-        at-length : Stands (fed (fed s (take 80 all)) (part all 80 (numberAt all 72 * 32))) (reader Length 0 8 8 (80 + idsKept all * 32)) (80 + idsKept all * 32)
-            ((take 72 all ++ le8 (idsKept all)) ++ part all 80 (idsKept all * 32))
+        at-length : Stands (atLength s all) (reader Length 0 8 8 (80 + idsKept all * 32)) (80 + idsKept all * 32)
+            (take 72 all ++ le8 (idsKept all) ++ part all 80 (idsKept all * 32))
         at-length = after-ids (after-front h front) ids
 
-        fed-ids : fed s all ≡ fed (fed (fed s (take 80 all)) (part all 80 (numberAt all 72 * 32))) (drop (idsEnd all) all)
+        fed-ids : fed s all ≡ fed (atLength s all) (drop (idsEnd all) all)
         unfolding idsEnd
-        fed-ids = fed-cut s 80 all ∙ fed-part (fed s (take 80 all)) all 80 (numberAt all 72 * 32)
+        fed-ids = fed-cut s 80 all ∙ fed-part (atIds s all) all 80 (numberAt all 72 * 32)
 
         cut-length : length all < idsEnd all + 8 → holds (fed s all) ≡ keep all
         unfolding headEnd
@@ -242,21 +252,20 @@ module _ (all : List ℕ) (bytes : Bytes all) where
             (cut-ahead (omega arith))
 
         module _ (number : idsEnd all + 8 ≤ length all) where
-          few : idsKept all ≤ 9
+          few-ids : idsKept all ≤ 9
           unfolding idsKept
-          few = omega arith
+          few-ids = omega arith
 
-          few-head : headKept all ≤ 2897
+          few-bytes : headKept all ≤ 2897
           unfolding headKept
-          few-head = omega arith
+          few-bytes = omega arith
 
-          at-head : Stands (fed (fed (fed s (take 80 all)) (part all 80 (numberAt all 72 * 32))) (part all (idsEnd all) 8))
-              (headFrom (numberAt all (idsEnd all)) (80 + idsKept all * 32 + 8)) (80 + idsKept all * 32 + 8)
-              (((take 72 all ++ le8 (idsKept all)) ++ part all 80 (idsKept all * 32)) ++ le8 (headKept all))
-          at-head = let f = few in after-length at-length (omega arith) number
+          at-head : Stands (atHead s all) (headFrom (numberAt all (idsEnd all)) (80 + idsKept all * 32 + 8)) (80 + idsKept all * 32 + 8)
+              (take 72 all ++ le8 (idsKept all) ++ part all 80 (idsKept all * 32) ++ le8 (headKept all))
+          at-head = let few = few-ids in after-length at-length (omega arith) number
 
-          fed-length : fed s all ≡ fed (fed (fed (fed s (take 80 all)) (part all 80 (numberAt all 72 * 32))) (part all (idsEnd all) 8)) (drop (idsEnd all + 8) all)
-          fed-length = fed-ids ∙ fed-part (fed (fed s (take 80 all)) (part all 80 (numberAt all 72 * 32))) all (idsEnd all) 8
+          fed-length : fed s all ≡ fed (atHead s all) (drop (idsEnd all + 8) all)
+          fed-length = fed-ids ∙ fed-part (atLength s all) all (idsEnd all) 8
 
           cut-head : length all < headEnd all → holds (fed s all) ≡ keep all
           unfolding headEnd
@@ -266,17 +275,22 @@ module _ (all : List ℕ) (bytes : Bytes all) where
               ∙ head-short (numberAt all (idsEnd all)) at-head (drop (idsEnd all + 8) all) (omega (arith, length-drop (idsEnd all + 8) all)))
               (cut-ahead g)
 
+          all-there : headEnd all ≤ length all → missing all ≡ false
+          unfolding missing cutShort
+          all-there g =
+              either-join _ _ (le-ltb (length all) 80 front)
+              (either-join _ _ (le-ltb (length all) (idsEnd all + 8) number) (le-ltb (length all) (headEnd all) g))
+
           all-kept : headEnd all ≤ length all → holds (fed s all) ≡ keep all
-          unfolding keep kept dataKept dataBytes headEnd missing cutShort
+          unfolding keep kept dataKept dataBytes headEnd
           all-kept g =
-              let f = few in
-              let m : headKept all ≤ 2897 = few-head in
+              let few = few-ids in
+              let bytes-few = few-bytes in
               let n : ℕ = numberAt all (idsEnd all) in
-              let there : missing all ≡ false = either-join _ _ (le-ltb (length all) 80 front) (either-join _ _ (le-ltb (length all) (idsEnd all + 8) number) (le-ltb (length all) (headEnd all) g)) in
-              ap holds (fed-length ∙ fed-part _ all (idsEnd all + 8) n)
+              ap holds (fed-length ∙ fed-part (atHead s all) all (idsEnd all + 8) n)
               ∙ data-held (after-head at-head (omega arith) g) (omega arith) (drop (idsEnd all + 8 + n) all)
-              ∙ regroup (take 72 all) (le8 (idsKept all)) (part all 80 (idsKept all * 32)) (le8 (headKept all)) (part all (idsEnd all + 8) (headKept all)) _
-              ∙ sym (skips _ _ _ there)
+              ∙ regroup (take 72 all) (le8 (idsKept all)) (part all 80 (idsKept all * 32)) (le8 (headKept all)) _ _
+              ∙ sym (skips _ _ _ (all-there g))
 
 -- what is held of any input is what is to be kept of it
 pub holds-keep : (area all : List ℕ) → length area ≡ 68810 → Bytes all → holds (fed (state fresh area) all) ≡ keep all

@@ -1,10 +1,10 @@
 -- What stands in the area of a reader: bytes of a section, a number lowered behind it. Assumes nothing.
 use mathlib.Core.Path.{_≡_, refl, sym, ap, ap₂, _∙_}
-use mathlib.Core.List.{List, [], _∷_, _++_, append-assoc}
-use Prim.Native.Nat.{ℕ, zero, suc, _+_, _-_, _*_, _≤_, _<_, min}
+use mathlib.Core.List.{List, _++_, append-assoc}
+use Prim.Native.Nat.{ℕ, _+_, _-_, _*_, _≤_, _<_, min}
 use native.Mathlib.Omega.{arith}
-use lib.ListN.{length, take, drop, length-append, length-take, length-drop}
-use lib.Seq.{take-all, take-at, take-take, take-add, length-take-le}
+use lib.ListN.{length, take, drop, length-append, length-take}
+use lib.Seq.{take-at, take-take, length-take-le}
 use lib.Dec.{leb, ltb}
 use borrow.Author.Tests.{le-ltb, leb-true, leb-false}
 use Rattle.area.specs.Area.{part, put}
@@ -55,7 +55,8 @@ module _ {x : Section} {i l m a : ℕ} {s : State} {k : List ℕ} (h : Stands s 
   unfolding spare
   room = let e = h .long in omega arith
 
-  pub laid-stands : (bs : List ℕ) → Stands (laid s bs) (reader x i (l - length bs) (m - length bs) (a + min m (length bs))) (a + min m (length bs)) (k ++ take m bs)
+  pub laid-stands : (bs : List ℕ)
+      → Stands (laid s bs) (reader x i (l - length bs) (m - length bs) (a + min m (length bs))) (a + min m (length bs)) (k ++ take m bs)
   unfolding laid
   laid-stands bs =
       let long = h .long in
@@ -75,6 +76,14 @@ module _ {x : Section} {i l m a : ℕ} {s : State} {k : List ℕ} (h : Stands s 
 
 -- ---- the number at the end of what stands
 
+-- a number lowered leaves the area as long as it is
+pub long-lowered : (area : List ℕ) (a most : ℕ) → length (lowered area a most) ≡ length area
+unfolding lowered
+long-lowered area a most =
+    by (leb (numberTo area a) most)
+    (λ u. ap length (picks _ _ _ u))
+    (λ u. ap length (skips _ _ _ u) ∙ length-put area (a - 8) (le8 most))
+
 module _ (area : List ℕ) (a : ℕ) (k number : List ℕ) (front : take a area ≡ k ++ number) (eight : length number ≡ 8) (long : a ≤ length area) where
   place : a ≡ length k + 8
   place = omega (arith, length-take-le a area long, ap length front, length-append k number)
@@ -90,13 +99,6 @@ module _ (area : List ℕ) (a : ℕ) (k number : List ℕ) (front : take a area 
       (ap (λ (z : List ℕ). part z (a - 8) 8) front ∙ part-next k number (length k) 0 8 refl (omega arith) ∙ part-whole number 8 (sym eight))
 
   module _ (most : ℕ) where
-    pub long-lowered : length (lowered area a most) ≡ length area
-    unfolding lowered
-    long-lowered =
-        by (leb (numberTo area a) most)
-        (λ u. ap length (picks _ _ _ u))
-        (λ u. ap length (skips _ _ _ u) ∙ length-put area (a - 8) (le8 most))
-
     pub front-lowered : Bytes number → take a (lowered area a most) ≡ k ++ le8 (min (valueOf number) most)
     unfolding lowered
     front-lowered b =
@@ -144,7 +146,7 @@ module _ {i l m a : ℕ} {s : State} (k number : List ℕ) (eight : length numbe
       (record {
         same = refl;
         front = front-lowered (s .area) a k number (h .front) eight near most b;
-        long = long-lowered (s .area) a k number (h .front) eight near most ∙ long;
+        long = long-lowered (s .area) a most ∙ long;
       })
 
   pub behind-front : Stands s (reader Front i l m a) a (k ++ number)
