@@ -1,13 +1,14 @@
 // An input of `depot`, which has 8 sectors of disk, 4 of stage, and an output of 16,384 bytes.
 ghost use Prim.Native.Nat.{_≤_};
 ghost use lib.ListN.{length};
+use intake::Reader;
 
 // Reads an input of so many bytes and plays it; answers how many bytes `depot` writes, which stand at the front of `shown`.
 pub fn play(many: u64, shown: &mut [u8]) -> usize
     ensures { λ r. ⌜ r ≤ length (now (shown .exit)) ⌝ }
 {
-    let mut all = [0u8; intake::KEPT];
-    let n = intake::gather(many, &mut all);
+    let mut all = [0u8; Reader::KEPT];
+    let n = intake::gather(many, true, &mut all);
     let mut disk = [0u8; 32_768];
     let mut stage = [0u8; 16_384];
     let mut input = [0u8; 65_536];

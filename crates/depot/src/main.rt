@@ -5,11 +5,12 @@ ghost use Prim.Native.Nat.{_≤_};
 ghost use lib.ListN.{length, take};
 ghost use Rattle.single.specs.Single.{spoken};
 ghost use Rattle.single.specs.Input.{answered};
+use intake::Reader;
 use libc::STDOUT_FILENO;
 
 fn main() {
-    let mut all = [0u8; intake::KEPT];
-    let n = intake::gather(u64::MAX, &mut all);
+    let mut all = [0u8; Reader::KEPT];
+    let n = intake::gather(u64::MAX, false, &mut all);
     answer(&all[0..n]);
 }
 

@@ -4,4 +4,8 @@ pub mod Heads
 pub mod Pieces
 pub mod Sections
 pub mod Missing
-pub mod Lowered
+pub mod Laying
+pub mod Feeding
+pub mod Standing
+pub mod Reading
+pub mod Gathering

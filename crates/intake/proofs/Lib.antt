@@ -1,3 +1,3 @@
--- What is kept of an input is enough.
+-- The reader keeps what can matter of an input, and that is enough.
 pub mod Laws
 pub mod Theorems

@@ -1,21 +1,30 @@
 -- What is kept of an input is enough: nine ids, of which the last is refused; a head that is read alike; data of which only that it passes
--- the declared length matters. Assumes nothing.
+-- the declared length matters. The reader keeps just that, however the input is cut into reads. Assumes nothing.
 use mathlib.Core.Path.{_≡_, sym, ap, ap₂, _∙_}
-use mathlib.Core.Bool.{Bool, false}
-use mathlib.Core.List.{List}
+use mathlib.Core.Bool.{Bool, true, false}
+use mathlib.Core.List.{List, [], _++_}
 use Prim.Native.Nat.{ℕ, _+_, _≤_}
-use lib.ListN.{length}
+use native.Mathlib.Omega.{arith}
+use lib.ListN.{length, take}
 use Rattle.area.specs.Pick.{pick}
+use Rattle.area.specs.Little.{Bytes}
+use Rattle.area.proofs.Laws.Pick.{by, picks, skips}
+use Rattle.rules.proofs.Laws.Ways.{either-way}
 use Rattle.host.specs.Calls.{freshed}
 use Rattle.sia.specs.Decode.{decode}
 use Rattle.single.specs.Single.{Ran, ran, idsIn, formedInTurn, run}
 use Rattle.single.specs.Input.{numberAt, pricesIn, budgetIn, idsEnd, idsBytes, headBytes, dataBytes, cutShort, answered}
-use Rattle.intake.specs.Kept.{idsKept, headKept, dataKept, kept, Kept}
+use Rattle.intake.specs.Reader.{State, state, fresh, fed, readAll, whole, full, holds}
+use Rattle.intake.specs.Gathered.{Gathered}
+use Rattle.intake.specs.Kept.{idsKept, headKept, dataKept, kept, missing, keep, Kept}
 use Rattle.intake.proofs.Laws.Forms.{first-ids, fresh-free}
 use Rattle.intake.proofs.Laws.Heads.{first-bytes}
 use Rattle.intake.proofs.Laws.Pieces.{run-alike}
-use Rattle.intake.proofs.Laws.Sections.{ids-first, part-least, ids-there, ids-kept, head-kept, data-kept, prices-kept, budget-kept, wrong-kept, kept-short}
-use Rattle.intake.proofs.Laws.Missing.{ends-early}
+use Rattle.intake.proofs.Laws.Sections.{ids-first, part-least, ids-there, ids-kept, head-kept, data-kept}
+use Rattle.intake.proofs.Laws.Sections.{prices-kept, budget-kept, wrong-kept, kept-short}
+use Rattle.intake.proofs.Laws.Missing.{missing-wrong, whole-front, whole-ahead, none-wrong}
+use Rattle.intake.proofs.Laws.Feeding.{fed-append, fed-whole, full-fed}
+use Rattle.intake.proofs.Laws.Reading.{holds-keep}
 use Rattle.host.specs.declared.Host.{Host}
 
 module _ (all : List ℕ) (front : 80 ≤ length all) (whole : cutShort all ≡ false) where
@@ -51,9 +60,45 @@ module _ (all : List ℕ) (front : 80 ≤ length all) (whole : cutShort all ≡ 
       ap₂ (λ (b : Bool) (x : Ran). pick b (ran 9 0 (freshed z (length disk) (length stage) .host) disk stage input output) x)
       (wrong-kept all front whole) (same-run z disk stage input output)
 
+-- where bytes are missing, both are refused
+same-refusal : (all : List ℕ) → missing all ≡ true → (z : ℕ) (disk stage input output : List ℕ)
+    → answered z [] disk stage input output ≡ answered z all disk stage input output
+unfolding answered
+same-refusal all e z disk stage input output = picks _ _ _ none-wrong ∙ sym (picks _ _ _ (missing-wrong all e))
+
+enough : (z : ℕ) (all disk stage input output : List ℕ) → answered z (keep all) disk stage input output ≡ answered z all disk stage input output
+unfolding keep
+enough z all disk stage input output =
+    by (missing all)
+    (λ u. ap (λ (l : List ℕ). answered z l disk stage input output) (picks _ _ _ u) ∙ same-refusal all u z disk stage input output)
+    (λ u. ap (λ (l : List ℕ). answered z l disk stage input output) (skips _ _ _ u)
+    ∙ same-answer all (whole-front all u) (whole-ahead all u) z disk stage input output)
+
+keep-short : (all : List ℕ) → length (keep all) ≤ 68810
+unfolding keep
+keep-short all = either-way (λ (l : List ℕ). length l ≤ 68810) _ _ _ (λ _. omega arith) (λ _. kept-short all)
+
+-- ---- the reader keeps it
+
+read-whole : (area : List ℕ) (pieces : List (List ℕ)) → readAll area pieces ≡ fed (state fresh area) (whole pieces)
+unfolding readAll
+read-whole area pieces = fed-whole (state fresh area) pieces
+
+keeps : (area : List ℕ) (pieces : List (List ℕ)) → length area ≡ 68810 → Bytes (whole pieces) → holds (readAll area pieces) ≡ keep (whole pieces)
+keeps area pieces long b = ap holds (read-whole area pieces) ∙ holds-keep area (whole pieces) long b
+
+keeps-whatever : (area : List ℕ) (pieces : List (List ℕ)) (rest : List ℕ) → length area ≡ 68810 → Bytes (whole pieces ++ rest)
+    → full (readAll area pieces .reader) ≡ true → holds (readAll area pieces) ≡ keep (whole pieces ++ rest)
+keeps-whatever area pieces rest long b e =
+    sym (full-fed (readAll area pieces) rest e)
+    ∙ ap (λ (s : State). holds (fed s rest)) (read-whole area pieces)
+    ∙ ap holds (sym (fed-append (state fresh area) (whole pieces) rest))
+    ∙ holds-keep area (whole pieces ++ rest) long b
+
+gathered-keeps : (before after : List ℕ) (n : ℕ) → length before ≡ 68810 → (g : Gathered before after n) → take n after ≡ keep (whole (g .came .pieces))
+unfolding holds
+gathered-keeps before after n long g =
+    ap (λ (k : ℕ). take k after) (g .count) ∙ ap holds (g .came .leads) ∙ keeps before (g .came .pieces) long (g .came .bytes)
+
 pub keeping-is-enough : Kept
-keeping-is-enough = record {
-  answers = λ z all disk stage input output front whole. same-answer all front whole z disk stage input output;
-  short = kept-short;
-  missing = ends-early;
-}
+keeping-is-enough = record { answers = enough; short = keep-short; reads = keeps; stops = keeps-whatever; gathers = gathered-keeps }

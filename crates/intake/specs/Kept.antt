@@ -1,12 +1,17 @@
--- What is kept of an input, and the statement that it is enough, proved in proofs/Theorems. z is the sector size. Assumes nothing.
+-- What is kept of an input, and the statements, proved in proofs/Theorems, that it is enough and that the reader keeps it. z is the sector
+-- size. Assumes nothing.
 use mathlib.Core.Path.{_≡_}
-use mathlib.Core.Bool.{true, false}
-use mathlib.Core.List.{List, _++_}
-use Prim.Native.Nat.{ℕ, _+_, _*_, _≤_, _<_, min}
+use mathlib.Core.Bool.{Bool, true}
+use mathlib.Core.List.{List, [], _++_}
+use Prim.Native.Nat.{ℕ, _+_, _*_, _≤_, min}
 use lib.ListN.{length, take}
-use Rattle.area.specs.Area.{part, put}
-use Rattle.area.specs.Little.{le8}
-use Rattle.single.specs.Input.{numberAt, idsEnd, headEnd, dataBytes, cutShort, wrong, answered}
+use lib.Dec.{ltb}
+use Rattle.area.specs.Pick.{pick, either}
+use Rattle.area.specs.Area.{part}
+use Rattle.area.specs.Little.{le8, Bytes}
+use Rattle.single.specs.Input.{numberAt, idsEnd, dataBytes, cutShort, answered}
+use Rattle.intake.specs.Reader.{whole, readAll, full, holds}
+use Rattle.intake.specs.Gathered.{Gathered}
 
 -- how many ids are kept, how many bytes of head, and which data
 unfoldable pub idsKept : List ℕ → ℕ
@@ -24,14 +29,22 @@ kept all =
     take 72 all ++ (le8 (idsKept all) ++ (part all 80 (idsKept all * 32)
     ++ (le8 (headKept all) ++ (part all (idsEnd all + 8) (headKept all) ++ dataKept all))))
 
--- the number at a place lowered to what is kept, where it is above that
-unfoldable pub lowered : List ℕ → ℕ → ℕ → List ℕ
-lowered all at most = put all at (le8 (min (numberAt all at) most))
+-- "bytes ahead of the data are missing"
+unfoldable pub missing : List ℕ → Bool
+missing all = either (ltb (length all) 80) (cutShort all)
+
+-- what is kept of any input: nothing where bytes are missing
+unfoldable pub keep : List ℕ → List ℕ
+keep all = pick (missing all) [] (kept all)
 
 pub record Kept : Type 0 where
-  -- where no byte ahead of the data is missing, what is kept is answered as the whole, and leaves the same host and areas
-  pub answers : (z : ℕ) (all disk stage input output : List ℕ) → 80 ≤ length all → cutShort all ≡ false
-      → answered z (kept all) disk stage input output ≡ answered z all disk stage input output
-  pub short : (all : List ℕ) → length (kept all) ≤ 68810
-  -- an input that ends ahead of its data is refused with 9: what is kept of one from which bytes are missing ends so
-  pub missing : (all : List ℕ) (k : ℕ) → 80 ≤ length all → cutShort all ≡ false → k < headEnd all → wrong (take k all) ≡ true
+  -- what is kept is answered as the whole, and leaves the same host and areas
+  pub answers : (z : ℕ) (all disk stage input output : List ℕ) → answered z (keep all) disk stage input output ≡ answered z all disk stage input output
+  pub short : (all : List ℕ) → length (keep all) ≤ 68810
+  -- the reader keeps it, wherever the input is cut into reads
+  pub reads : (area : List ℕ) (pieces : List (List ℕ)) → length area ≡ 68810 → Bytes (whole pieces) → holds (readAll area pieces) ≡ keep (whole pieces)
+  -- a reader that is full has it already, whatever follows
+  pub stops : (area : List ℕ) (pieces : List (List ℕ)) (rest : List ℕ) → length area ≡ 68810 → Bytes (whole pieces ++ rest)
+      → full (readAll area pieces .reader) ≡ true → holds (readAll area pieces) ≡ keep (whole pieces ++ rest)
+  -- so what `gather` leaves at the front of an area is what is kept of all that came
+  pub gathers : (before after : List ℕ) (n : ℕ) → length before ≡ 68810 → (g : Gathered before after n) → take n after ≡ keep (whole (g .came .pieces))

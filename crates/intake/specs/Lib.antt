@@ -1,2 +1,4 @@
--- What is kept of an input, and that it is enough.
+-- The reader of an input, what is kept of it, and that this is enough.
+pub mod Reader
+pub mod Gathered
 pub mod Kept

@@ -1,51 +1,35 @@
--- An input that ends ahead of its data is refused with 9, wherever it ends. Assumes nothing.
-use mathlib.Core.Path.{_≡_, ap, ap₂, _∙_}
+-- An input from which bytes ahead of the data are missing is refused with 9, and so is none at all. Assumes nothing.
+use mathlib.Core.Path.{_≡_, refl, sym, _∙_}
 use mathlib.Core.Bool.{Bool, true, false}
-use mathlib.Core.List.{List}
-use Prim.Native.Nat.{ℕ, _+_, _*_, _≤_, _<_}
-use native.Mathlib.Omega.{arith}
-use lib.ListN.{length, take}
-use lib.Seq.{length-take-le}
+use mathlib.Core.List.{List, []}
+use Prim.Native.Nat.{ℕ, _≤_}
+use lib.ListN.{length}
 use lib.Dec.{ltb}
-use borrow.Author.Tests.{ltb-true, ltb-false, lt-ltb}
+use borrow.Author.Tests.{ltb-false}
 use Rattle.area.specs.Pick.{either}
-use Rattle.area.proofs.Laws.Pick.{by, picks, skips}
-use Rattle.single.specs.Input.{numberAt, idsEnd, headEnd, cutShort, wrong}
-use Rattle.intake.proofs.Laws.Sections.{number-front, head-end}
+use Rattle.area.proofs.Laws.Pick.{by, picks, skips, either-left, either-right}
+use Rattle.single.specs.Input.{cutShort, wrong}
+use Rattle.intake.specs.Kept.{missing}
 
-sooner : (a b : Bool) → a ≡ true → either a b ≡ true
-sooner a b e = picks a true b e
-
-later : (a b : Bool) → b ≡ true → either a b ≡ true
+pub later : (a b : Bool) → b ≡ true → either a b ≡ true
 later a b e = by a (λ u. picks a true b u) (λ u. skips a true b u ∙ e)
 
-module _ (all : List ℕ) (k : ℕ) (front : 80 ≤ length all) (whole : cutShort all ≡ false) (ends : k < headEnd all) where
-  long : length (take k all) ≡ k
-  unfolding headEnd
-  long = length-take-le k all (let h = head-end all front whole in omega (arith, h))
+module _ (all : List ℕ) where
+  pub missing-wrong : missing all ≡ true → wrong all ≡ true
+  unfolding missing wrong
+  missing-wrong e =
+      by (ltb (length all) 80)
+      (λ u. picks _ _ _ u)
+      (λ u. later _ _ (later _ _ (later _ _ (sym (skips _ true (cutShort all) u) ∙ e))))
 
-  module _ (past : 80 ≤ k) where
-    same-ids : idsEnd (take k all) ≡ idsEnd all
-    unfolding idsEnd
-    same-ids = ap (λ (n : ℕ). 80 + n * 32) (number-front all k 72 (omega arith))
+  pub whole-front : missing all ≡ false → 80 ≤ length all
+  unfolding missing
+  whole-front e = ltb-false _ _ (either-left _ _ e)
 
-    same-head : idsEnd all + 8 ≤ k → headEnd (take k all) ≡ headEnd all
-    unfolding headEnd
-    same-head h = ap₂ (λ (at n : ℕ). at + 8 + n) same-ids (ap (numberAt (take k all)) same-ids ∙ number-front all k (idsEnd all) h)
+  pub whole-ahead : missing all ≡ false → cutShort all ≡ false
+  unfolding missing
+  whole-ahead e = either-right _ _ e
 
-    cut : cutShort (take k all) ≡ true
-    unfolding cutShort
-    cut =
-        let l = long in
-        let e = same-ids in
-        by (ltb k (idsEnd all + 8))
-        (λ u. sooner _ _ (lt-ltb (length (take k all)) (idsEnd (take k all) + 8) (omega (arith, l, e, ltb-true k (idsEnd all + 8) u))))
-        (λ u. later _ _ (lt-ltb (length (take k all)) (headEnd (take k all)) (omega (arith, l, same-head (ltb-false k (idsEnd all + 8) u)))))
-
-  pub ends-early : wrong (take k all) ≡ true
-  unfolding wrong
-  ends-early =
-      let l = long in
-      by (ltb k 80)
-      (λ u. sooner _ _ (lt-ltb (length (take k all)) 80 (omega (arith, l, ltb-true k 80 u))))
-      (λ u. later _ _ (later _ _ (later _ _ (cut (ltb-false k 80 u)))))
+pub none-wrong : wrong [] ≡ true
+unfolding wrong
+none-wrong = picks _ _ _ refl

@@ -27,7 +27,7 @@ part-first : (a b : List ℕ) (at n : ℕ) → at + n ≤ length a → part (a +
 unfolding part
 part-first a b at n h = ap (take n) (drop-append-le at a b (omega arith)) ∙ take-append-le n (drop at a) b (omega (arith, length-part a at n h, length-take n (drop at a)))
 
-part-next : (a b : List ℕ) (k at n : ℕ) {j : ℕ} → length a ≡ k → j ≡ k + at → part (a ++ b) j n ≡ part b at n
+pub part-next : (a b : List ℕ) (k at n : ℕ) {j : ℕ} → length a ≡ k → j ≡ k + at → part (a ++ b) j n ≡ part b at n
 unfolding part
 part-next a b k at n {j} e q = ap (λ (m : ℕ). take n (drop m (a ++ b))) (q ∙ ap (λ (m : ℕ). m + at) (sym e)) ∙ ap (take n) (drop-append-add a b at)
 

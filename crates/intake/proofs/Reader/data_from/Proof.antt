@@ -1,0 +1,12 @@
+-- `intake::Reader::data_from` meets its contract. Assumes nothing.
+use mathlib.Core.Path.{refl}
+use Rattle.intake.specs.Reader.{dataFrom}
+use Rattle.intake.proofs.Reader.data_from.Statement.{statement}
+use Rattle.intake.proofs.Reader.data_from.Tie as tie
+
+returns : tie.Need-returns
+unfolding dataFrom
+returns c = refl
+
+pub data-from-spec : {M : Type 1} → statement M
+data-from-spec = tie.close (tie.spec returns)
