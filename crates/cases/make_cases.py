@@ -164,9 +164,11 @@ def cut_items(fresh):
         yield ready + open_(long) + reached
         yield from (ready + open_(long)[:k] for k in (81 + 100, 81 + 2_896, 81 + 2_897, 81 + n - 1) if k < 81 + n)
     yield ready + open_(head, 2**64 - 1) + bytes(3_000)
+    longest = contract + number(32) + (b"Truncate".ljust(16, b"\0") + number(4, *[0] * 8) + b"\0") * 32 + number(0)
+    yield from (ready + open_(longest + bytes(n)) + reached for n in (0, 1, 2, 100))
     opened = ready + open_(head)
     long = number(4096) + bytes(65_531)
-    yield from (opened + piece(long[:n]) + reached for n in (65_537, 65_538, 65_539))
+    yield from (opened + piece(long[:n]) + reached for n in (65_536, 65_537, 65_538, 65_539))
     yield from (opened + piece(long[:n], 65_539) for n in (65_536, 65_537, 65_538))
     yield from (opened + piece(long[:9], n) for n in (65_536, 65_537, 65_538, 2**64 - 1))
 

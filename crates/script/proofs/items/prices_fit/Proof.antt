@@ -14,12 +14,6 @@ abbrev μ-loop : tie.MeasureT-loop
 loop-holds : tie.Need-loop-holds Inv-loop μ-loop
 loop-holds c = tt
 
-price-requires : tie.Need-price-requires Inv-loop μ-loop
-price-requires c κs = search needs
-
-returns : tie.Need-returns Inv-loop μ-loop
-returns c = search needs
-
 add-k : tie.Need-add-k Inv-loop μ-loop
 add-k c = omega arith
 
@@ -29,9 +23,6 @@ loop-less c = omega arith
 loop-again : tie.Need-loop-again Inv-loop μ-loop
 loop-again c = tt
 
-returns-2 : tie.Need-returns-2 Inv-loop μ-loop
-returns-2 c = search needs
-
 pub prices-fit-spec : {M : Type 1} → statement M
 prices-fit-spec =
     tie.close
@@ -39,9 +30,9 @@ prices-fit-spec =
     Inv-loop
     μ-loop
     loop-holds
-    price-requires
-    returns
+    (λ c κs. search needs)
+    (λ c. search needs)
     add-k
     loop-less
     loop-again
-    returns-2)
+    (λ c. search needs))
