@@ -39,7 +39,7 @@ fn play_all(
         let after = played.host;
         host = after;
         left = played.left;
-        turns = feed::still(played.fine, turns);
+        turns = stdin::still(played.fine, turns);
     }
 }
 

@@ -18,7 +18,7 @@ fn all_cases(shown: &mut [u8]) {
     while 0 < turns {
         let place = u64::MAX - turns;
         let whole = one_case(place, shown);
-        turns = feed::still(whole, turns);
+        turns = stdin::still(whole, turns);
     }
 }
 

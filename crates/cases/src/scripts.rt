@@ -54,9 +54,9 @@ fn items(
         host = after;
         left = stands.left;
         end = stands.end;
-        turns = feed::still(stands.fine, turns);
+        turns = stdin::still(stands.fine, turns);
     }
-    feed::skip(left);
+    stdin::skip(left);
     end
 }
 

@@ -2,13 +2,11 @@
 // longest head has 2,896) and 65,537 bytes of data (at most 65,536 are declared). What is longer is counted and dropped, and the numbers
 // ahead of it are lowered, so that an input of any length has its answer.
 ghost use mathlib.Core.Path.{_≡_};
-ghost use Prim.Native.Nat.{_-_, _≤_, _<_, min};
-ghost use lib.ListN.{length};
+ghost use Prim.Native.Nat.{_-_, _<_, min};
 ghost use mathlib.Core.List.{[], _∷_};
 ghost use Rattle.intake.specs.Reader as Says;
 ghost use Rattle.intake.specs.Reader.{state, fresh, idsFrom, headFrom, dataFrom, numberTo, fedByte, inData};
 ghost use Rattle.intake.specs.Gathered.{readsOn, Feeds, Gathered};
-use libc::STDIN_FILENO;
 
 // Which section the next byte belongs to.
 pub enum Section {
@@ -255,17 +253,6 @@ fn lower(all: &mut [u8], at: usize, most: u64)
     area::store(all, at - 8, 8, most);
 }
 
-// Reads at most `left` bytes into a buffer, until it is full or the input ends, and answers how many.
-fn fill(left: u64, space: &mut [u8]) -> usize
-    ensures { λ r. ⌜ (r ≤ left) × (r ≤ length (now (space .exit))) ⌝ }
-{
-    if (space.len() as u64) <= left {
-        return io::read_full(STDIN_FILENO, space);
-    }
-    let n = left as usize;
-    io::read_full(STDIN_FILENO, &mut space[0..n])
-}
-
 // Where a reader stands between two reads, and how many bytes are to come at most.
 struct Turn {
     pub reader: Reader,
@@ -301,7 +288,7 @@ fn read_once(turn: Turn, all: &mut [u8]) -> Turn
 {
     let reader = turn.reader;
     let mut space = io::large_buffer();
-    let got = fill(turn.left, &mut space);
+    let got = stdin::fill(turn.left, &mut space);
     let left = turn.left - got as u64;
     if got == 0 {
         return Turn { reader, left: 0 };

@@ -19,7 +19,7 @@ fn more(left: u64, item: &mut [u8], at: usize, n: usize) -> Came
     ensures { λ r. ⌜ (r .length ≤ at + n) × (r .left ≤ left) ⌝ }
 {
     let end = at + n;
-    let got = feed::fill(left, &mut item[at..end]);
+    let got = stdin::fill(left, &mut item[at..end]);
     let behind = left - got as u64;
     if got < n {
         return Came {
@@ -77,7 +77,7 @@ fn tail(left: u64, item: &mut [u8], at: usize, most: u64) -> Came
         return kept;
     }
     let behind = kept.left;
-    let dropped = feed::skip(least(n - keep, behind));
+    let dropped = stdin::skip(least(n - keep, behind));
     if dropped < n - keep {
         return Came {
             length: 0,

@@ -9,7 +9,7 @@ fn main() {
     while 0 < turns {
         let place = u64::MAX - turns;
         let whole = one_input(place);
-        turns = feed::still(whole, turns);
+        turns = stdin::still(whole, turns);
     }
 }
 

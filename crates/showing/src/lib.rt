@@ -14,7 +14,7 @@ use parts::Parts;
 // Shows one input, which may use at most `left` bytes of standard input; all of them are read.
 pub fn show_from(left: u64) {
     let mut input = io::large_buffer();
-    let n = feed::fill(left, &mut input);
+    let n = stdin::fill(left, &mut input);
     show(&input[0..n]);
     if n == 65536 {
         beyond(left - n as u64);
@@ -23,7 +23,7 @@ pub fn show_from(left: u64) {
 
 // What is left of an input that is longer than any output area.
 fn beyond(left: u64) {
-    if 0 < feed::skip(left) {
+    if 0 < stdin::skip(left) {
         text(
             b"stopped at byte 65536: no output area is longer, and the bytes from there on are not shown\n",
         );

@@ -1,9 +1,9 @@
--- `feed::skip` is safe and ends: what has come is no more than was asked for, and each turn leaves less. Assumes nothing.
+-- `stdin::skip` is safe and ends: what has come is no more than was asked for, and each turn leaves less. Assumes nothing.
 use Prim.Native.Nat.{_-_, _≤_}
 use native.Mathlib.Omega.{arith}
 use borrow.Author.Needs.{needs}
-use Rattle.feed.proofs.skip.Statement.{statement}
-use Rattle.feed.proofs.skip.Tie as tie
+use Rattle.stdin.proofs.skip.Statement.{statement}
+use Rattle.stdin.proofs.skip.Tie as tie
 
 abbrev Inv-loop : tie.InvT-loop
 Inv-loop n done₀ done = done ≤ n
