@@ -5,7 +5,7 @@ use mathlib.Core.Bool.{Bool, true, false}
 use mathlib.Core.List.{List, [], _++_}
 use Prim.Native.Nat.{ℕ, _+_, _≤_}
 use native.Mathlib.Omega.{arith}
-use lib.ListN.{length, take}
+use lib.ListN.{length}
 use Rattle.area.specs.Pick.{pick}
 use Rattle.area.specs.Little.{Bytes}
 use Rattle.area.proofs.Laws.Pick.{by, picks, skips}
@@ -15,7 +15,6 @@ use Rattle.sia.specs.Decode.{decode}
 use Rattle.single.specs.Single.{Ran, ran, idsIn, formedInTurn, run}
 use Rattle.single.specs.Input.{numberAt, pricesIn, budgetIn, idsEnd, idsBytes, headBytes, dataBytes, cutShort, answered}
 use Rattle.intake.specs.Reader.{State, state, fresh, fed, readAll, whole, full, holds}
-use Rattle.intake.specs.Gathered.{Gathered}
 use Rattle.intake.specs.Kept.{idsKept, headKept, dataKept, kept, missing, keep, Kept}
 use Rattle.intake.proofs.Laws.Forms.{first-ids, fresh-free}
 use Rattle.intake.proofs.Laws.Heads.{first-bytes}
@@ -95,10 +94,5 @@ keeps-whatever area pieces rest long b e =
     ∙ ap holds (sym (fed-append (state fresh area) (whole pieces) rest))
     ∙ holds-keep area (whole pieces ++ rest) long b
 
-gathered-keeps : (before after : List ℕ) (n : ℕ) → length before ≡ 68810 → (g : Gathered before after n) → take n after ≡ keep (whole (g .came .pieces))
-unfolding holds
-gathered-keeps before after n long g =
-    ap (λ (k : ℕ). take k after) (g .count) ∙ ap holds (g .came .leads) ∙ keeps before (g .came .pieces) long (g .came .bytes)
-
 pub keeping-is-enough : Kept
-keeping-is-enough = record { answers = enough; short = keep-short; reads = keeps; stops = keeps-whatever; gathers = gathered-keeps }
+keeping-is-enough = record { answers = enough; short = keep-short; reads = keeps; stops = keeps-whatever }

@@ -11,7 +11,6 @@ use Rattle.area.specs.Area.{part}
 use Rattle.area.specs.Little.{le8, Bytes}
 use Rattle.single.specs.Input.{numberAt, idsEnd, dataBytes, cutShort, answered}
 use Rattle.intake.specs.Reader.{whole, readAll, full, holds}
-use Rattle.intake.specs.Gathered.{Gathered}
 
 -- how many ids are kept, how many bytes of head, and which data
 unfoldable pub idsKept : List ℕ → ℕ
@@ -46,5 +45,3 @@ pub record Kept : Type 0 where
   -- a reader that is full has it already, whatever follows
   pub stops : (area : List ℕ) (pieces : List (List ℕ)) (rest : List ℕ) → length area ≡ 68810 → Bytes (whole pieces ++ rest)
       → full (readAll area pieces .reader) ≡ true → holds (readAll area pieces) ≡ keep (whole pieces ++ rest)
-  -- so what `gather` leaves at the front of an area is what is kept of all that came
-  pub gathers : (before after : List ℕ) (n : ℕ) → length before ≡ 68810 → (g : Gathered before after n) → take n after ≡ keep (whole (g .came .pieces))

@@ -1,4 +1,4 @@
--- The reader of an input, what is kept of it, and that this is enough.
+-- The reader of an input, what is kept of it, that this is enough, and what reading leaves.
 pub mod Reader
-pub mod Gathered
 pub mod Kept
+pub mod Gathered

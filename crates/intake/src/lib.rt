@@ -298,10 +298,14 @@ fn read_once(turn: Turn, all: &mut [u8]) -> Turn
 }
 
 // Reads an input of at most `left` bytes from standard input, keeps it at the front of an area, and answers how many bytes stand there. It
-// stops where nothing more is kept; where another input follows, it reads on to the end of this one.
+// stops where nothing more is kept; where another input follows, it reads on to the end of this one. For an area of another length it reads
+// nothing.
 pub fn gather(left: u64, follows: bool, all: &mut [u8]) -> usize
-    ensures { λ r. ⌜ Gathered (now (all .entry)) (now (all .exit)) r ⌝ }
+    ensures { λ r. ⌜ Gathered (now (all .exit)) r ⌝ }
 {
+    if all.len() != Reader::KEPT {
+        return 0;
+    }
     let reader = Reader::new();
     let mut turn = Turn { reader, left };
     while more(turn, follows) {

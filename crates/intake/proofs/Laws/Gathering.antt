@@ -13,14 +13,23 @@ use Rattle.sia.specs.Encode.{joined}
 use Rattle.sia.proofs.Laws.Joined.{joined-append}
 use Rattle.rules.proofs.Laws.Ways.{either-way}
 use Rattle.intake.specs.Reader.{State, state, fresh, idsFrom, dataFrom, headFrom, numberTo, nextTo, next, spare, laid, onward}
-use Rattle.intake.specs.Reader.{fedByte, fed, fedAll, readAll, whole, held}
-use Rattle.intake.specs.Gathered.{Feeds, Came, Gathered}
+use Rattle.intake.specs.Reader.{fedByte, fed, fedAll, readAll, whole, held, holds}
+use Rattle.intake.specs.Kept.{missing, keep}
+use Rattle.intake.specs.Gathered.{Feeds, Gathered}
 use Rattle.intake.specs.declared.Section.{Section}
 use Rattle.intake.specs.declared.Section.the-variants.{Front, Ids, Length, Head, Data}
 use Rattle.intake.specs.declared.Reader.{Reader}
+use Rattle.intake.proofs.Laws.Feeding.{fed-whole}
 use Rattle.intake.proofs.Laws.Standing.{long-lowered}
+use Rattle.intake.proofs.Laws.Reading.{holds-keep}
 
 -- ---- a piece behind others
+
+-- pieces came, and lead from a new reader on an area to a state
+pub record Came (before : List ℕ) (s : State) : Type 0 where
+  pub pieces : List (List ℕ)
+  pub bytes : Bytes (whole pieces)
+  pub leads : s ≡ readAll before pieces
 
 no-bytes : Bytes []
 unfolding Bytes
@@ -97,10 +106,22 @@ held-most : (r : Reader) → held r ≤ r .at
 unfolding held
 held-most r = either-way (λ (n : ℕ). n ≤ r .at) _ _ _ (λ _. omega arith) (λ _. omega arith)
 
-pub gathered : {before after : List ℕ} {r : Reader} {n : ℕ} → Came before (state r after) → n ≡ held r → Gathered before after n
-unfolding readAll fresh
-gathered {before} {after} {r} {n} c e =
-    let s : Within (readAll before (c .pieces)) = all-within (state fresh before) (c .pieces) (omega arith) in
+-- what a reader holds that was fed what came
+pub gathered : {before after : List ℕ} {r : Reader} {n : ℕ} → length before ≡ 68810 → Came before (state r after) → n ≡ held r → Gathered after n
+unfolding readAll fresh holds
+gathered {before} {after} {r} {n} long c e =
+    let stays : Within (readAll before (c .pieces)) = all-within (state fresh before) (c .pieces) (omega arith) in
     let at = ap (λ (x : State). x .reader .at) (c .leads) in
-    let long = ap (λ (x : State). length (x .area)) (c .leads) in
-    record { reader = r; came = c; count = e; within = omega (arith, held-most r) }
+    let length-same = ap (λ (x : State). length (x .area)) (c .leads) in
+    record {
+      came = whole (c .pieces);
+      keeps =
+          ap (λ (k : ℕ). take k after) e
+          ∙ ap holds (c .leads ∙ fed-whole (state fresh before) (c .pieces))
+          ∙ holds-keep before (whole (c .pieces)) long (c .bytes);
+      within = omega (arith, held-most r);
+    }
+
+pub gathered-none : (area : List ℕ) → Gathered area 0
+unfolding keep missing
+gathered-none area = record { came = []; keeps = sym (picks _ _ _ (picks _ _ _ refl)); within = omega arith }
