@@ -80,7 +80,7 @@ laid s bs =
 unfoldable pub onward : State → State
 onward s = pick (ltb 0 (s .reader .left)) s (next s)
 
--- one byte
+-- a byte, and the next section where this one has ended
 unfoldable pub fedByte : State → ℕ → State
 fedByte s b = onward (laid s (b ∷ []))
 
@@ -98,11 +98,13 @@ fedAll s (p ∷ ps) = fedAll (fed s p) ps
 unfoldable pub readAll : List ℕ → List (List ℕ) → State
 readAll area pieces = fedAll (state fresh area) pieces
 
+-- all of it
 abbrev pub whole : List (List ℕ) → List ℕ
 whole pieces = joined (λ p. p) pieces
 
 -- ---- what stands in the area
 
+-- whether all that stands ahead of the data has come
 abbrev pub inData : Section → Bool
 inData Front = false
 inData Ids = false

@@ -1,4 +1,5 @@
--- The reader keeps what is to be kept of an input: section by section, as far as the input reaches. Assumes nothing.
+-- The reader keeps what is to be kept of an input. Section by section, as far as the input reaches: where a section is there, what is kept of it
+-- stands behind what stood, and the next begins; where bytes of it are missing, the reader stays in it, and holds nothing. Assumes nothing.
 use mathlib.Core.Path.{_≡_, refl, sym, ap, ap₂, _∙_}
 use mathlib.Core.Bool.{true, false}
 use mathlib.Core.List.{List, [], _∷_, _++_, append-assoc, append-nil}

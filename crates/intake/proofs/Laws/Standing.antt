@@ -99,6 +99,7 @@ module _ (area : List ℕ) (a : ℕ) (k number : List ℕ) (front : take a area 
       (ap (λ (z : List ℕ). part z (a - 8) 8) front ∙ part-next k number (length k) 0 8 refl (omega arith) ∙ part-whole number 8 (sym eight))
 
   module _ (most : ℕ) where
+    -- as it is, or lowered
     pub front-lowered : Bytes number → take a (lowered area a most) ≡ k ++ le8 (min (valueOf number) most)
     unfolding lowered
     front-lowered b =
