@@ -2,26 +2,26 @@
 use mathlib.Core.Path.{_≡_, refl, sym, ap, _∙_, subst}
 use mathlib.Core.Bool.{Bool, true, false, not}
 use mathlib.Core.List.{List}
-use Prim.Native.Nat.{ℕ, zero, suc, _+_, _≤_, _<_}
+use Prim.Native.Nat.{ℕ, zero, suc, _+_, _≤_}
 use native.Mathlib.Nat.{add-assoc}
 use native.Mathlib.Omega.{arith}
-use lib.Dec.{leb, eqb}
-use borrow.Author.Tests.{ltb-false, eqb-true, eqb-false, eq-eqb, ne-eqb, le-leb, lt-leb}
+use lib.Dec.{eqb}
+use borrow.Author.Tests.{ltb-false, eqb-true, eqb-false, eq-eqb, ne-eqb}
 use Rattle.area.specs.Pick.{pick}
-use Rattle.area.proofs.Laws.Pick.{by, picks, skips, both-not-left, both-join, both-not-right}
+use Rattle.area.proofs.Laws.Pick.{by, picks, skips, both-not-left}
 use Rattle.sia.specs.Names.{opOf}
 use Rattle.host.specs.With.{withWritten, withFailed}
 use Rattle.rules.specs.View.{Setting, Turn}
 use Rattle.rules.specs.Inputs.{argsOf, inputsOf}
 use Rattle.rules.specs.Plan.{cost, judgedSource, judgedInputs, judged}
 use Rattle.rules.specs.Run.{failedProgress, failing, ranProgress, succeeding, stepped, current, step, going, ready, runs, run}
-use Rattle.rules.specs.Class.{isKnown, between, classOf}
+use Rattle.rules.specs.Class.{isKnown, classOf}
 use Rattle.rules.specs.Trace.{charges}
 use Rattle.rules.specs.Outcome.{Failed, Instructed}
 use Rattle.rules.proofs.Laws.Steps.{runs-go, runs-stop}
 use Rattle.rules.proofs.Laws.Trails.{stepped-output}
 use Rattle.rules.proofs.Laws.Ways.{either-way}
-use Rattle.rules.specs.declared.class.Class.the-variants.{Invalid, Host, Unknown}
+use Rattle.rules.proofs.Laws.Classes.{is-invalid, is-host}
 use Rattle.sia.specs.declared.Instruction.{Instruction}
 use Rattle.host.specs.declared.Progress.{Progress}
 
@@ -131,23 +131,11 @@ done : Classed 0
 unfolding classOf pick
 done = record { known = refl }
 
--- neither a success nor an interrupt
-failure : (n : ℕ) → 20 < n → classOf n ≡ pick (between 21 28 n) Invalid (pick (between 40 42 n) Host Unknown)
-unfolding classOf
-failure n lo =
-    skips (eqb n 0) _ _ (ne-eqb n 0 (λ (e : n ≡ 0). absurd (omega arith)))
-    ∙ skips (eqb n 20) _ _ (ne-eqb n 20 (λ (e : n ≡ 20). absurd (omega arith)))
-
 invalid : (n : ℕ) → 21 ≤ n → n ≤ 28 → Classed n
-invalid n lo hi = record {
-  known = ap isKnown (failure n (omega arith) ∙ picks (between 21 28 n) _ _ (both-join _ _ (le-leb _ _ lo) (le-leb _ _ hi)));
-}
+invalid n lo hi = record { known = sym (ap isKnown (is-invalid n lo hi)) }
 
 host : (n : ℕ) → 40 ≤ n → n ≤ 42 → Classed n
-host n lo hi = record {
-  known = ap isKnown (failure n (omega arith) ∙ skips (between 21 28 n) _ _ (both-not-right (leb 21 n) (leb n 28) (lt-leb n 28 (omega arith)))
-      ∙ picks (between 40 42 n) _ _ (both-join _ _ (le-leb _ _ lo) (le-leb _ _ hi)));
-}
+host n lo hi = record { known = sym (ap isKnown (is-host n lo hi)) }
 
 -- down the chain of checks
 classed : (z : ℕ) (s : Setting) (i : Instruction) (l : List (List ℕ)) (t : Turn) → Classed (judged z s (t .progress) i l)

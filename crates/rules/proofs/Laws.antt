@@ -16,3 +16,4 @@ pub mod Split
 pub mod Ways
 pub mod Filling
 pub mod Others
+pub mod Classes
