@@ -60,7 +60,7 @@ host = formed 4096 (freshed 4096 32768 16384 .host) id .host
 unfoldable pub sectorHost : Host
 sectorHost = withPlaces host (record { held = true; id = id; size = 4096; slots = zeros 64 } ∷ drop 1 (host .places))
 
--- "output 16,384"; no byte of an area that is lent is 0, so that a 0 is one that was written
+-- "output 16,384"; no byte of stage, input and output is 0 at the start, so that a 0 there is one that was written
 unfoldable pub start : Host → ℕ → Head → Pieced
 start h budget hd =
     let others : ℕ → List ℕ = λ n. replicate n 170 in
