@@ -32,7 +32,7 @@ use Rattle.rules.proofs.Laws.Spots.{every-at, every-get}
 use Rattle.rules.proofs.Laws.Taking.{order-good, order-solid, areas-stage}
 use Rattle.host.specs.declared.Place.{Place}
 use Rattle.host.specs.declared.Host.{Host}
-use Rattle.commit.specs.Marks.{padded}
+use Rattle.commit.specs.Marks.{filled}
 use Rattle.commit.specs.Asks.{Back}
 
 -- ---- zeros behind slots are read as nothing is
@@ -47,24 +47,24 @@ getD-behind [] k i = getD-zeros k i
 getD-behind (x ∷ l) k zero = refl
 getD-behind (x ∷ l) k (suc i) = getD-behind l k i
 
-pub slot-padded : (l : List ℕ) (i : ℕ) → getD (padded l) i 0 ≡ getD l i 0
-unfolding padded
-slot-padded l i = getD-behind l (64 - length l) i
+pub slot-filled : (l : List ℕ) (i : ℕ) → getD (filled l) i 0 ≡ getD l i 0
+unfolding filled
+slot-filled l i = getD-behind l (64 - length l) i
 
 -- `copy_back` copies to the final slots
-pub back-padded : (z : ℕ) (stage staged l : List ℕ) (i n : ℕ) (disk : List ℕ)
-    → copiedBack z stage staged (padded l) i n disk ≡ copiedBack z stage staged l i n disk
+pub back-filled : (z : ℕ) (stage staged l : List ℕ) (i n : ℕ) (disk : List ℕ)
+    → copiedBack z stage staged (filled l) i n disk ≡ copiedBack z stage staged l i n disk
 unfolding copiedBack
-back-padded z stage staged l i zero disk = refl
-back-padded z stage staged l i (suc n) disk =
-    back-padded z stage staged l (suc i) n _
+back-filled z stage staged l i zero disk = refl
+back-filled z stage staged l i (suc n) disk =
+    back-filled z stage staged l (suc i) n _
     ∙ ap (λ (m : ℕ). copiedBack z stage staged l (suc i) n
-    (pick (eqb (getD staged i none) none) disk (put disk (m * z) (part stage (getD staged i none * z) z)))) (slot-padded l i)
+    (pick (eqb (getD staged i none) none) disk (put disk (m * z) (part stage (getD staged i none * z) z)))) (slot-filled l i)
 
 -- `final_place` makes the final place
-pub place-padded : (p : Place) (size : ℕ) (l : List ℕ) → withSlots (withSize p size) (padded l) ≡ finalPlace p size l
-unfolding finalPlace padded
-place-padded p size l = refl
+pub place-filled : (p : Place) (size : ℕ) (l : List ℕ) → withSlots (withSize p size) (filled l) ≡ finalPlace p size l
+unfolding finalPlace filled
+place-filled p size l = refl
 
 -- ---- the sizes of contracts in order
 
@@ -154,18 +154,18 @@ module _ (disk : List ℕ) (h : Host) (stage : List ℕ) (sound : Declared 4096 
       (λ e. absurd (omega (arith, nobody e)))
 
   -- what `copy_back` asks
-  pub backs : {p : Place} {slots : List ℕ} → p ≡ whose id (h .places) → slots ≡ padded (finalSlots 4096 (h .disk) (h .places) p size)
+  pub backs : {p : Place} {slots : List ℕ} → p ≡ whose id (h .places) → slots ≡ filled (finalSlots 4096 (h .disk) (h .places) p size)
       → Back 4096 stage staged slots (size / 4096) disk
   unfolding settingOf
   backs {p} {slots} e q =
       let l = finalSlots 4096 (h .disk) (h .places) (whose id (h .places)) size in
-      let is : slots ≡ padded l = q ∙ ap (λ (x : Place). padded (finalSlots 4096 (h .disk) (h .places) x size)) e in
+      let is : slots ≡ filled l = q ∙ ap (λ (x : Place). filled (finalSlots 4096 (h .disk) (h .places) x size)) e in
       record {
         few = few-sectors;
         each = λ j lt. record {
           source = λ u. within 4096 (getD staged j none) (h .stage) stage (staged-below j u) (areas-stage 4096 h disk stage areas);
           target = λ u. within 4096 (getD slots j 0) (h .disk) disk
-              (omega (arith, final-below j lt, ap (λ (x : List ℕ). getD x j 0) is ∙ slot-padded l j)) (solid .disk);
+              (omega (arith, final-below j lt, ap (λ (x : List ℕ). getD x j 0) is ∙ slot-filled l j)) (solid .disk);
         };
       }
 
@@ -173,7 +173,7 @@ module _ (disk : List ℕ) (h : Host) (stage : List ℕ) (sound : Declared 4096 
 
 pub commit-made : {p place : Place} {slots after : List ℕ} {places : List Place} {growth : ℤ} (disk : List ℕ) (h : Host) (stage : List ℕ)
     → let id = h .program .terms .head .contract in let size = h .program .progress .size in
-    p ≡ whose id (h .places) → slots ≡ padded (finalSlots 4096 (h .disk) (h .places) p size)
+    p ≡ whose id (h .places) → slots ≡ filled (finalSlots 4096 (h .disk) (h .places) p size)
     → place ≡ withSlots (withSize p size) slots → places ≡ replaced id place (h .places) → growth ≡ pos size -ℤ pos (p .size)
     → after ≡ copiedBack 4096 stage (h .program .progress .staged) slots 0 (size / 4096) disk
     → closed 0 (h .program .progress .tally) growth (withProgram (withPlaces h places) noProgram) after ≡ commit 4096 disk h stage
@@ -183,10 +183,10 @@ commit-made {p} {place} {slots} {after} {places} {growth} disk h stage e s q r g
     let size = h .program .progress .size in
     let l : Place → List ℕ = λ x. finalSlots 4096 (h .disk) (h .places) x size in
     let left : ℤ → List Place → List ℕ → Closed = λ n ps d. closed 0 (h .program .progress .tally) n (withProgram (withPlaces h ps) noProgram) d in
-    let final : place ≡ finalPlace p size (l p) = q ∙ ap (withSlots (withSize p size)) s ∙ place-padded p size (l p) in
+    let final : place ≡ finalPlace p size (l p) = q ∙ ap (withSlots (withSize p size)) s ∙ place-filled p size (l p) in
     let back : after ≡ copiedBack 4096 stage (h .program .progress .staged) (l p) 0 (size / 4096) disk =
     a ∙ ap (λ (x : List ℕ). copiedBack 4096 stage (h .program .progress .staged) x 0 (size / 4096) disk) s
-    ∙ back-padded 4096 stage (h .program .progress .staged) (l p) 0 (size / 4096) disk in
+    ∙ back-filled 4096 stage (h .program .progress .staged) (l p) 0 (size / 4096) disk in
     (λ i. left (g i) ((r ∙ ap (λ (x : Place). replaced id x (h .places)) final) i) (back i))
     ∙ ap (λ (x : Place). left (pos size -ℤ pos (x .size)) (replaced id (finalPlace x size (l x)) (h .places))
     (copiedBack 4096 stage (h .program .progress .staged) (l x) 0 (size / 4096) disk)) e

@@ -1,6 +1,6 @@
 -- The laws, a file for each subject.
 pub mod Marks
-pub mod Padded
+pub mod Filled
 pub mod Turns
 pub mod Bytes
 pub mod Growth

@@ -27,5 +27,5 @@ newFrom disk flags zero = []
 newFrom disk flags (suc n) = let x = lowest (unmarked flags) 0 disk in x ∷ newFrom disk (set flags x 1) n
 
 -- slots in an array of 64: zeros behind them
-unfoldable pub padded : List ℕ → List ℕ
-padded l = l ++ zeros (64 - length l)
+unfoldable pub filled : List ℕ → List ℕ
+filled l = l ++ zeros (64 - length l)

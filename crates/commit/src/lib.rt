@@ -12,7 +12,7 @@ ghost use Rattle.host.specs.Places.{committed};
 ghost use Rattle.host.specs.Listed.{listed};
 ghost use Rattle.rules.specs.Commit as Says;
 ghost use Rattle.rules.specs.Commit.{finalSlots, copiedBack};
-ghost use Rattle.commit.specs.Marks.{marksOf, unmarked, newFrom, padded};
+ghost use Rattle.commit.specs.Marks.{marksOf, unmarked, newFrom, filled};
 ghost use Rattle.commit.specs.Asks.{laid, Lies, Back};
 use host::Host;
 use host::Place;
@@ -111,7 +111,7 @@ fn count(place: Place) -> usize
 // The first n slots, and zeros behind them.
 fn first(slots: [u8; 64], n: usize) -> [u8; 64]
     requires { ⌜ n ≤ 64 ⌝ }
-    ensures { λ r. ⌜ r ≡ padded (take n slots) ⌝ }
+    ensures { λ r. ⌜ r ≡ filled (take n slots) ⌝ }
 {
     let mut after = [0u8; 64];
     let mut i: usize = 0;
@@ -126,7 +126,7 @@ fn first(slots: [u8; 64], n: usize) -> [u8; 64]
 pub fn final_slots(disk: u64, places: [Place; 8], place: Place, size: u64) -> [u8; 64]
     requires { ⌜ disk ≤ 64 ⌝ }
     requires { ⌜ size / 4096 ≤ 64 ⌝ }
-    ensures { λ r. ⌜ r ≡ padded (finalSlots 4096 disk places place size) ⌝ }
+    ensures { λ r. ⌜ r ≡ filled (finalSlots 4096 disk places place size) ⌝ }
 {
     let kept = cut(place, size);
     let id = place.id;

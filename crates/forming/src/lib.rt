@@ -4,7 +4,7 @@ ghost use mathlib.Core.Path.{_≡_};
 ghost use mathlib.Core.Bool.{not};
 ghost use Rattle.host.specs.Lists.{some};
 ghost use Rattle.host.specs.Empty.{newPlace};
-ghost use Rattle.host.specs.Calls.{lengthRight, freshed, formedAt, formed, dropped};
+ghost use Rattle.host.specs.Calls.{lengthRight, freshed, padded, formedAt, formed, dropped};
 use host::Answer;
 use host::Host;
 use host::Place;
@@ -34,6 +34,20 @@ fn length_right(n: u64, most: u64) -> bool
         return false;
     }
     host::lent(n / Host::SECTOR, most)
+}
+
+// Whether an id is an identifier of the old service, four bytes filled with zeros: bytes 4 to 31 are all zero.
+fn padded(id: [u8; 32]) -> bool
+    ensures { λ r. ⌜ r ≡ padded id ⌝ }
+{
+    let mut i: usize = 4;
+    while i < 32 {
+        if id[i] != 0 {
+            return false;
+        }
+        i += 1;
+    }
+    true
 }
 
 // Whether a place is free.
@@ -82,8 +96,8 @@ fn formed_at(places: [Place; 8], id: [u8; 32]) -> [Place; 8]
     places
 }
 
-// Forms the contract of an id, of size 0, in the lowest free place: 0; or 1, 3, 5 (the ReadOnly word), 6 (already present), 8 (no
-// free place).
+// Forms the contract of an id, of size 0, in the lowest free place: 0; or 1, 3, 5 (the ReadOnly word), 15 (a padded short id), 6
+// (already present), 8 (no free place).
 pub fn form(host: Host, id: [u8; 32]) -> Answer
     ensures { λ r. ⌜ r ≡ formed 4096 host id ⌝ }
 {
@@ -96,6 +110,9 @@ pub fn form(host: Host, id: [u8; 32]) -> Answer
     }
     if sia::is_read_only(id) {
         return Answer { number: 5, host };
+    }
+    if padded(id) {
+        return Answer { number: 15, host };
     }
     let places = host.places;
     let own = host::place_of(places, id);

@@ -13,7 +13,7 @@ use Rattle.host.specs.Empty.{noPlace, noProgress, noPrices, noTerms, noP
 use Rattle.host.specs.With.{withPlaces}
 use Rattle.host.specs.Places.{hasId, whose, committed, taken}
 use Rattle.host.specs.Order.{lent, placeInOrder, twins, placesInOrder, inOrder}
-use Rattle.host.specs.Calls.{answered, lengthRight, freshed, formedAt, formed, dropped}
+use Rattle.host.specs.Calls.{answered, lengthRight, freshed, padded, formedAt, formed, dropped}
 use Rattle.host.specs.Bench.{idOf, benchHost, twoForms}
 use Rattle.host.specs.declared.Place.{Place}
 
@@ -44,5 +44,5 @@ no-slots-dropped z id = picks _ _ _ (ap not (no-slots-refused z))
 -- ---- "(P) Ids equal but for byte 31 form two contracts."
 
 pub two-contracts : twoForms (idOf 1) (idOf 2) ≡ 0 ∷ 0 ∷ 2 ∷ []
-unfolding twoForms benchHost freshed lengthRight lent bare noPlace noProgram noTerms noPrices noProgress formed inOrder placesInOrder placeInOrder twins taken committed every joined some those apart whose hasId same formedAt newPlace withPlaces pick
+unfolding twoForms benchHost freshed lengthRight lent bare noPlace noProgram noTerms noPrices noProgress padded formed inOrder placesInOrder placeInOrder twins taken committed every joined some those apart whose hasId same formedAt newPlace withPlaces pick
 two-contracts = refl

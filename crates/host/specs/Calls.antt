@@ -3,10 +3,12 @@
 use mathlib.Core.Bool.{Bool, not}
 use mathlib.Core.List.{List, [], _∷_}
 use Prim.Native.Nat.{ℕ, _/_, _%_}
+use lib.ListN.{drop}
 use lib.Dec.{eqb}
 use Rattle.area.specs.Pick.{pick, both}
 use Rattle.area.specs.Area.{same}
 use Rattle.sia.specs.Names.{readOnly}
+use Rattle.sia.specs.Encode.{every}
 use Rattle.host.specs.Lists.{some, each}
 use Rattle.host.specs.Empty.{noPlace, newPlace, bare}
 use Rattle.host.specs.With.{withPlaces}
@@ -30,20 +32,25 @@ freshed z disk stage =
     (pick (not (lengthRight z 16 stage)) (answered 2 (bare 0 0))
     (answered 0 (bare (disk / z) (stage / z))))
 
+-- an identifier of the old service, four bytes filled with zeros: "any id whose last 28 bytes are all zero, the zero id included"
+unfoldable pub padded : List ℕ → Bool
+padded id = every (λ b. eqb b 0) (drop 4 id)
+
 -- "forming takes the lowest free place, with size 0"
 unfoldable pub formedAt : List ℕ → List Place → List Place
 formedAt id [] = []
 formedAt id (p ∷ ps) = let rest = p ∷ formedAt id ps in let here = newPlace id ∷ ps in pick (p .held) rest here
 
--- forming a contract: 1, 3, 5, 6, 8
+-- forming a contract: 1, 3, 5, 15 ("checked right after 5"), 6, 8
 unfoldable pub formed : ℕ → Host → List ℕ → Answer
 formed z h id =
     pick (not (inOrder z h)) (answered 1 h)
     (pick (h .program .active) (answered 3 h)
     (pick (same id readOnly) (answered 5 h)
+    (pick (padded id) (answered 15 h)
     (pick (whose id (h .places) .held) (answered 6 h)
     (pick (not (some (λ p. not (p .held)) (h .places))) (answered 8 h)
-    (answered 0 (withPlaces h (formedAt id (h .places))))))))
+    (answered 0 (withPlaces h (formedAt id (h .places)))))))))
 
 -- the contract of that id gives way to another place
 unfoldable pub replaced : List ℕ → Place → List Place → List Place

@@ -133,8 +133,8 @@ declared-formed : (z : ℕ) (h : Host) (id : List ℕ) → Declared z h → Fine
 unfolding formed withPlaces
 declared-formed z h id d =
     either-way (Fine z) _ _ _ (λ e. d) (λ e. either-way (Fine z) _ _ _ (λ e. d) (λ e. either-way (Fine z) _ _ _ (λ e. d) (λ e.
-    either-way (Fine z) _ _ _ (λ e. d) (λ e. either-way (Fine z) _ _ _ (λ e. d) (λ e.
-    record { some = d .some; places = shaped-formed id (h .places) (d .places); staged = d .staged })))))
+    either-way (Fine z) _ _ _ (λ e. d) (λ e. either-way (Fine z) _ _ _ (λ e. d) (λ e. either-way (Fine z) _ _ _ (λ e. d) (λ e.
+    record { some = d .some; places = shaped-formed id (h .places) (d .places); staged = d .staged }))))))
 
 declared-bare : (z disk stage : ℕ) → 0 < z → Declared z (bare disk stage)
 unfolding bare noPlace noProgram noProgress

@@ -61,7 +61,7 @@ unfolding HostLists.some HostLists.those HostLists.each HostLists.apart HostList
     HostPlaces.ownSize HostPlaces.others HostPlaces.committed HostPlaces.taken HostPlaces.freeCopy HostOrder.lent HostOrder.placeInOrder
     HostOrder.twins HostOrder.placesInOrder HostOrder.slotInOrder HostOrder.clash HostOrder.stagedInOrder HostOrder.parentInOrder
     HostOrder.termsInOrder HostOrder.progressInOrder HostOrder.programInOrder HostOrder.inOrder HostCalls.lengthRight HostCalls.freshed
-    HostCalls.formedAt HostCalls.formed
+    HostCalls.padded HostCalls.formedAt HostCalls.formed
 open-host = 0
 
 -- opens the definitions of rules

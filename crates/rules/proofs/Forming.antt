@@ -20,7 +20,7 @@ use Rattle.host.specs.Empty.{noPlace, noProgram, newPlace, bare}
 use Rattle.host.specs.With.{withPlaces}
 use Rattle.host.specs.Places.{hasId, whose, committed, taken}
 use Rattle.host.specs.Order.{lent, placeInOrder, twins, placesInOrder, inOrder}
-use Rattle.host.specs.Calls.{lengthRight, freshed, formedAt, formed, replaced, dropped}
+use Rattle.host.specs.Calls.{lengthRight, freshed, padded, formedAt, formed, replaced, dropped}
 use Rattle.host.proofs.Laws.Order.{contracts-facts, facts-contracts}
 use Rattle.rules.proofs.Laws.Pigeons.{tail-apart}
 use Rattle.rules.proofs.Laws.Slots.{every-and, every-fore, every-aft, some-and, some-fore, some-aft, join-apart, apart-out}
@@ -188,9 +188,10 @@ forming z h id o =
     either-way (Fine z) (not (inOrder z h)) _ _ (λ e. o) (λ e.
     either-way (Fine z) (h .program .active) _ _ (λ e. o) (λ idling.
     either-way (Fine z) (same id readOnly) _ _ (λ e. o) (λ word.
+    either-way (Fine z) (padded id) _ _ (λ e. o) (λ e.
     either-way (Fine z) (whose id (h .places) .held) _ _ (λ e. o) (λ absent.
     either-way (Fine z) (not (some (λ p. not (p .held)) (h .places))) _ _ (λ e. o) (λ room.
-    idle z h _ o idling (formed-places z (h .disk) id (h .places) word absent (not-false _ room) (in-places z h o)))))))
+    idle z h _ o idling (formed-places z (h .disk) id (h .places) word absent (not-false _ room) (in-places z h o))))))))
 
 pub dropping : (z : ℕ) (h : Host) (id : List ℕ) → inOrder z h ≡ true → Fine z (dropped z h id)
 unfolding dropped

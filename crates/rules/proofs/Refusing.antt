@@ -33,7 +33,7 @@ unfolding formed dropped opened openedHead piece accepted interrupt stopped reac
 refusals z h a = record {
   forming = λ id.
       let or = refused-or (λ r. r .number) (λ n. Contract.answered n h) (λ n. refl) (λ r. r .number ≡ 0 → ⊥) in
-      or _ _ _ (or _ _ _ (or _ _ _ (or _ _ _ (or _ _ _ (λ n. absurd (n refl))))));
+      or _ _ _ (or _ _ _ (or _ _ _ (or _ _ _ (or _ _ _ (or _ _ _ (λ n. absurd (n refl)))))));
   dropping = λ id.
       let or = refused-or (λ r. r .number) (λ n. Contract.answered n h) (λ n. refl) (λ r. r .number ≡ 0 → ⊥) in
       or _ _ _ (or _ _ _ (or _ _ _ (or _ _ _ (λ n. absurd (n refl)))));

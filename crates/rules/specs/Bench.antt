@@ -41,7 +41,7 @@ abbrev pub plenty : ℕ
 plenty = 1000000000
 
 unfoldable pub id : List ℕ
-id = 1 ∷ zeros 31
+id = replicate 32 1
 
 unfoldable pub operand : ℕ → ℕ → Operand
 operand at n = record { offset = at; len = n }
@@ -182,7 +182,7 @@ proofRow = row (λ _. count 64 0 1 ∷ count 64 0 64 ∷ count 128 63 65 ∷ cou
 
 -- "Ids equal but for byte 31 form two contracts."
 unfoldable pub idRow : Row
-idRow = row (λ _. formed 4096 host (set id 31 1) .number ∷ contracts (formed 4096 host (set id 31 1) .host) ∷ []) (0 ∷ 2 ∷ [])
+idRow = row (λ _. formed 4096 host (set id 31 2) .number ∷ contracts (formed 4096 host (set id 31 2) .host) ∷ []) (0 ∷ 2 ∷ [])
 
 unfoldable pub table : List Row
 table = aloneRow ∷ budgetRow ∷ needRow ∷ lateRow ∷ copyRow ∷ swapRow ∷ spanRow ∷ sizeRow ∷ proofRow ∷ idRow ∷ []

@@ -2,7 +2,7 @@
 use native.Mathlib.Omega.{arith}
 use borrow.Author.Tests.{not-true, not-false}
 use Rattle.host.proofs.Laws.Lengths.{placed}
-use Rattle.commit.proofs.Laws.Padded.{count-free, count-held}
+use Rattle.commit.proofs.Laws.Filled.{count-free, count-held}
 use Rattle.commit.proofs.count.Statement.{statement}
 use Rattle.commit.proofs.count.Tie as tie
 

@@ -2,7 +2,7 @@
 use mathlib.Core.Path.{ap, _∙_}
 use borrow.Author.Needs.{needs}
 use Rattle.host.specs.Places.{taken}
-use Rattle.commit.proofs.Laws.Padded.{final-made}
+use Rattle.commit.proofs.Laws.Filled.{final-made}
 use Rattle.commit.proofs.final_slots.Statement.{statement}
 use Rattle.commit.proofs.final_slots.Tie as tie
 

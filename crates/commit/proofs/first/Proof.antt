@@ -8,7 +8,7 @@ use lib.Seq.{length-take-le, getD-take}
 use Rattle.area.specs.Area.{put}
 use Rattle.area.proofs.Laws.Puts.{put-nil}
 use Rattle.area.proofs.Laws.Loops.{one-more, all-laid}
-use Rattle.commit.proofs.Laws.Padded.{padded-first}
+use Rattle.commit.proofs.Laws.Filled.{filled-first}
 use Rattle.commit.proofs.first.Statement.{statement}
 use Rattle.commit.proofs.first.Tie as tie
 
@@ -49,7 +49,7 @@ returns c =
     let l = c .before .loop in
     let s = c .before .before in
     let n = length-take-le (s .args .n) (s .args .t1) (omega (arith, s .good .0 .1 .0 .1)) in
-    all-laid _ 0 (take (s .args .n) (s .args .t1)) (l .i) n (omega arith) (l .inv .1) ∙ padded-first (take (s .args .n) (s .args .t1)) (omega (arith, n))
+    all-laid _ 0 (take (s .args .n) (s .args .t1)) (l .i) n (omega arith) (l .inv .1) ∙ filled-first (take (s .args .n) (s .args .t1)) (omega (arith, n))
 
 pub first-spec : {M : Type 1} → statement M
 first-spec =

@@ -44,10 +44,11 @@ formed-free z h id a =
     let c1 = passes (λ r. r .number) _ (answered 1 h) _ (λ n. absurd (omega arith)) a in
     let c3 = passes (λ r. r .number) _ (answered 3 h) _ (λ n. absurd (omega arith)) (c1 .1) in
     let c5 = passes (λ r. r .number) _ (answered 5 h) _ (λ n. absurd (omega arith)) (c3 .1) in
-    let c6 = passes (λ r. r .number) _ (answered 6 h) _ (λ n. absurd (omega arith)) (c5 .1) in
+    let c15 = passes (λ r. r .number) _ (answered 15 h) _ (λ n. absurd (omega arith)) (c5 .1) in
+    let c6 = passes (λ r. r .number) _ (answered 6 h) _ (λ n. absurd (omega arith)) (c15 .1) in
     let c8 = passes (λ r. r .number) _ (answered 8 h) _ (λ n. absurd (omega arith)) (c6 .1) in
     formed-at-free id (h .places) (not-false _ (c8 .0))
-    ∙ ap (λ (r : Answer). suc (free (r .host .places))) (sym (c1 .2 ∙ c3 .2 ∙ c5 .2 ∙ c6 .2 ∙ c8 .2))
+    ∙ ap (λ (r : Answer). suc (free (r .host .places))) (sym (c1 .2 ∙ c3 .2 ∙ c5 .2 ∙ c15 .2 ∙ c6 .2 ∙ c8 .2))
 
 -- with k places free, the first k + 1 ids are enough
 pub first-ids : (z k : ℕ) (h : Host) (ids : List (List ℕ)) → free (h .places) ≤ k → formedInTurn z h ids ≡ formedInTurn z h (take (suc k) ids)

@@ -11,7 +11,7 @@ use Rattle.host.specs.Places.{committed, taken}
 use Rattle.host.specs.Calls.{replaced}
 use Rattle.rules.specs.Commit.{cut, newSlots, finalSlots}
 use Rattle.host.specs.declared.Place.{Place}
-use Rattle.commit.specs.Marks.{marksOf, newFrom, padded}
+use Rattle.commit.specs.Marks.{marksOf, newFrom, filled}
 use Rattle.commit.proofs.Laws.Marks.{marks-told, new-told, length-new}
 
 cons : (x : ℕ) {l m : List ℕ} → l ≡ m → x ∷ l ≡ x ∷ m
@@ -33,14 +33,14 @@ put-behind [] new k h = put-zeros k new h
 put-behind (x ∷ l) new k h = cons x (put-behind l new k h)
 
 -- the first slots of an array of zeros
-pub padded-first : (l : List ℕ) → length l ≤ 64 → put (zeros 64) 0 l ≡ padded l
-unfolding padded
-padded-first l h = put-zeros 64 l h
+pub filled-first : (l : List ℕ) → length l ≤ 64 → put (zeros 64) 0 l ≡ filled l
+unfolding filled
+filled-first l h = put-zeros 64 l h
 
 -- more slots behind them
-pub padded-more : (l new : List ℕ) → length l + length new ≤ 64 → put (padded l) (length l) new ≡ padded (l ++ new)
-unfolding padded
-padded-more l new h =
+pub filled-more : (l new : List ℕ) → length l + length new ≤ 64 → put (filled l) (length l) new ≡ filled (l ++ new)
+unfolding filled
+filled-more l new h =
     let e : 64 - length l - length new ≡ 64 - length (l ++ new) = omega (arith, length-append l new) in
     put-behind l new (64 - length l) (omega arith)
     ∙ sym (append-assoc l new (zeros (64 - length l - length new)))
@@ -75,21 +75,21 @@ first-committed z p =
 
 -- kept slots in front, new ones behind them
 joined-slots : {flags : List ℕ} (used keep : List ℕ) (disk n : ℕ) → disk ≤ 64 → n ≤ 64 → length keep ≤ 64 → flags ≡ marksOf used
-    → put (padded keep) (length keep) (newFrom disk flags (n - length keep)) ≡ padded (keep ++ newSlots disk used (n - length keep))
+    → put (filled keep) (length keep) (newFrom disk flags (n - length keep)) ≡ filled (keep ++ newSlots disk used (n - length keep))
 joined-slots {flags} used keep disk n few most long e =
-    padded-more keep (newFrom disk flags (n - length keep)) (omega (arith, length-new disk flags (n - length keep)))
-    ∙ ap (λ (l : List ℕ). padded (keep ++ l))
+    filled-more keep (newFrom disk flags (n - length keep)) (omega (arith, length-new disk flags (n - length keep)))
+    ∙ ap (λ (l : List ℕ). filled (keep ++ l))
     (ap (λ (l : List ℕ). newFrom disk l (n - length keep)) e ∙ new-told disk (marksOf used) used (n - length keep) few (marks-told used))
 
 -- as the code makes them, from the place with its positions past the size freed
 pub final-made : {r flags keep used : List ℕ} {kept : Place} {n : ℕ} (z disk : ℕ) (ps : List Place) (p : Place) (size : ℕ) → disk ≤ 64 → size / z ≤ 64
     → kept ≡ cut size p → n ≡ length (committed z kept) → n ≤ 64 → flags ≡ marksOf used → used ≡ taken z (replaced (p .id) kept ps)
-    → keep ≡ padded (take n (kept .slots)) → r ≡ put keep n (newFrom disk flags (size / z - n)) → r ≡ padded (finalSlots z disk ps p size)
+    → keep ≡ filled (take n (kept .slots)) → r ≡ put keep n (newFrom disk flags (size / z - n)) → r ≡ filled (finalSlots z disk ps p size)
 unfolding finalSlots
 final-made {r} {flags} {keep} {used} {kept} {n} z disk ps p size few most k c long f u h w =
-    let own : keep ≡ padded (committed z kept) = h ∙ ap (λ (m : ℕ). padded (take m (kept .slots))) c ∙ ap padded (first-committed z kept) in
+    let own : keep ≡ filled (committed z kept) = h ∙ ap (λ (m : ℕ). filled (take m (kept .slots))) c ∙ ap filled (first-committed z kept) in
     w
     ∙ ap (λ (m : ℕ). put keep m (newFrom disk flags (size / z - m))) c
     ∙ ap (λ (l : List ℕ). put l (length (committed z kept)) (newFrom disk flags (size / z - length (committed z kept)))) own
     ∙ joined-slots (taken z (replaced (p .id) kept ps)) (committed z kept) disk (size / z) few most (omega (arith, c)) (f ∙ ap marksOf u)
-    ∙ ap (λ (q : Place). padded (committed z q ++ newSlots disk (taken z (replaced (p .id) q ps)) (size / z - length (committed z q)))) k
+    ∙ ap (λ (q : Place). filled (committed z q ++ newSlots disk (taken z (replaced (p .id) q ps)) (size / z - length (committed z q)))) k
