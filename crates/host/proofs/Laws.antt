@@ -6,3 +6,4 @@ pub mod Sums
 pub mod Order
 pub mod Forming
 pub mod Lengths
+pub mod Ways

@@ -7,4 +7,6 @@ pub mod Listed
 pub mod Order
 pub mod Facts
 pub mod Calls
+pub mod Padded
+pub mod Renaming
 pub mod Bench

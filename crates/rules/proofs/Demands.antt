@@ -1,4 +1,4 @@
--- The three demands. Assumes nothing.
+-- The three demands, and what document 02's requests add. Assumes nothing.
 use mathlib.Core.Path.{_≡_, sym, ap, _∙_}
 use mathlib.Core.List.{List, [], _∷_}
 use Prim.Native.Nat.{ℕ}
@@ -19,6 +19,7 @@ use Rattle.rules.proofs.Failing.{instructed}
 use Rattle.rules.proofs.Showing.{tells}
 use Rattle.rules.proofs.Commits.{agreements}
 use Rattle.rules.proofs.Visits.{cut, ran, alike, closing-visits}
+use Rattle.rules.proofs.Padded.{short-ids}
 use Rattle.rules.specs.declared.Spot.{Spot}
 
 -- the sector that a root finds has that root
@@ -56,4 +57,5 @@ demands = record {
     roots = found;
   };
   three = record { cut = cut; alike = alike };
+  ids = short-ids;
 }

@@ -14,4 +14,6 @@ pub mod Nothing
 pub mod Showing
 pub mod Arrays
 pub mod Visits
+pub mod Renaming
+pub mod Padded
 pub mod Demands

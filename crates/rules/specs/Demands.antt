@@ -1,8 +1,10 @@
--- The three demands as one statement over the definitions; `demands` in proofs/Demands.antt is its proof. Each call's code is proved equal
--- to its definition (crates forming to machine), so what is said here holds of the calls. Assumes nothing.
+-- The three demands, and what document 02's requests promise besides, as one statement over the definitions; `demands` in
+-- proofs/Demands.antt is its proof. Each call's code is proved equal to its definition (crates forming to machine), so what is said here
+-- holds of the calls. Assumes nothing.
 use Rattle.rules.specs.Demand1.{Demand1}
 use Rattle.rules.specs.Demand2.{Demand2}
 use Rattle.rules.specs.Demand3.{Demand3}
+use Rattle.rules.specs.Padded.{ShortIds}
 
 pub record Demands : Type 0 where
   -- "No input breaks it."
@@ -11,3 +13,5 @@ pub record Demands : Type 0 where
   pub two : Demand2
   -- "in one or more accepted pieces, cut anywhere"
   pub three : Demand3
+  -- "No padded short ids."
+  pub ids : ShortIds

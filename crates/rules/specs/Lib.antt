@@ -14,6 +14,8 @@ pub mod Bench
 pub mod Visit
 pub mod Trace
 pub mod Outcome
+pub mod Renaming
+pub mod Padded
 pub mod Demand1
 pub mod Demand2
 pub mod Demand3

@@ -1,0 +1,7 @@
+-- Every call under new ids, a file for each subject.
+pub mod Heads
+pub mod Steps
+pub mod Opening
+pub mod Programs
+pub mod Closing
+pub mod Alike

@@ -1,0 +1,26 @@
+-- Every call answers the same under new ids. Assumes nothing.
+use mathlib.Core.List.{List}
+use Prim.Native.Nat.{ℕ}
+use Rattle.rules.specs.Calls.{piece, interrupt, reached}
+use Rattle.rules.specs.Visit.{Areas}
+use Rattle.host.specs.Renaming.{Renaming}
+use Rattle.rules.specs.Renaming.{Alike}
+use Rattle.host.proofs.Renaming.Places.{in-order-as}
+use Rattle.host.specs.declared.Host.{Host}
+use Rattle.host.proofs.Renaming.Contracts.{formedAs, forming-as, dropping-as}
+use Rattle.rules.proofs.Renaming.Opening.{openedAs, opening-as}
+use Rattle.rules.proofs.Renaming.Programs.{interruptedAs, interrupt-as, reached-as, piece-as}
+use Rattle.rules.proofs.Renaming.Closing.{closedAs, close-as}
+
+pub alike : (r : List ℕ → List ℕ) → Renaming r → (z : ℕ) (h : Host) (a : Areas) → Alike z r h a
+unfolding formedAs openedAs interruptedAs closedAs
+alike r new z h a = record {
+  order = in-order-as r new z h;
+  forming = forming-as r new z h;
+  dropping = dropping-as r new z h;
+  opening = opening-as r new z h;
+  piece = λ input bytes bytes′ long long′ asks. piece-as r new z h a input bytes bytes′ long long′ asks .is;
+  interrupt = interrupt-as r new z (a .disk) h (a .output);
+  reached = reached-as r new z (a .disk) h (a .stage);
+  closing = λ g. close-as r new z (a .disk) h (a .stage) (g .agree) (g .size) (g .root);
+}
