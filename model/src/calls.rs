@@ -291,9 +291,7 @@ impl Player {
             (Item::Form { .. }, 15) if self.host.places.iter().all(|place| place.held) => {
                 coverage::event("padded id formed with no free place (15 before 8)")
             }
-            (Item::Open { .. }, 0) if host::padded(&self.host.program.head.contract) => {
-                coverage::event("padded id held: opened")
-            }
+            (Item::Open { .. }, 0) if host::padded(&self.host.program.head.contract) => coverage::event("padded id held: opened"),
             (Item::Drop { id }, 0) if host::padded(id) => coverage::event("padded id held: dropped"),
             _ => {}
         }
