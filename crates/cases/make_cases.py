@@ -7,14 +7,15 @@ here = pathlib.Path(__file__).parent
 model = here.parent.parent / "target" / "model" / "model"
 SEED, MADE = 20, 8000
 TIMES = 3  # each thing that can be reached is reached by so many cases, where the generator has them
-ALSO = {3375, 3974, 2078, 43, 735, 3875, 1206, 4345, 1901, 3719}  # inputs of the generator that notice mistakes which the others do not (model/mutants.py)
-DEPOTS, SCRIPTS = 285, 70  # at least so many of the generator's
+# inputs of the generator that notice mistakes which the others do not (model/mutants.py)
+ALSO = {43, 735, 818, 1591, 1901, 2078, 2289, 3375, 3719, 3875, 3974, 4345}
+DEPOTS, SCRIPTS = 280, 70  # at least so many of the generator's
 
 def number(*ns):
     return struct.pack(f"<{len(ns)}Q", *ns)
 
 def generated():
-    """Inputs of the generator: kind, bytes, what each reaches, with its kind, and its place."""
+    """Inputs of the generator: kind, bytes, what each reaches, with its kind, its place, and how many bytes the program writes."""
     with tempfile.TemporaryDirectory() as folder:
         subprocess.run([model, "gen", str(SEED), str(MADE), folder], check=True)
         data = pathlib.Path(folder, "inputs").read_bytes()
@@ -25,16 +26,17 @@ def generated():
         bytes_ = data[at + 9 : at + 9 + int(length)]
         at += 9 + int(length)
         if len(bytes_) <= 60_000 and int(written) <= 250_000:
-            all.append((kind, bytes_, {(kind, thing) for thing in reached}, place))
+            all.append((kind, bytes_, {(kind, thing) for thing in reached}, place, int(written)))
     return all
 
 def chosen(inputs):
-    """The shortest inputs that reach all, then the shortest ones up to the numbers asked for, in the generator's order."""
+    """The shortest inputs that reach all (scripts also by what is written for them), then the shortest ones up to the numbers asked for, in
+    the generator's order."""
     def short(i):
-        return len(inputs[i][1]) + (0 if inputs[i][0] == "d" else 200 * inputs[i][1].count(b"\0" * 6) // 100)
+        return len(inputs[i][1]) + (0 if inputs[i][0] == "d" else inputs[i][4] // 8)
     order = sorted(range(len(inputs)), key=short)
     times, kept = {}, {i for i in order if inputs[i][3] in ALSO}
-    for thing in sorted(set().union(*(reached for _, _, reached, _ in inputs))):
+    for thing in sorted(set().union(*(reached for _, _, reached, *_ in inputs))):
         for i in order:
             if times.get(thing, 0) >= TIMES:
                 break
@@ -116,8 +118,8 @@ def short_depots():
     both = [ONE[4], ONE[31]]
     yield from (program(id, formed, grow) for id in both for formed in (both, both[::-1]))
     yield from (program(id, [MANY[0]], grow) for id in (*SHORT[:2], *both))
-    for formed in ([WORD, SHORT[0]], [SHORT[0], WORD], [MANY[0], MANY[0], SHORT[1]], [SHORT[1], SHORT[1]], both + both, [b"old1\1".ljust(32, b"\0"), SHORT[1]]):
-        yield program(MANY[0], formed, grow)
+    yield from (program(MANY[0], formed, grow) for formed in ([WORD, SHORT[0]], [SHORT[0], WORD], [SHORT[1], SHORT[1]], both + both))
+    yield from (program(MANY[0], [*formed, SHORT[1]], grow) for formed in ([MANY[0], MANY[0]], [b"old1\1".ljust(32, b"\0")]))
     yield from (program(MANY[0], MANY[:8] + [id], grow) for id in (*SHORT[:2], WORD, ONE[4], MANY[8]))
     yield program(SHORT[1], [SHORT[1]], grow)[:-1]
     yield program(SHORT[1], [SHORT[1]], grow).replace(number(10**9), number(0))
@@ -149,7 +151,8 @@ def short_scripts():
         return b"".join(b"d" + id for id in ids)
     def opened(contract, *steps):
         head, data = head_and_data(contract, steps)
-        return b"o" + number(room, 10**9, 7, 1, 3, 2, 5, 4, 6, len(head)) + head, b"p" + number(disk, stage, len(data), room, len(data)) + data
+        start = b"o" + number(room, 10**9, 7, 1, 3, 2, 5, 4, 6, len(head)) + head
+        return start, b"p" + number(disk, stage, len(data), room, len(data)) + data
     def agree(b):
         return b"a" + number(disk, stage, len(b)) + root(b)
     def visit(contract, after, *steps):
@@ -165,12 +168,15 @@ def short_scripts():
     contract, zero, old = MANY[0], *SHORT[:2]
     # formed: refused, and beside them not
     yield fresh + form(*SHORT, WORD) + drop(zero, old)
-    yield fresh + form(ONE[4], ONE[31], ONE[3], ONE[4], ONE[31]) + visit(ONE[31], bytes(4096), grow(1)) + drop(ONE[4]) + form(zero, ONE[5], ONE[30])
+    formed = form(ONE[4], ONE[31], ONE[3], ONE[4], ONE[31])
+    yield fresh + formed + visit(ONE[31], bytes(4096), grow(1)) + drop(ONE[4]) + form(zero, ONE[5], ONE[30])
     yield fresh + form(b"old1\1".ljust(32, b"\0"), old, b"ReadO".ljust(32, b"\0"), b"Read".ljust(31, b"\0") + b"y")
     # 1 first: no host yet, a host with no slots, a host out of order; then 3, in a program and in read-only mode
-    yield form(zero, old) + b"F" + number(0, 0) + b"\0" + form(zero, old) + fresh + poke(0, 0, 0, 65) + form(zero, old) + poke(0, 0, 0, 8) + form(zero, old)
+    both = form(zero, old)
+    yield both + b"F" + number(0, 0) + b"\0" + both + fresh + poke(0, 0, 0, 65) + both + poke(0, 0, 0, 8) + both
     for id in (contract, WORD):
-        yield fresh + form(contract) + held(2, old) + opened(id, grow(1))[0] + form(zero, old, WORD) + drop(zero, old) + give_up + form(zero, old) + drop(zero, old)
+        ready = fresh + form(contract) + held(2, old) + opened(id, grow(1))[0]
+        yield ready + both + form(WORD) + drop(zero, old) + give_up + both + drop(zero, old)
     # 15 before 6 and before 8: held, eight held, and both
     for id in SHORT[:2]:
         yield fresh + held(0, id) + form(id, contract, id) + drop(id) + form(id, MANY[1])
@@ -179,18 +185,21 @@ def short_scripts():
     # held, and usable: opened, grown, written, agreed to, read by other programs, shrunk, dropped, then gone
     for id, place in ((zero, 7), (old, 2)):
         sector = bytes(100) + b"snack" + bytes(3991)
-        yield (fresh + form(contract) + held(place, id) + visit(id, sector + bytes(4096), grow(1), write(100, b"snack"), grow(2)) + form(id)
-            + visit(contract, b"", read(id, 100, 5)) + visit(WORD, b"", read(id, 96, 64)) + visit(id, sector, grow(1), read(id, 0, 105))
-            + form(id) + drop(id, id) + form(id) + b"".join(opened(contract, read(id, 0, 1))) + give_up + opened(id, grow(1))[0])
+        changed = visit(id, sector + bytes(4096), grow(1), write(100, b"snack"), grow(2)) + form(id)
+        reads = visit(contract, b"", read(id, 100, 5)) + visit(WORD, b"", read(id, 96, 64)) + visit(id, sector, grow(1), read(id, 0, 105))
+        gone = b"".join(opened(contract, read(id, 0, 1))) + give_up + opened(id, grow(1))[0]
+        yield fresh + form(contract) + held(place, id) + changed + reads + form(id) + drop(id, id) + form(id) + gone
     # held with sectors of its own, beside an id that differs from it in a late byte only, and beside another padded one
-    filled = b"\x55" * 4096
-    near = old[:31] + b"\1"
-    yield (fresh + held(5, old, 3, 1) + held(2, SHORT[4], 0) + form(near) + visit(near, filled[:0], read(old, 4095, 1)) + visit(old, filled * 2 + bytes(4096), grow(3))
-        + visit(SHORT[4], b"new" + filled[3:], write(0, b"new"), read(old, 4000, 90)) + visit(near, bytes(4096), read(SHORT[4], 0, 4), grow(1)) + drop(old, SHORT[4]) + form(SHORT[4], old))
+    filled, near, other = b"\x55" * 4096, old[:31] + b"\1", SHORT[4]
+    ready = fresh + held(5, old, 3, 1) + held(2, other, 0) + form(near)
+    visits = visit(near, b"", read(old, 4095, 1)) + visit(old, filled * 2 + bytes(4096), grow(3))
+    visits += visit(other, b"new" + filled[3:], write(0, b"new"), read(old, 4000, 90)) + visit(near, bytes(4096), read(other, 0, 4), grow(1))
+    yield ready + visits + drop(old, other) + form(other, old)
     # two places under one padded id, which is out of order; an id made a padded one by a poke, with its program open too
     yield fresh + held(1, zero) + held(4, zero) + form(contract, zero) + drop(zero) + poke(3, 4, 2, 7) + form(contract, zero) + drop(zero)
     start, data = opened(ONE[31], grow(1))
-    yield fresh + form(ONE[31]) + poke(3, 0, 31, 0) + form(zero) + poke(3, 0, 31, 1) + start + poke(3, 0, 31, 0) + data + poke(16, 31, 0, 0) + data + agree(bytes(4096)) + form(zero) + drop(zero)
+    ready = fresh + form(ONE[31]) + poke(3, 0, 31, 0) + form(zero) + poke(3, 0, 31, 1) + start + poke(3, 0, 31, 0) + data
+    yield ready + poke(16, 31, 0, 0) + data + agree(bytes(4096)) + form(zero) + drop(zero)
 
 def scripts():
     """Scripts of `calls` that are cut off, that lend too much, or that poke past an array or a width."""
