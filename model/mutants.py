@@ -1,7 +1,8 @@
 #!/usr/bin/env python3
-"""Puts mistakes into a copy of the model, one at a time, and looks whether random inputs notice them.
+"""Puts mistakes into a copy of the model, one at a time, and looks whether random inputs, or those of a file, notice them.
 
-use: model/mutants.py [SEED [N]]      (after model/run check, which builds the model)
+use: model/mutants.py [SEED [N]]
+     model/mutants.py FILE            (a file as `model gen` makes it, such as crates/cases/stdin)
 
 All mistakes go into one copy, each behind a switch, so that the copy is built once. A mistake that no input notices shows a gap in
 the generator, or is none that a caller can see.
@@ -90,6 +91,23 @@ MISTAKES = [
     ("host", "(0..8).find(|&p| !self.places[p].held)", "(0..8).rfind(|&p| !self.places[p].held)"),
     ("host", "Place { held: true, id: *id, ..EMPTY_PLACE }", "Place { held: true, id: *id, ..self.places[free] }"),
     ("host", "self.places[place] = EMPTY_PLACE", "self.places[place].held = false"),
+    ("host", "padded(id)", "padded(id) && self.find(id).is_none()"),
+    ("host", "padded(id)", "padded(id) && self.places.iter().any(|place| !place.held)"),
+    ("host", "padded(id)", "padded(id) && *id != [0; 32]"),
+    ("host", "id[32 - 28..].iter().all(|&byte| byte == 0)", "id[5..].iter().all(|&byte| byte == 0)"),
+    ("host", "id[32 - 28..].iter().all(|&byte| byte == 0)", "id[4..31].iter().all(|&byte| byte == 0)"),
+    ("host", "id[32 - 28..].iter().all(|&byte| byte == 0)", "id[3..].iter().all(|&byte| byte == 0)"),
+    ("host", "id[32 - 28..].iter().all(|&byte| byte == 0)", "id.iter().all(|&byte| byte == 0)"),
+    ("host", "id[32 - 28..].iter().all(|&byte| byte == 0)", "id[4] == 0 && id[31] == 0"),
+    ("host", "return 15", "return 5"),
+    ("host", "return 1", "{ if padded(id) { return 15; } return 1 }"),
+    ("host", "return 3", "{ if padded(id) { return 15; } return 3 }"),
+    ("host", "self.places[place] = EMPTY_PLACE", "{ if padded(id) { return 15; } self.places[place] = EMPTY_PLACE }"),
+    ("host", "return 7", "{ if padded(id) { return 15; } return 7 }"),
+    ("host", "place.id == head::read_only_word()", "place.id == head::read_only_word() || padded(&place.id)"),
+    ("program", "head.contract != head::read_only_word() && parent.is_none()", "head.contract != head::read_only_word() && (parent.is_none() || padded(&head.contract))"),
+    ("program", "return 7", "{ if padded(&head.contract) { return 15; } return 7 }"),
+    ("instruction", "host.find(contract).ok_or(25u64)?", "host.find(contract).filter(|_| !padded(contract)).ok_or(25u64)?"),
     ("head", "number > most", "number >= most"),
     ("head", "flag > 1", "flag > 2"),
     ("head", "!reader.rest.is_empty()", "false"),
@@ -110,7 +128,8 @@ def conditions(text):
 
 
 def main():
-    seed, count = (sys.argv[1:] + ["1", "1000"][len(sys.argv) - 1:])[:2]
+    named = sys.argv[1] if len(sys.argv) == 2 and not sys.argv[1].isdigit() else None
+    seed, count = ("", "") if named else (sys.argv[1:] + ["1", "1000"][len(sys.argv) - 1:])[:2]
     root = pathlib.Path(__file__).resolve().parent
     work = root.parent / "target/model/mutants"
     (work / "src").mkdir(parents=True, exist_ok=True)
@@ -131,15 +150,16 @@ def main():
         (work / "src" / f"{name}.rs").write_text(text)
     program = work / "model"
     subprocess.run(["rustc", "-A", "warnings", "--edition", "2021", "-O", "-C", "target-cpu=native", "-C", "overflow-checks=on", "-o", program, work / "src/main.rs"], check=True)
-    subprocess.run([program, "gen", seed, count, work], check=True)
-    inputs = str(work / "inputs")
+    inputs = named or str(work / "inputs")
+    if not named:
+        subprocess.run([program, "gen", seed, count, work], check=True)
     right = subprocess.run([program, "digests", inputs], capture_output=True, check=True).stdout.split(b"\n")
     unnoticed = 0
     for number, (file, old, new) in enumerate(mistakes):
         noticed = first_difference(program, inputs, number, right)
         unnoticed += noticed is None
         print(f"{number}: {file}: {old}  =>  {new}: {'NOT NOTICED' if noticed is None else f'input {noticed}'}", flush=True)
-    print(f"{len(mistakes)} mistakes, {unnoticed} not noticed by {count} inputs of seed {seed}")
+    print(f"{len(mistakes)} mistakes, {unnoticed} not noticed by {f'the inputs of {named}' if named else f'{count} inputs of seed {seed}'}")
 
 
 def first_difference(program, inputs, number, right):

@@ -1,20 +1,21 @@
 #!/usr/bin/env python3
 """Makes `stdin` and `stdout`. The cases are inputs that the model's generator makes, chosen so that all is reached that it can reach, and
 inputs at the edges of what each program reads; the lines are the model's. `model/run check` builds the model."""
-import pathlib, struct, subprocess, tempfile
+import hashlib, pathlib, struct, subprocess, tempfile
 
 here = pathlib.Path(__file__).parent
 model = here.parent.parent / "target" / "model" / "model"
 SEED, MADE = 20, 8000
 TIMES = 3  # each thing that can be reached is reached by so many cases, where the generator has them
-ALSO = {625, 817, 1416, 1803, 2338, 2861, 2972, 4177, 6861, 6867, 7229, 657}  # inputs of the generator that notice mistakes which the others do not (model/mutants.py)
-DEPOTS, SCRIPTS = 330, 70  # at least so many of the generator's
+# inputs of the generator that notice mistakes which the others do not (model/mutants.py)
+ALSO = {43, 735, 818, 1591, 1901, 2078, 2289, 3375, 3719, 3875, 3974, 4345}
+DEPOTS, SCRIPTS = 280, 70  # at least so many of the generator's
 
 def number(*ns):
     return struct.pack(f"<{len(ns)}Q", *ns)
 
 def generated():
-    """Inputs of the generator: kind, bytes, what each reaches, with its kind, and its place."""
+    """Inputs of the generator: kind, bytes, what each reaches, with its kind, its place, and how many bytes the program writes."""
     with tempfile.TemporaryDirectory() as folder:
         subprocess.run([model, "gen", str(SEED), str(MADE), folder], check=True)
         data = pathlib.Path(folder, "inputs").read_bytes()
@@ -25,16 +26,17 @@ def generated():
         bytes_ = data[at + 9 : at + 9 + int(length)]
         at += 9 + int(length)
         if len(bytes_) <= 60_000 and int(written) <= 250_000:
-            all.append((kind, bytes_, {(kind, thing) for thing in reached}, place))
+            all.append((kind, bytes_, {(kind, thing) for thing in reached}, place, int(written)))
     return all
 
 def chosen(inputs):
-    """The shortest inputs that reach all, then the shortest ones up to the numbers asked for, in the generator's order."""
+    """The shortest inputs that reach all (scripts also by what is written for them), then the shortest ones up to the numbers asked for, in
+    the generator's order."""
     def short(i):
-        return len(inputs[i][1]) + (0 if inputs[i][0] == "d" else 200 * inputs[i][1].count(b"\0" * 6) // 100)
+        return len(inputs[i][1]) + (0 if inputs[i][0] == "d" else inputs[i][4] // 8)
     order = sorted(range(len(inputs)), key=short)
     times, kept = {}, {i for i in order if inputs[i][3] in ALSO}
-    for thing in sorted(set().union(*(reached for _, _, reached, _ in inputs))):
+    for thing in sorted(set().union(*(reached for _, _, reached, *_ in inputs))):
         for i in order:
             if times.get(thing, 0) >= TIMES:
                 break
@@ -48,8 +50,8 @@ def chosen(inputs):
         kept.update(rest[len(rest) // 3 :][: max(missing, 0)])
     return [inputs[i][:2] for i in sorted(kept)]
 
-def program(contract, formed, *steps):
-    """An input of `depot` with these contracts and steps: a name and its inputs."""
+def head_and_data(contract, steps):
+    """A head and its data, for steps: a name and its inputs."""
     data, head = b"", b""
     for name, *inputs in steps:
         head += name.ljust(16, b"\0") + number(len(inputs))
@@ -57,7 +59,11 @@ def program(contract, formed, *steps):
             head += number(len(data), len(one))
             data += one
         head += b"\0"
-    head = contract + number(len(steps)) + head + number(len(data))
+    return contract + number(len(steps)) + head + number(len(data)), data
+
+def program(contract, formed, *steps):
+    """An input of `depot` with these contracts and steps."""
+    head, data = head_and_data(contract, steps)
     return number(7, 7, 1, 3, 2, 5, 4, 6, 10**9, len(formed)) + b"".join(formed) + number(len(head)) + head + data
 
 def depots():
@@ -96,6 +102,104 @@ def depots():
         yield front + number(1) + contract + number(len(long)) + long + number(4096)
     long = head[:-8] + number(65_536)
     yield from (front + number(1) + contract + number(len(long)) + long + number(4096) + bytes(n) for n in (65_528, 65_529, 66_000))
+
+# Ids that are padded (bytes 4 to 31 zero), and ids of zeros but for one byte.
+SHORT = [word.ljust(32, b"\0") for word in (b"", b"old1", b"\xff" * 4, b"Read", b"\1", b"\0\0\0\1")]
+ONE = [bytes(k) + b"\1" + bytes(31 - k) for k in range(32)]
+MANY = [bytes([k]) * 32 for k in range(1, 10)]
+WORD = b"ReadOnly".ljust(32, b"\0")
+
+def short_depots():
+    """Inputs of `depot` that form padded ids (15), ids beside them, and those of other refusals with them."""
+    grow = b"Truncate", number(4096)
+    yield from (program(id, [id], grow) for id in (*SHORT, WORD, ONE[4], ONE[31]))
+    yield from (program(MANY[0], [MANY[0], id], grow) for id in (*SHORT[:4], WORD, ONE[4], ONE[31]))
+    yield from (program(ONE[k], ONE[k : k + 7], grow) for k in (4, 11, 18, 25))
+    both = [ONE[4], ONE[31]]
+    yield from (program(id, formed, grow) for id in both for formed in (both, both[::-1]))
+    yield from (program(id, [MANY[0]], grow) for id in (*SHORT[:2], *both))
+    yield from (program(MANY[0], formed, grow) for formed in ([WORD, SHORT[0]], [SHORT[0], WORD], [SHORT[1], SHORT[1]], both + both))
+    yield from (program(MANY[0], [*formed, SHORT[1]], grow) for formed in ([MANY[0], MANY[0]], [b"old1\1".ljust(32, b"\0")]))
+    yield from (program(MANY[0], MANY[:8] + [id], grow) for id in (*SHORT[:2], WORD, ONE[4], MANY[8]))
+    yield program(SHORT[1], [SHORT[1]], grow)[:-1]
+    yield program(SHORT[1], [SHORT[1]], grow).replace(number(10**9), number(0))
+
+def root(b):
+    """The root of a contract's bytes, of 64 a segment."""
+    if len(b) <= 64:
+        return hashlib.blake2b(b"\0" + b, digest_size=32).digest() if b else bytes(32)
+    k = 64
+    while 2 * k < len(b):
+        k *= 2
+    return hashlib.blake2b(b"\1" + root(b[:k]) + root(b[k:]), digest_size=32).digest()
+
+def poke(*ns):
+    return b"x" + number(*ns)
+
+def held(place, id, *slots):
+    """Pokes that put a contract under this id into a place that holds zeros, with these disk slots."""
+    pokes = [(3, place, j, id[j]) for j in range(32) if id[j]] + [(5, place, j, slot) for j, slot in enumerate(slots)]
+    return b"".join(poke(*ns) for ns in pokes) + (poke(4, place, 0, 4096 * len(slots)) if slots else b"") + poke(2, place, 0, 1)
+
+def short_scripts():
+    """Scripts of `calls` that form padded ids, each check ahead of 15 and behind it, and contracts held under padded ids, which stay usable."""
+    disk, stage, room = 8 * 4096, 4 * 4096, 4096
+    fresh = b"F" + number(disk, stage) + b"\x55"
+    def form(*ids):
+        return b"".join(b"f" + id for id in ids)
+    def drop(*ids):
+        return b"".join(b"d" + id for id in ids)
+    def opened(contract, *steps):
+        head, data = head_and_data(contract, steps)
+        start = b"o" + number(room, 10**9, 7, 1, 3, 2, 5, 4, 6, len(head)) + head
+        return start, b"p" + number(disk, stage, len(data), room, len(data)) + data
+    def agree(b):
+        return b"a" + number(disk, stage, len(b)) + root(b)
+    def visit(contract, after, *steps):
+        """A program that ends with these bytes, what it reaches, and the agreement to that."""
+        return b"".join(opened(contract, *steps)) + b"r" + number(disk, stage) + agree(after)
+    give_up = b"g" + number(disk, stage)
+    def grow(n):
+        return b"Truncate", number(4096 * n)
+    def write(at, b):
+        return b"Write", number(at), number(len(b)) + b
+    def read(id, at, n):
+        return b"Read", id, number(at), number(n)
+    contract, zero, old = MANY[0], *SHORT[:2]
+    # formed: refused, and beside them not
+    yield fresh + form(*SHORT, WORD) + drop(zero, old)
+    formed = form(ONE[4], ONE[31], ONE[3], ONE[4], ONE[31])
+    yield fresh + formed + visit(ONE[31], bytes(4096), grow(1)) + drop(ONE[4]) + form(zero, ONE[5], ONE[30])
+    yield fresh + form(b"old1\1".ljust(32, b"\0"), old, b"ReadO".ljust(32, b"\0"), b"Read".ljust(31, b"\0") + b"y")
+    # 1 first: no host yet, a host with no slots, a host out of order; then 3, in a program and in read-only mode
+    both = form(zero, old)
+    yield both + b"F" + number(0, 0) + b"\0" + both + fresh + poke(0, 0, 0, 65) + both + poke(0, 0, 0, 8) + both
+    for id in (contract, WORD):
+        ready = fresh + form(contract) + held(2, old) + opened(id, grow(1))[0]
+        yield ready + both + form(WORD) + drop(zero, old) + give_up + both + drop(zero, old)
+    # 15 before 6 and before 8: held, eight held, and both
+    for id in SHORT[:2]:
+        yield fresh + held(0, id) + form(id, contract, id) + drop(id) + form(id, MANY[1])
+    yield fresh + form(*MANY[:8]) + form(zero, old, MANY[8], WORD, MANY[0]) + drop(MANY[3]) + form(zero, MANY[8])
+    yield fresh + form(*MANY[:7]) + held(7, old) + form(old, zero, MANY[8]) + drop(old) + form(old, MANY[8])
+    # held, and usable: opened, grown, written, agreed to, read by other programs, shrunk, dropped, then gone
+    for id, place in ((zero, 7), (old, 2)):
+        sector = bytes(100) + b"snack" + bytes(3991)
+        changed = visit(id, sector + bytes(4096), grow(1), write(100, b"snack"), grow(2)) + form(id)
+        reads = visit(contract, b"", read(id, 100, 5)) + visit(WORD, b"", read(id, 96, 64)) + visit(id, sector, grow(1), read(id, 0, 105))
+        gone = b"".join(opened(contract, read(id, 0, 1))) + give_up + opened(id, grow(1))[0]
+        yield fresh + form(contract) + held(place, id) + changed + reads + form(id) + drop(id, id) + form(id) + gone
+    # held with sectors of its own, beside an id that differs from it in a late byte only, and beside another padded one
+    filled, near, other = b"\x55" * 4096, old[:31] + b"\1", SHORT[4]
+    ready = fresh + held(5, old, 3, 1) + held(2, other, 0) + form(near)
+    visits = visit(near, b"", read(old, 4095, 1)) + visit(old, filled * 2 + bytes(4096), grow(3))
+    visits += visit(other, b"new" + filled[3:], write(0, b"new"), read(old, 4000, 90)) + visit(near, bytes(4096), read(other, 0, 4), grow(1))
+    yield ready + visits + drop(old, other) + form(other, old)
+    # two places under one padded id, which is out of order; an id made a padded one by a poke, with its program open too
+    yield fresh + held(1, zero) + held(4, zero) + form(contract, zero) + drop(zero) + poke(3, 4, 2, 7) + form(contract, zero) + drop(zero)
+    start, data = opened(ONE[31], grow(1))
+    ready = fresh + form(ONE[31]) + poke(3, 0, 31, 0) + form(zero) + poke(3, 0, 31, 1) + start + poke(3, 0, 31, 0) + data
+    yield ready + poke(16, 31, 0, 0) + data + agree(bytes(4096)) + form(zero) + drop(zero)
 
 def scripts():
     """Scripts of `calls` that are cut off, that lend too much, or that poke past an array or a width."""
@@ -172,7 +276,7 @@ def cut_items(fresh):
     yield from (opened + piece(long[:n], 65_539) for n in (65_536, 65_537, 65_538))
     yield from (opened + piece(long[:9], n) for n in (65_536, 65_537, 65_538, 2**64 - 1))
 
-cases = chosen(generated()) + [("d", b) for b in depots()] + [("c", b) for b in scripts()]
+cases = chosen(generated()) + [("d", b) for f in (depots, short_depots) for b in f()] + [("c", b) for f in (scripts, short_scripts) for b in f()]
 given = b"".join(kind.encode() + number(len(b)) + b for kind, b in cases)
 here.joinpath("stdin").write_bytes(given)
 lines = subprocess.run([model, "cases"], input=given, capture_output=True, check=True).stdout

@@ -1,7 +1,7 @@
 #!/usr/bin/env python3
 """Makes `stdin`, inputs of `show` (each as its length in 8 bytes and its bytes), and `stdout`, what `show` must print for each. The words are
-those of document 01's tables, and records are read as it lays them out: number, cost, size (8 bytes each), root (32), proof count and hashes,
-output count and bytes."""
+those of document 01's tables, for 15 document 02's, and records are read as document 01 lays them out: number, cost, size (8 bytes each), root
+(32), proof count and hashes, output count and bytes."""
 import pathlib, struct
 
 REFUSALS = {
@@ -19,6 +19,7 @@ REFUSALS = {
     12: "data passes the declared length",
     13: "program not ended",
     14: "agreed size or root differs",
+    15: "id is four bytes filled with zeros",
 }
 FAILURES = {
     20: "interrupted",
@@ -106,7 +107,7 @@ def failure(n):
 
 def inputs():
     yield b""
-    yield from map(number, (*range(16), 20, 2**32, LAST))
+    yield from map(number, (*range(17), 20, 2**32, LAST))
     yield from (made(), made(size=LAST, cost=LAST), bytes(72), bytes(144))
     yield from (made(output=some(n)) for n in (1, 63, 64, 65, 4096))
     yield from (made(hashes=n, output=some(64)) for n in (1, 2, 12))

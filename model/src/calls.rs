@@ -206,6 +206,7 @@ impl Player {
         self.note_events(item);
         let answered = self.call(item);
         coverage::answer(item_name(item), answered.answer);
+        self.note_ids(item, answered.answer);
         answered
     }
 
@@ -280,6 +281,22 @@ impl Player {
         }
     }
 
+    /// Counts of padded ids (M-106) and of ids beside them, after the call.
+    fn note_ids(&self, item: &Item, answer: u64) {
+        let behind = |id: &[u8; 32]| (4..32).filter(|&at| id[at] != 0).collect::<Vec<usize>>();
+        match (item, answer) {
+            (Item::Form { id }, 0) if behind(id) == [4] => coverage::event("id formed with byte 4 alone behind its first four"),
+            (Item::Form { id }, 0) if behind(id) == [31] => coverage::event("id formed with byte 31 alone behind its first four"),
+            (Item::Form { id }, 15) if self.host.find(id).is_some() => coverage::event("padded id held: formed (15 before 6)"),
+            (Item::Form { .. }, 15) if self.host.places.iter().all(|place| place.held) => {
+                coverage::event("padded id formed with no free place (15 before 8)")
+            }
+            (Item::Open { .. }, 0) if host::padded(&self.host.program.head.contract) => coverage::event("padded id held: opened"),
+            (Item::Drop { id }, 0) if host::padded(id) => coverage::event("padded id held: dropped"),
+            _ => {}
+        }
+    }
+
     fn note_commit(&self, disk: u64, stage: u64, size: u64, root: &[u8; 32]) {
         let reached = self.host.reached(&self.disk[..disk as usize], &self.stage[..stage as usize]);
         if reached != (0, size, *root) || !self.host.ended() || self.host.program.failed {
@@ -300,6 +317,9 @@ impl Player {
         }
         if size == 64 * SECTOR {
             coverage::event("contract at 64 sectors");
+        }
+        if host::padded(&self.host.places[place].id) {
+            coverage::event("padded id held: committed");
         }
     }
 }

@@ -16,7 +16,7 @@ const A: [u8; 32] = [0xA1; 32];
 const B: [u8; 32] = [0xB2; 32];
 
 pub fn run() {
-    let tests: [(&str, fn()); 26] = [
+    let tests: [(&str, fn()); 28] = [
         ("RFC 7693: abc", abc),
         ("RFC 7693: Appendix E self-test", self_test),
         ("hash: lengths refused", hash_lengths),
@@ -34,6 +34,8 @@ pub fn run() {
         ("bench (P): Truncate to 4,095 or 8,192", truncate_bad),
         ("bench (P): ids that differ in byte 31", close_ids),
         ("forming and dropping", forming),
+        ("M-106: padded ids refused, in their turn", padded_ids),
+        ("M-106: a contract held under a padded id stays usable", padded_id_held),
         ("bench: the depot program", depot_program),
         ("interrupts", interrupts),
         ("commits and slots", commits),
@@ -422,7 +424,7 @@ fn forming() {
     let read_only = head::read_only_word();
     assert_eq!(bench.host.form(&read_only), 5);
     assert_eq!(bench.host.form(&A), 6);
-    for i in 0..6 {
+    for i in 1..7 {
         assert_eq!(bench.host.form(&[i; 32]), 0);
     }
     assert_eq!(bench.host.form(&[9; 32]), 8);
@@ -433,6 +435,78 @@ fn forming() {
     assert_eq!(bench.host.find(&[9; 32]), Some(1));
     assert_eq!(bench.open(A, &Layout::default(), 7), 0);
     assert_eq!((bench.host.form(&A), bench.host.drop(&A)), (3, 3));
+}
+
+/// Ids of which `at` is the only byte that is not zero.
+fn one_byte(at: usize) -> [u8; 32] {
+    let mut id = [0; 32];
+    id[at] = 1;
+    id
+}
+
+/// "Forming shall refuse any id whose last 28 bytes are all zero, the zero id included, with the new number 15, checked right after
+/// 5."
+fn padded_ids() {
+    let short: [[u8; 32]; 6] = [[0; 32], filled(b"old1"), filled(&[255; 4]), filled(b"Read"), one_byte(0), one_byte(3)];
+    let (_, mut none) = host::fresh(0, 0);
+    for id in &short {
+        assert!(host::padded(id));
+        assert_eq!(none.form(id), 1);
+        let mut bench = bench(8, 4, &[A]);
+        assert_eq!(bench.host.form(id), 15);
+        assert!(bench.host.places[1..].iter().all(|place| !place.held));
+        // before 6: the id is held; before 8: no place is free; both
+        hold(&mut bench, 3, *id);
+        assert_eq!(bench.host.form(id), 15);
+        assert_eq!(bench.host.drop(id), 0);
+        for i in 1..8 {
+            assert_eq!(bench.host.form(&[i; 32]), 0);
+        }
+        assert_eq!((bench.host.form(&[8; 32]), bench.host.form(id)), (8, 15));
+        assert_eq!(bench.host.drop(&A), 0);
+        hold(&mut bench, 0, *id);
+        assert_eq!((bench.host.form(&[8; 32]), bench.host.form(id)), (8, 15));
+        // behind 3; dropping answers 7
+        assert_eq!(bench.open([1; 32], &Layout::default(), 7), 0);
+        assert_eq!((bench.host.form(id), bench.host.drop(id)), (3, 3));
+        bench.give_up();
+        assert_eq!((bench.host.drop(id), bench.host.drop(id)), (0, 7));
+        assert_eq!(bench.open(*id, &Layout::default(), 7), 7);
+    }
+    // 5 before 15: the ReadOnly word, whose "Only" stands in bytes 4 to 7
+    assert!(!host::padded(&head::read_only_word()));
+    assert_eq!(bench(8, 4, &[]).host.form(&head::read_only_word()), 5);
+    for at in 4..32 {
+        assert_eq!(bench(8, 4, &[]).host.form(&one_byte(at)), 0);
+    }
+    let bench = bench(8, 4, &[one_byte(4), one_byte(31), filled(b"old1\x01"), filled(b"ReadO")]);
+    assert_eq!(bench.host.find(&one_byte(31)), Some(1));
+}
+
+/// A contract under this id in a place, as a host that was made before M-106 may hold it.
+fn hold(bench: &mut Bench, place: usize, id: [u8; 32]) {
+    bench.host.places[place] = host::Place { held: true, id, ..host::EMPTY_PLACE };
+    assert!(bench.host.in_order());
+}
+
+/// "Contracts already held stay usable."
+fn padded_id_held() {
+    for id in [[0; 32], filled(b"old1")] {
+        let mut bench = bench(8, 4, &[A, B]);
+        hold(&mut bench, 2, id);
+        assert_eq!(bench.run_and_commit(id, &grow(&[1, 2]).write(4096, b"snack")).growth, 2 * 4096);
+        assert_eq!((bench.host.form(&id), bench.host.in_order()), (15, true));
+        let read = |from: [u8; 32]| Layout::default().read(from, 4096, 5);
+        for contract in [A, id, head::read_only_word()] {
+            assert_eq!(bench.run(contract, &read(id))[0].5, *b"snack");
+            assert_eq!(bench.agree().answer, 0);
+        }
+        assert_eq!(bench.run_and_commit(id, &grow(&[1])).growth, -4096);
+        assert_eq!((bench.slots(2), bench.host.drop(&id)), (vec![0], 0));
+        assert_eq!(bench.run(A, &read(id))[0].0, 25);
+        bench.give_up();
+        assert_eq!((bench.open(id, &read(A), BUDGET), bench.host.form(&id)), (7, 15));
+    }
 }
 
 fn depot_input(prices: &[u64], budget: u64, ids: &[[u8; 32]], head: &[u8], data: &[u8]) -> Vec<u8> {
@@ -462,8 +536,13 @@ fn depot_program() {
     assert_eq!(play(7, &[B], &head_bytes, &layout.data), refusal(7));
     assert_eq!(play(7, &[A, A], &head_bytes, &layout.data), refusal(6));
     assert_eq!(play(7, &[A, head::read_only_word()], &head_bytes, &layout.data), refusal(5));
-    let nine: Vec<[u8; 32]> = (0..9).map(|i| [i; 32]).collect();
+    let nine: Vec<[u8; 32]> = (1..10).map(|i| [i; 32]).collect();
     assert_eq!(play(7, &nine, &head_bytes, &layout.data), refusal(8));
+    assert_eq!(play(7, &[&nine[..8], &[filled(b"old1")]].concat(), &head_bytes, &layout.data), refusal(15));
+    assert_eq!(play(7, &[A, [0; 32], A], &head_bytes, &layout.data), refusal(15));
+    assert_eq!(play(7, &[A, A, [0; 32]], &head_bytes, &layout.data), refusal(6));
+    let short_head = head::encoded(&head(filled(b"old1"), &layout.instructions, 8));
+    assert_eq!(play(7, &[A], &short_head, &layout.data), refusal(7));
     assert_eq!(play(7, &[A], &head_bytes[..88], &layout.data), refusal(9));
     assert_eq!(play(BUDGET, &[A], &head_bytes, &[0; 9]), refusal(12));
     assert_eq!(play(BUDGET, &[A], &head_bytes, &[0; 7]), refusal(13));

@@ -32,7 +32,7 @@ pub fn disorder(condition: &'static str) {
 /// The answers that each call can give.
 const ANSWERS_POSSIBLE: [(&str, &[u64]); 12] = [
     ("fresh", &[0, 2]),
-    ("form", &[0, 1, 3, 5, 6, 8]),
+    ("form", &[0, 1, 3, 5, 6, 8, 15]),
     ("drop", &[0, 1, 3, 5, 7]),
     ("open", &[0, 1, 2, 3, 7, 9, 10, 11]),
     ("piece", &[0, 1, 2, 4, 12]),
@@ -42,7 +42,7 @@ const ANSWERS_POSSIBLE: [(&str, &[u64]); 12] = [
     ("reached", &[0, 1, 2, 4]),
     ("poke", &[0]),
     ("(malformed item)", &[0]),
-    ("depot", &[0, 5, 6, 7, 8, 9, 10, 11, 12, 13]),
+    ("depot", &[0, 5, 6, 7, 8, 9, 10, 11, 12, 13, 15]),
 ];
 
 /// The record numbers that each instruction can have. 25 needs a contract or a root, 41 a new size.
@@ -56,7 +56,7 @@ const RECORDS_POSSIBLE: [(&str, &[u64]); 7] = [
     ("(unknown)", &[20, 21]),
 ];
 
-const EVENTS_POSSIBLE: [&str; 37] = [
+const EVENTS_POSSIBLE: [&str; 45] = [
     "Read of the parent",
     "Read of another contract",
     "ReadSector found in another contract",
@@ -94,6 +94,14 @@ const EVENTS_POSSIBLE: [&str; 37] = [
     "program in order that no run makes",
     "contract at 64 sectors",
     "several pieces needed for one instruction",
+    "id formed with byte 4 alone behind its first four",
+    "id formed with byte 31 alone behind its first four",
+    "padded id formed with no free place (15 before 8)",
+    "padded id held: formed (15 before 6)",
+    "padded id held: opened",
+    "padded id held: committed",
+    "padded id held: read by another program",
+    "padded id held: dropped",
 ];
 
 const DISORDERS_POSSIBLE: [&str; 23] = [

@@ -21,10 +21,10 @@ pub fn input(seed: u64, number: u64) -> Input {
     Input { for_calls, bytes }
 }
 
-/// Ids that are alike but for a byte, zeros, and the ReadOnly word's neighbours.
+/// Ids that are alike but for a byte, and the ReadOnly word's neighbours.
 fn ids() -> Vec<[u8; 32]> {
-    let mut all = vec![[0u8; 32], [0x11; 32], [0x11; 32], [0x22; 32], head::filled(b"ReadOnly\x01"), head::filled(b"ReadOnl")];
-    all[2][31] ^= 1;
+    let mut all = vec![[0x11; 32], [0x11; 32], [0x22; 32], head::filled(b"ReadOnly\x01"), head::filled(b"ReadOnl")];
+    all[1][31] ^= 1;
     all.extend((0..6).map(|i| {
         let mut id = [0x40 + i; 32];
         id[0] = 0x77;
@@ -34,10 +34,29 @@ fn ids() -> Vec<[u8; 32]> {
 }
 
 fn some_id(random: &mut Random) -> [u8; 32] {
-    if random.chance(25) {
-        return head::read_only_word();
+    match random.weighted(&[25, 20, 15, 940]) {
+        0 => head::read_only_word(),
+        1 => padded_id(random),
+        2 => one_byte_id(random),
+        _ => random.pick(&ids()),
     }
-    random.pick(&ids())
+}
+
+/// An id whose bytes 4 to 31 are zero (M-106): four bytes, none, or the first four of the ReadOnly word.
+fn padded_id(random: &mut Random) -> [u8; 32] {
+    match random.weighted(&[50, 30, 20]) {
+        0 => head::filled(&random.bytes(4)),
+        1 => [0; 32],
+        _ => head::filled(b"Read"),
+    }
+}
+
+/// An id of zeros but for one byte: often the first or the last of those that make it no padded one.
+fn one_byte_id(random: &mut Random) -> [u8; 32] {
+    let at = random.below(32);
+    let mut id = [0; 32];
+    id[random.pick(&[4, 4, 31, 31, at]) as usize] = random.within(1, 255) as u8;
+    id
 }
 
 fn prices(random: &mut Random) -> [u16; 7] {
@@ -122,7 +141,8 @@ fn depot_input(random: &mut Random) -> Vec<u8> {
     let count = random.weighted(&[6, 48, 20, 10, 6, 4, 3, 2, 2, 3]);
     while formed.len() < count {
         let id = some_id(random);
-        if host.form(&id) == 0 || random.chance(100) {
+        let anyway = if host::padded(&id) { 300 } else { 100 };
+        if host.form(&id) == 0 || random.chance(anyway) {
             formed.push(id);
         }
     }
@@ -188,6 +208,7 @@ fn script(random: &mut Random) -> Vec<u8> {
     } else {
         script.fresh();
         script.form_some();
+        script.hold_some();
         script.fill_some();
         for _ in 0..script.random.within(2, 6) {
             script.program();
@@ -268,6 +289,51 @@ impl Script<'_> {
         let count = if self.random.chance(60) { 11 } else { self.random.within(1, 4) };
         for _ in 0..count {
             let id = some_id(self.random);
+            self.push(Item::Form { id });
+        }
+        if self.player.host.places.iter().all(|place| place.held) && self.random.chance(300) {
+            let id = padded_id(self.random);
+            self.push(Item::Form { id });
+        }
+    }
+
+    /// Now and then a contract held under a padded id, as a host made before M-106 may hold it: pokes put it into a free place, some
+    /// with sectors of its own.
+    fn hold_some(&mut self) {
+        let host = &self.player.host;
+        let free: Vec<usize> = (0..8).filter(|&p| !host.places[p].held && host.places[p].id == [0; 32]).collect();
+        let slots: Vec<u64> = (slots_used(host)..host.disk_sectors.min(64)).take(2).collect();
+        if free.is_empty() || !self.random.chance(50) {
+            return;
+        }
+        let place = self.random.pick(&free) as u64;
+        let id = padded_id(self.random);
+        if self.player.host.find(&id).is_some() {
+            return;
+        }
+        for j in (0..4).filter(|&j| id[j] != 0) {
+            self.push(Item::Poke { field: 3, i: place, j: j as u64, value: id[j] as u64 });
+        }
+        if self.random.chance(250) {
+            for (j, &slot) in slots.iter().enumerate() {
+                self.push(Item::Poke { field: 5, i: place, j: j as u64, value: slot });
+            }
+            self.push(Item::Poke { field: 4, i: place, j: 0, value: slots.len() as u64 * SECTOR });
+        }
+        self.push(Item::Poke { field: 2, i: place, j: 0, value: 1 });
+    }
+
+    /// Forms a padded id that is held, and drops it now and then, once more after it is gone.
+    fn form_held(&mut self) {
+        let padded = |place: &&host::Place| place.held && host::padded(&place.id);
+        let held: Vec<[u8; 32]> = self.player.host.places.iter().filter(padded).map(|place| place.id).collect();
+        if held.is_empty() || !self.random.chance(250) {
+            return;
+        }
+        let id = self.random.pick(&held);
+        self.push(Item::Form { id });
+        if self.random.chance(300) {
+            self.push(Item::Drop { id });
             self.push(Item::Form { id });
         }
     }
@@ -428,9 +494,11 @@ impl Script<'_> {
             let id = some_id(self.random);
             self.push(Item::Form { id });
         }
+        self.form_held();
         if self.random.chance(10) {
             self.fresh();
             self.form_some();
+            self.hold_some();
             self.fill_some();
         }
     }

@@ -232,7 +232,7 @@ impl Host {
         None
     }
 
-    /// "forming takes the lowest free place, with size 0". Checks 1, 3, 5, 6, 8 "in number order".
+    /// "forming takes the lowest free place, with size 0". Checks 1, 3, 5, 6, 8 "in number order", 15 "right after 5" (M-106).
     pub fn form(&mut self, id: &[u8; 32]) -> u64 {
         if !self.in_order() {
             return 1;
@@ -242,6 +242,9 @@ impl Host {
         }
         if *id == head::read_only_word() {
             return 5;
+        }
+        if padded(id) {
+            return 15;
         }
         if self.find(id).is_some() {
             return 6;
@@ -297,6 +300,11 @@ impl Host {
         let sectors: Vec<&[u8]> = (0..positions).map(|position| self.running_sector(disk, stage, position)).collect();
         sectors.concat()
     }
+}
+
+/// M-106: "any id whose last 28 bytes are all zero, the zero id included".
+pub fn padded(id: &[u8; 32]) -> bool {
+    id[32 - 28..].iter().all(|&byte| byte == 0)
 }
 
 /// The sector in a slot of an area.

@@ -130,6 +130,9 @@ fn source(host: &Host, disk: &[u8], stage: &[u8], inputs: &Inputs) -> Result<Opt
             let place = host.find(contract).ok_or(25u64)?;
             let of_parent = host.parent() == Some(place);
             coverage::event(if of_parent { "Read of the parent" } else { "Read of another contract" });
+            if !of_parent && padded(contract) {
+                coverage::event("padded id held: read by another program");
+            }
             let bytes = if of_parent { host.running_bytes(disk, stage) } else { host.committed_bytes(disk, place) };
             Ok(Some(Source { bytes }))
         }

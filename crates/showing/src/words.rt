@@ -1,4 +1,4 @@
-// Numbers in words, as document 01's tables have them.
+// Numbers in words, as document 01's tables have them, and document 02.
 use crate::lines::text;
 
 // A failed instruction's; nothing where its class says all that there is to say.
@@ -38,6 +38,7 @@ pub fn refusal(number: u64) {
         12 => text(b"data passes the declared length"),
         13 => text(b"program not ended"),
         14 => text(b"agreed size or root differs"),
+        15 => text(b"id is four bytes filled with zeros"),
         _ => text(b"which is no refusal's number"),
     }
 }
