@@ -111,11 +111,12 @@ pub fn form(host: Host, id: [u8; 32]) -> Answer
     if sia::is_read_only(id) {
         return Answer { number: 5, host };
     }
-    if padded(id) {
-        return Answer { number: 15, host };
-    }
     let places = host.places;
     let own = host::place_of(places, id);
+    let short = padded(id);
+    if short {
+        return Answer { number: 15, host };
+    }
     if own.held {
         return Answer { number: 6, host };
     }
