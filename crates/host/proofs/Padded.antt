@@ -45,7 +45,7 @@ unfolding padded
 padding id = record {
   zeros = λ e i h. ap (λ (k : ℕ). getD id k 0) (behind i h) ∙ sym (getD-drop 4 id (i - 4) 0)
       ∙ every-zero (drop 4 id) e (i - 4);
-  whole = λ long f. zero-every (drop 4 id) (λ i h. getD-drop 4 id i 0 ∙ f (4 + i) (omega arith) (omega (arith, h, long, length-drop 4 id)));
+  enough = λ long f. zero-every (drop 4 id) (λ i h. getD-drop 4 id i 0 ∙ f (4 + i) (omega arith) (omega (arith, h, long, length-drop 4 id)));
 }
 
 pub word : padded readOnly ≡ false

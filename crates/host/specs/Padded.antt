@@ -11,7 +11,7 @@ use Rattle.host.specs.declared.Host.{Host}
 -- an id is padded exactly where its bytes 4 to 31 are all zero
 pub record Padding (id : List ℕ) : Type 0 where
   pub zeros : padded id ≡ true → (i : ℕ) → 4 ≤ i → getD id i 0 ≡ 0
-  pub whole : length id ≡ 32 → ((i : ℕ) → 4 ≤ i → i < 32 → getD id i 0 ≡ 0) → padded id ≡ true
+  pub enough : length id ≡ 32 → ((i : ℕ) → 4 ≤ i → i < 32 → getD id i 0 ≡ 0) → padded id ≡ true
 
 -- 15 is answered exactly where the id is padded and neither 1 nor 3 applies: so before 6 and 8
 pub record Fifteen (z : ℕ) (h : Host) (id : List ℕ) : Type 0 where

@@ -24,7 +24,7 @@ use Rattle.rules.specs.Record.{Pair, runningPair}
 use Rattle.rules.specs.Commit.{Closed, closed, givenUp, cut, newSlots, finalSlots, copiedBack, finalPlace, commit, agreed, close}
 use Rattle.host.specs.Renaming.{Renaming, placeAs, hostAs}
 use Rattle.host.proofs.Renaming.Places.{allAs, id-as, taken-as, replaced-as, in-order-as}
-use Rattle.rules.proofs.Renaming.Steps.{running-as}
+use Rattle.rules.proofs.Renaming.Sight.{running-as}
 use Rattle.host.specs.declared.Place.{Place}
 use Rattle.host.specs.declared.Terms.{Terms}
 use Rattle.host.specs.declared.Host.{Host}

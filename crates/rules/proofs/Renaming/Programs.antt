@@ -19,7 +19,8 @@ use Rattle.rules.specs.Visit.{Areas, gives}
 use Rattle.host.specs.Renaming.{Renaming, termsAs, hostAs}
 use Rattle.rules.specs.Renaming.{AsksAs}
 use Rattle.host.proofs.Renaming.Places.{allAs, terms-as, in-order-as}
-use Rattle.rules.proofs.Renaming.Steps.{settingAs, run-as, failing-as, starting-as, running-as}
+use Rattle.rules.proofs.Renaming.Sight.{settingAs, starting-as, running-as}
+use Rattle.rules.proofs.Renaming.Steps.{run-as, failing-as}
 use Rattle.host.specs.declared.Terms.{Terms}
 use Rattle.host.specs.declared.Host.{Host}
 use Rattle.rules.specs.declared.Reached.{Reached}
