@@ -7,8 +7,7 @@ use lib.ListN.{length}
 use lib.Dec.{eqb}
 use Rattle.rules.specs.View.{Setting}
 use Rattle.rules.specs.Inputs.{nth, isKey, wellFormed, Args, readArgs, argsOf}
-use Rattle.rules.specs.Plan.{sourceOf}
-use Rattle.rules.specs.Plan.{newSize}
+use Rattle.rules.specs.Plan.{sourceOf, newSize}
 use Rattle.rules.specs.Effect.{Ground, Staging, effect}
 use Rattle.rules.specs.Record.{outputOf}
 use Rattle.host.specs.Renaming.{Renaming}
