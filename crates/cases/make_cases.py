@@ -8,7 +8,7 @@ model = here.parent.parent / "target" / "model" / "model"
 SEED, MADE = 20, 8000
 TIMES = 3  # each thing that can be reached is reached by so many cases, where the generator has them
 # inputs of the generator that notice mistakes which the others do not (model/mutants.py)
-ALSO = {43, 735, 818, 1591, 1901, 2078, 2289, 3375, 3719, 3875, 3974, 4345}
+ALSO = {845, 1113, 1455, 2078, 2603, 2683, 2989, 3974, 4659}
 DEPOTS, SCRIPTS = 280, 70  # at least so many of the generator's
 
 def number(*ns):
@@ -141,65 +141,138 @@ def held(place, id, *slots):
     pokes = [(3, place, j, id[j]) for j in range(32) if id[j]] + [(5, place, j, slot) for j, slot in enumerate(slots)]
     return b"".join(poke(*ns) for ns in pokes) + (poke(4, place, 0, 4096 * len(slots)) if slots else b"") + poke(2, place, 0, 1)
 
+# The host of the scripts below, and their items.
+DISK, STAGE, ROOM = 8 * 4096, 4 * 4096, 4096
+FRESH = b"F" + number(DISK, STAGE) + b"\x55"
+GIVE_UP = b"g" + number(DISK, STAGE)
+REACHED = b"r" + number(DISK, STAGE)
+
+def form(*ids):
+    return b"".join(b"f" + id for id in ids)
+
+def drop(*ids):
+    return b"".join(b"d" + id for id in ids)
+
+def opened(contract, *steps):
+    """The opening of a program, and all its data as one piece."""
+    head, data = head_and_data(contract, steps)
+    start = b"o" + number(ROOM, 10**9, 7, 1, 3, 2, 5, 4, 6, len(head)) + head
+    return start, b"p" + number(DISK, STAGE, len(data), ROOM, len(data)) + data
+
+def named(size, root):
+    return b"a" + number(DISK, STAGE, size) + root
+
+def agree(b):
+    return named(len(b), root(b))
+
+def visit(contract, after, *steps):
+    """A program that ends with these bytes, what it reaches, and the agreement to that."""
+    return b"".join(opened(contract, *steps)) + REACHED + agree(after)
+
+def grow(n):
+    return b"Truncate", number(4096 * n)
+
+def write(at, b):
+    return b"Write", number(at), number(len(b)) + b
+
+def read(id, at, n):
+    return b"Read", id, number(at), number(n)
+
 def short_scripts():
     """Scripts of `calls` that form padded ids, each check ahead of 15 and behind it, and contracts held under padded ids, which stay usable."""
-    disk, stage, room = 8 * 4096, 4 * 4096, 4096
-    fresh = b"F" + number(disk, stage) + b"\x55"
-    def form(*ids):
-        return b"".join(b"f" + id for id in ids)
-    def drop(*ids):
-        return b"".join(b"d" + id for id in ids)
-    def opened(contract, *steps):
-        head, data = head_and_data(contract, steps)
-        start = b"o" + number(room, 10**9, 7, 1, 3, 2, 5, 4, 6, len(head)) + head
-        return start, b"p" + number(disk, stage, len(data), room, len(data)) + data
-    def agree(b):
-        return b"a" + number(disk, stage, len(b)) + root(b)
-    def visit(contract, after, *steps):
-        """A program that ends with these bytes, what it reaches, and the agreement to that."""
-        return b"".join(opened(contract, *steps)) + b"r" + number(disk, stage) + agree(after)
-    give_up = b"g" + number(disk, stage)
-    def grow(n):
-        return b"Truncate", number(4096 * n)
-    def write(at, b):
-        return b"Write", number(at), number(len(b)) + b
-    def read(id, at, n):
-        return b"Read", id, number(at), number(n)
     contract, zero, old = MANY[0], *SHORT[:2]
     # formed: refused, and beside them not
-    yield fresh + form(*SHORT, WORD) + drop(zero, old)
+    yield FRESH + form(*SHORT, WORD) + drop(zero, old)
     formed = form(ONE[4], ONE[31], ONE[3], ONE[4], ONE[31])
-    yield fresh + formed + visit(ONE[31], bytes(4096), grow(1)) + drop(ONE[4]) + form(zero, ONE[5], ONE[30])
-    yield fresh + form(b"old1\1".ljust(32, b"\0"), old, b"ReadO".ljust(32, b"\0"), b"Read".ljust(31, b"\0") + b"y")
+    yield FRESH + formed + visit(ONE[31], bytes(4096), grow(1)) + drop(ONE[4]) + form(zero, ONE[5], ONE[30])
+    yield FRESH + form(b"old1\1".ljust(32, b"\0"), old, b"ReadO".ljust(32, b"\0"), b"Read".ljust(31, b"\0") + b"y")
     # 1 first: no host yet, a host with no slots, a host out of order; then 3, in a program and in read-only mode
     both = form(zero, old)
-    yield both + b"F" + number(0, 0) + b"\0" + both + fresh + poke(0, 0, 0, 65) + both + poke(0, 0, 0, 8) + both
+    yield both + b"F" + number(0, 0) + b"\0" + both + FRESH + poke(0, 0, 0, 65) + both + poke(0, 0, 0, 8) + both
     for id in (contract, WORD):
-        ready = fresh + form(contract) + held(2, old) + opened(id, grow(1))[0]
-        yield ready + both + form(WORD) + drop(zero, old) + give_up + both + drop(zero, old)
+        ready = FRESH + form(contract) + held(2, old) + opened(id, grow(1))[0]
+        yield ready + both + form(WORD) + drop(zero, old) + GIVE_UP + both + drop(zero, old)
     # 15 before 6 and before 8: held, eight held, and both
     for id in SHORT[:2]:
-        yield fresh + held(0, id) + form(id, contract, id) + drop(id) + form(id, MANY[1])
-    yield fresh + form(*MANY[:8]) + form(zero, old, MANY[8], WORD, MANY[0]) + drop(MANY[3]) + form(zero, MANY[8])
-    yield fresh + form(*MANY[:7]) + held(7, old) + form(old, zero, MANY[8]) + drop(old) + form(old, MANY[8])
+        yield FRESH + held(0, id) + form(id, contract, id) + drop(id) + form(id, MANY[1])
+    yield FRESH + form(*MANY[:8]) + form(zero, old, MANY[8], WORD, MANY[0]) + drop(MANY[3]) + form(zero, MANY[8])
+    yield FRESH + form(*MANY[:7]) + held(7, old) + form(old, zero, MANY[8]) + drop(old) + form(old, MANY[8])
     # held, and usable: opened, grown, written, agreed to, read by other programs, shrunk, dropped, then gone
     for id, place in ((zero, 7), (old, 2)):
         sector = bytes(100) + b"snack" + bytes(3991)
         changed = visit(id, sector + bytes(4096), grow(1), write(100, b"snack"), grow(2)) + form(id)
         reads = visit(contract, b"", read(id, 100, 5)) + visit(WORD, b"", read(id, 96, 64)) + visit(id, sector, grow(1), read(id, 0, 105))
-        gone = b"".join(opened(contract, read(id, 0, 1))) + give_up + opened(id, grow(1))[0]
-        yield fresh + form(contract) + held(place, id) + changed + reads + form(id) + drop(id, id) + form(id) + gone
+        gone = b"".join(opened(contract, read(id, 0, 1))) + GIVE_UP + opened(id, grow(1))[0]
+        yield FRESH + form(contract) + held(place, id) + changed + reads + form(id) + drop(id, id) + form(id) + gone
     # held with sectors of its own, beside an id that differs from it in a late byte only, and beside another padded one
     filled, near, other = b"\x55" * 4096, old[:31] + b"\1", SHORT[4]
-    ready = fresh + held(5, old, 3, 1) + held(2, other, 0) + form(near)
+    ready = FRESH + held(5, old, 3, 1) + held(2, other, 0) + form(near)
     visits = visit(near, b"", read(old, 4095, 1)) + visit(old, filled * 2 + bytes(4096), grow(3))
     visits += visit(other, b"new" + filled[3:], write(0, b"new"), read(old, 4000, 90)) + visit(near, bytes(4096), read(other, 0, 4), grow(1))
     yield ready + visits + drop(old, other) + form(other, old)
     # two places under one padded id, which is out of order; an id made a padded one by a poke, with its program open too
-    yield fresh + held(1, zero) + held(4, zero) + form(contract, zero) + drop(zero) + poke(3, 4, 2, 7) + form(contract, zero) + drop(zero)
+    yield FRESH + held(1, zero) + held(4, zero) + form(contract, zero) + drop(zero) + poke(3, 4, 2, 7) + form(contract, zero) + drop(zero)
     start, data = opened(ONE[31], grow(1))
-    ready = fresh + form(ONE[31]) + poke(3, 0, 31, 0) + form(zero) + poke(3, 0, 31, 1) + start + poke(3, 0, 31, 0) + data
+    ready = FRESH + form(ONE[31]) + poke(3, 0, 31, 0) + form(zero) + poke(3, 0, 31, 1) + start + poke(3, 0, 31, 0) + data
     yield ready + poke(16, 31, 0, 0) + data + agree(bytes(4096)) + form(zero) + drop(zero)
+
+def still_scripts():
+    """Scripts of `calls` with programs that change nothing: each is closed with the pair that it reaches and with others, and at the end all
+    slots of the stage are free."""
+    one, two = MANY[:2]
+    snacks = b"crisps and nuts".ljust(4096, b".") + b"raisins".ljust(4096, b"\0")
+    ready = FRESH + form(one, two) + visit(one, snacks, grow(1), grow(2), write(0, snacks[:4096]), write(4096, b"raisins"))
+    pair = size, hash = len(snacks), root(snacks)
+    late = hash[:31] + bytes([hash[31] ^ 1])
+    others = [(size + 4096, hash), (0, hash), (size, late), (0, bytes(32)), (2**64 - 1, b"\xff" * 32)]
+    def swap(at, to, n):
+        return b"Swap", number(at), number(to), number(n)
+    def copy(to, at, n):
+        return b"Copy", number(to), number(at), number(n)
+    every = visit(one, snacks + bytes(4096 * 4), *(grow(n) for n in range(3, 7)))
+    still = [
+        (write(0, b"crisps"),),
+        (write(0, b"peanut"), write(4090, snacks[4090:4096]), write(0, b"crisps")),
+        (swap(0, 4096, 15), swap(0, 4096, 15)),
+        (swap(3, 8000, 64), swap(8000, 3, 64)),
+        (copy(5, 5, 100), copy(4096, 4096, 7)),
+        (grow(3), grow(2)),
+        (grow(3), grow(4), write(12_288, b"new"), grow(3), grow(2)),
+        (grow(1), grow(2), write(4096, b"raisins")),
+        (grow(2),),
+        (read(one, 0, 64),),
+        (),
+    ]
+    for steps in still:
+        program = b"".join(opened(one, *steps))
+        yield ready + b"".join(program + REACHED + named(*given) for given in (pair, *others)) + every
+    # read-only, with the pair that it has and with others; an empty contract
+    reads = b"".join(opened(WORD, read(one, 0, 15)))
+    yield ready + b"".join(reads + REACHED + named(*given) for given in ((0, bytes(32)), pair, *others))
+    empty = b"".join(opened(two, grow(1), grow(0)))
+    yield ready + b"".join(empty + REACHED + named(*given) for given in ((0, bytes(32)), pair, *others)) + visit(two, bytes(4096), grow(1))
+    # entries past the size, which a commit would clear: seen when the size is poked
+    program = b"".join(opened(one, write(0, b"crisps")))
+    for given in (pair, others[0]):
+        yield ready + poke(5, 0, 2, 7) + program + named(*given) + poke(4, 0, 0, 3 * 4096) + REACHED
+    # changed, the size as it was: the starting pair is another one; and changed in size
+    start, data = opened(one, write(4103, b"!"))
+    changed = snacks[:4103] + b"!" + snacks[4104:]
+    near = size, root(changed)[:31] + bytes([root(changed)[31] ^ 1])
+    yield ready + b"".join(start + data + named(*given) for given in (pair, *others, near)) + start + data + agree(changed) + every
+    for n in (1, 3):
+        program, after = b"".join(opened(one, grow(n))), (snacks + bytes(4096))[: 4096 * n]
+        yield ready + b"".join(program + named(*given) for given in (pair, *others)) + program + agree(after)
+    # 13 first: not ended, failed, interrupted, each with nothing changed; giving up is as ever
+    start, data = opened(one, write(0, b"crisps"), grow(9))
+    yield ready + start + named(*pair) + data + REACHED + named(*pair) + named(0, bytes(32)) + GIVE_UP
+    start, data = opened(WORD, read(one, 0, 15), read(one, 0, 16))
+    part = b"p" + number(DISK, STAGE, 96, ROOM, 48) + data[41 : 41 + 48]
+    yield ready + start + part + named(0, bytes(32)) + b"i" + number(DISK, ROOM) + named(0, bytes(32)) + GIVE_UP + every
+    # 1 and 2 before it: a host out of order, an area of another length
+    program = b"".join(opened(one, write(0, b"crisps")))
+    short = b"a" + number(DISK, STAGE - 4096, size) + hash
+    yield ready + program + poke(0, 0, 0, 65) + named(*pair) + poke(0, 0, 0, 8) + short + named(1, bytes(32)) + named(*pair) + every
 
 def scripts():
     """Scripts of `calls` that are cut off, that lend too much, or that poke past an array or a width."""
@@ -276,7 +349,7 @@ def cut_items(fresh):
     yield from (opened + piece(long[:n], 65_539) for n in (65_536, 65_537, 65_538))
     yield from (opened + piece(long[:9], n) for n in (65_536, 65_537, 65_538, 2**64 - 1))
 
-cases = chosen(generated()) + [("d", b) for f in (depots, short_depots) for b in f()] + [("c", b) for f in (scripts, short_scripts) for b in f()]
+cases = chosen(generated()) + [("d", b) for f in (depots, short_depots) for b in f()] + [("c", b) for f in (scripts, short_scripts, still_scripts) for b in f()]
 given = b"".join(kind.encode() + number(len(b)) + b for kind, b in cases)
 here.joinpath("stdin").write_bytes(given)
 lines = subprocess.run([model, "cases"], input=given, capture_output=True, check=True).stdout

@@ -276,7 +276,7 @@ impl Player {
             Item::Interrupt { .. } if program.failed => coverage::event("interrupt of a failed program"),
             Item::Interrupt { .. } if self.host.ended() => coverage::event("interrupt of an ended program"),
             Item::GiveUp { .. } if staged => coverage::event("give up with changes staged"),
-            Item::Agree { disk, stage, size, root } => self.note_commit(*disk, *stage, *size, root),
+            Item::Agree { disk, stage, size, root } => self.note_agreement(*disk, *stage, *size, root),
             _ => {}
         }
     }
@@ -297,13 +297,44 @@ impl Player {
         }
     }
 
-    fn note_commit(&self, disk: u64, stage: u64, size: u64, root: &[u8; 32]) {
-        let reached = self.host.reached(&self.disk[..disk as usize], &self.stage[..stage as usize]);
-        if reached != (0, size, *root) || !self.host.ended() || self.host.program.failed {
+    /// Counts of agreements, before the call.
+    fn note_agreement(&self, disk: u64, stage: u64, size: u64, root: &[u8; 32]) {
+        let (disk, stage) = (&self.disk[..disk as usize], &self.stage[..stage as usize]);
+        let (answer, size_reached, root_reached) = self.host.reached(disk, stage);
+        if answer != 0 {
             return;
         }
+        let starting = self.host.starting_pair(disk);
+        let unchanged = self.host.running_pair(disk, stage) == starting;
+        if !self.host.ended() || self.host.program.failed {
+            if unchanged {
+                coverage::event("nothing changed, not ended or failed (13 first)");
+            }
+            return;
+        }
+        let named = (size, *root) == (size_reached, root_reached);
+        if unchanged {
+            let staged = self.host.program.staged.iter().any(|&slot| slot != NONE);
+            return coverage::event(match (self.host.parent().is_none(), staged, named) {
+                (true, _, true) => "nothing changed: read-only, its pair named",
+                (true, _, false) => "nothing changed: read-only, another pair named",
+                (false, true, true) => "nothing changed: sectors staged, its pair named",
+                (false, true, false) => "nothing changed: sectors staged, another pair named",
+                (false, false, true) => "nothing changed: none staged, its pair named",
+                (false, false, false) => "nothing changed: none staged, another pair named",
+            });
+        }
+        if (size, *root) == starting {
+            coverage::event("the starting pair named, another reached");
+        }
+        if named {
+            self.note_commit(size);
+        }
+    }
+
+    fn note_commit(&self, size: u64) {
         let Some(place) = self.host.parent() else {
-            return coverage::event("commit, read-only");
+            return;
         };
         let before = self.host.places[place].size;
         coverage::event(match size.cmp(&before) {

@@ -16,7 +16,7 @@ const A: [u8; 32] = [0xA1; 32];
 const B: [u8; 32] = [0xB2; 32];
 
 pub fn run() {
-    let tests: [(&str, fn()); 28] = [
+    let tests: [(&str, fn()); 29] = [
         ("RFC 7693: abc", abc),
         ("RFC 7693: Appendix E self-test", self_test),
         ("hash: lengths refused", hash_lengths),
@@ -43,6 +43,7 @@ pub fn run() {
         ("growing over a cut-off position", grow_over),
         ("reads of roots and of others", reads),
         ("agreements", agreements),
+        ("nothing changed", nothing_changed),
         ("order of hosts", orders),
         ("the script player", script),
     ];
@@ -669,6 +670,50 @@ fn reads() {
     }
 }
 
+/// M-104: "closes with 0 whatever pair is given, and nothing is committed, its stage copies included"; "A read-only program falls under the
+/// same rule."
+fn nothing_changed() {
+    let mut bench = bench(8, 3, &[A, B]);
+    bench.run_and_commit(A, &grow(&[1, 2]).write(5, b"crisps"));
+    bench.run_and_commit(B, &grow(&[1]));
+    let (size, root) = (8192, tree::root(&bench.disk[..8192]));
+    let read_only = head::read_only_word();
+    let still = [
+        (A, Layout::default(), 0),
+        (A, Layout::default().read(B, 0, 64), 0),
+        (A, Layout::default().write(5, b"crisps"), 1),
+        (A, Layout::default().write(5, b"peanut").write(5, b"crisps"), 1),
+        (A, Layout::default().numbers("Swap", &[0, 4096, 64]).numbers("Swap", &[0, 4096, 64]), 2),
+        (A, Layout::default().numbers("Copy", &[5, 5, 6]), 1),
+        (A, Layout::default().numbers("Truncate", &[12_288]).numbers("Truncate", &[8192]), 0),
+        (A, Layout::default().numbers("Truncate", &[4096]).numbers("Truncate", &[8192]), 1),
+        (A, Layout::default().numbers("Truncate", &[8192]), 0),
+        (read_only, Layout::default().read(A, 0, 64), 0),
+    ];
+    for (contract, layout, staged) in still {
+        for (size, root) in [(size, root), (size, [0; 32]), (0, root), (0, [0; 32]), (12_288, [1; 32])] {
+            let tally = bench_tally(&bench.run(contract, &layout));
+            assert_eq!(bench.host.program.staged.iter().filter(|&&slot| slot != NONE).count(), staged);
+            let (places, disk) = (bench.host.places, bench.disk.clone());
+            let closed = bench.host.agree(&mut bench.disk, &bench.stage, size, &root);
+            assert_eq!(closed, Closed { answer: 0, tally, growth: 0 });
+            assert!(bench.host.places == places && bench.disk == disk && !bench.host.program.open);
+        }
+    }
+    // the size as it was and the root another; the root as it was cannot be with another size
+    let changed = Layout::default().write(5, b"crisp!");
+    bench.run(A, &changed);
+    assert_eq!(bench.host.agree(&mut bench.disk, &bench.stage, size, &root).answer, 14);
+    bench.run_and_commit(A, &changed);
+    assert_eq!(bench.disk[5..11], *b"crisp!");
+    // 13 comes first: not ended, and failed
+    assert_eq!(bench.open(A, &changed, BUDGET), 0);
+    assert_eq!(bench.agree().answer, 13);
+    assert_eq!(bench.piece(&[0; 1]), 0);
+    assert_eq!(bench.host.interrupt(&bench.disk, &mut bench.output), 0);
+    assert_eq!(bench.agree().answer, 13);
+}
+
 fn bench_tally(records: &[Record]) -> u64 {
     7 + records.iter().map(|record| record.1).sum::<u64>()
 }
@@ -688,8 +733,6 @@ fn agreements() {
     assert_eq!(bench.host.agree(&mut bench.disk, &bench.stage, 4096, &[0; 32]).answer, 14);
     bench.run(A, &layout);
     assert_eq!(bench.host.agree(&mut bench.disk, &bench.stage, 4096, &root).growth, 4096);
-    bench.run(head::read_only_word(), &Layout::default());
-    assert_eq!(bench.host.agree(&mut bench.disk, &bench.stage, 4096, &root).answer, 14);
     // 22: an offset plus length that wraps, and one of length 0 past the declared length
     for operand in [(u64::MAX, 2), (1, 0)] {
         let layout = Layout { data: vec![], instructions: vec![instruction("Truncate", &[operand])] };

@@ -56,7 +56,7 @@ const RECORDS_POSSIBLE: [(&str, &[u64]); 7] = [
     ("(unknown)", &[20, 21]),
 ];
 
-const EVENTS_POSSIBLE: [&str; 45] = [
+const EVENTS_POSSIBLE: [&str; 52] = [
     "Read of the parent",
     "Read of another contract",
     "ReadSector found in another contract",
@@ -84,8 +84,15 @@ const EVENTS_POSSIBLE: [&str; 45] = [
     "commit, larger",
     "commit, smaller",
     "commit, same size",
-    "commit, read-only",
     "commit, disk slots not in line",
+    "nothing changed: none staged, its pair named",
+    "nothing changed: none staged, another pair named",
+    "nothing changed: sectors staged, its pair named",
+    "nothing changed: sectors staged, another pair named",
+    "nothing changed: read-only, its pair named",
+    "nothing changed: read-only, another pair named",
+    "nothing changed, not ended or failed (13 first)",
+    "the starting pair named, another reached",
     "give up with changes staged",
     "piece after the end",
     "piece after a failure",

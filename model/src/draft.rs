@@ -9,7 +9,8 @@ use crate::tree;
 pub struct Scene {
     pub contract: [u8; 32],
     pub read_only: bool,
-    /// The parent's size, and how many sectors it can have.
+    /// The parent's bytes, its size, and how many sectors it can have.
+    pub bytes: Vec<u8>,
     pub size: u64,
     pub most_sectors: u64,
     pub stage_sectors: u64,
@@ -53,6 +54,7 @@ pub fn scene(host: &Host, disk: &[u8], contract: [u8; 32]) -> Scene {
     Scene {
         contract,
         read_only,
+        bytes: parent.map_or(vec![], |p| host.committed_bytes(disk, p)),
         size: parent.map_or(0, |p| host.places[p].size),
         most_sectors: host.disk_sectors.saturating_sub(other_sectors),
         stage_sectors: host.stage_sectors,
@@ -120,6 +122,56 @@ pub fn filling_program(random: &mut Random, scene: &Scene, sectors: u64) -> (Hea
         let data = contents(random, length);
         let offset = sector * SECTOR + if length == SECTOR as usize { 0 } else { random.below(3000) };
         step("Write", vec![offset.to_le_bytes().to_vec(), [&(length as u64).to_le_bytes()[..], &data].concat()]);
+    }
+    lay_out(random, scene.contract, &steps)
+}
+
+/// A program without a fault that leaves the parent as it was, now and then but for one byte: Writes of equal bytes, Swaps that undo each
+/// other, Copies of a span onto itself, growth and the way back.
+pub fn still_program(random: &mut Random, scene: &Scene) -> (Head, Vec<u8>) {
+    let mut steps = Vec::new();
+    let mut step = |name: &str, numbers: &[u64], data: Option<&[u8]>| {
+        let mut inputs: Vec<Vec<u8>> = numbers.iter().map(|number| number.to_le_bytes().to_vec()).collect();
+        inputs.extend(data.map(|data| [&(data.len() as u64).to_le_bytes()[..], data].concat()));
+        steps.push(Step { name: filled(name.as_bytes()), inputs, proof: false });
+    };
+    for _ in 0..random.within(0, 4) {
+        let kind = random.below(6);
+        if kind == 0 || scene.size == 0 {
+            let grows = scene.size / SECTOR < scene.most_sectors && random.chance(800);
+            if grows {
+                step("Truncate", &[scene.size + SECTOR], None);
+            }
+            step("Truncate", &[scene.size], None);
+            continue;
+        }
+        let first = random.below(scene.size / SECTOR) * SECTOR;
+        let second = random.below(scene.size / SECTOR) * SECTOR;
+        let length = random.within(1, 100);
+        let (one, two) = (first + random.below(1900), second + 2000 + random.below(1900));
+        let bytes = &scene.bytes[one as usize..(one + length) as usize];
+        match kind {
+            1 => {
+                step("Swap", &[one, two, length], None);
+                let back = if random.chance(500) { [one, two, length] } else { [two, one, length] };
+                step("Swap", &back, None);
+            }
+            2 => step("Copy", &[one, one, length], None),
+            3 => {
+                step("Copy", &[one, two, length], None);
+                step("Write", &[one], Some(bytes));
+            }
+            4 => {
+                let other = contents(random, length as usize);
+                step("Write", &[one], Some(&other));
+                step("Write", &[one], Some(bytes));
+            }
+            _ => step("Write", &[one], Some(bytes)),
+        }
+    }
+    if scene.size > 0 && random.chance(150) {
+        let at = random.below(scene.size);
+        step("Write", &[at], Some(&[scene.bytes[at as usize] ^ 1]));
     }
     lay_out(random, scene.contract, &steps)
 }

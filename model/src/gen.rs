@@ -423,10 +423,11 @@ impl Script<'_> {
         let (_, mut size, mut root) =
             self.player.host.reached(&self.player.disk[..right[0] as usize], &self.player.stage[..right[1] as usize]);
         if self.random.chance(wrong_of_1000) {
-            match self.random.below(4) {
+            match self.random.below(5) {
                 0 => size = size.wrapping_add(SECTOR),
                 1 => size = self.random.pick(&[0, size ^ 1, u64::MAX]),
                 2 => root[31] ^= 1,
+                3 => (size, root) = self.player.host.starting_pair(&self.player.disk[..right[0] as usize]),
                 _ => root = [0; 32],
             }
         }
@@ -521,7 +522,8 @@ impl Script<'_> {
         }
         let contract = self.contract();
         let scene = draft::scene(&self.player.host, &self.player.disk, contract);
-        let (head, data) = draft::program(self.random, &scene);
+        let still = !scene.read_only && self.random.chance(80);
+        let (head, data) = if still { draft::still_program(self.random, &scene) } else { draft::program(self.random, &scene) };
         let head_bytes = draft::head_bytes(self.random, &head);
         if self.open(head_bytes, &data).answer != 0 && self.random.chance(850) {
             return;

@@ -12,7 +12,7 @@ pub const MOST_OUTPUT: u64 = 65_536;
 /// A position with no stage copy.
 pub const NONE: u8 = 255;
 
-#[derive(Clone, Copy)]
+#[derive(Clone, Copy, PartialEq, Debug)]
 pub struct Place {
     pub held: bool,
     pub id: [u8; 32],

@@ -162,8 +162,9 @@ impl Host {
         self.close_with(0, 0)
     }
 
-    /// "Agreement names final size and root (0 and zeros in read-only mode), also when nothing changed." 13, "agreement to a
-    /// program not ended, or failed"; 14, "agreed size or root differs: changes dropped, program closed".
+    /// "Agreement names final size and root (0 and zeros in read-only mode)". 13, "agreement to a program not ended, or failed"; then
+    /// M-104: "when final size and root equal the starting ones", 0 "whatever pair is given, and nothing is committed"; 14, "agreed size
+    /// or root differs: changes dropped, program closed".
     pub fn agree(&mut self, disk: &mut [u8], stage: &[u8], size: u64, root: &tree::Hash) -> Closed {
         if let Some(answer) = self.close_refusal(disk, stage) {
             return refused(answer);
@@ -171,7 +172,11 @@ impl Host {
         if !self.ended() || self.program.failed {
             return refused(13);
         }
-        if (size, *root) != self.running_pair(disk, stage) {
+        let reached = self.running_pair(disk, stage);
+        if reached == self.starting_pair(disk) {
+            return self.close_with(0, 0);
+        }
+        if (size, *root) != reached {
             return self.close_with(14, 0);
         }
         let growth = self.program.running as i64 - self.starting_size() as i64;

@@ -1,18 +1,16 @@
-// Closing a program: giving up, or agreeing to the size and root that it has reached; and the commit.
+// Closing a program: giving up, or agreeing to the size and root that it has reached, which a program that changed nothing need not name;
+// and the commit.
 ghost use mathlib.Core.Path.{_≡_};
-ghost use mathlib.Core.Bool.{true, false};
 ghost use lib.IntN.{pos};
-ghost use lib.Dec.{eqb};
-ghost use Rattle.area.specs.Pick.{both, either};
-ghost use Rattle.area.specs.Area.{same};
 ghost use Rattle.host.specs.Empty.{noProgram};
 ghost use Rattle.host.specs.With.{withProgram};
-ghost use Rattle.rules.specs.Run as Run;
+ghost use Rattle.rules.specs.Record.{samePair};
 ghost use Rattle.rules.specs.Commit as Says;
 ghost use Rattle.turns.specs.Asks.{Ready};
 ghost use Rattle.closing.specs.Asks.{closeLeaves};
 use host::Host;
 use host::Program;
+use rules::Pair;
 
 // What closing answers: document 01's number, the tally, the growth in bytes, and the host.
 pub struct Closing {
@@ -52,7 +50,7 @@ fn give_up(number: u64, host: Host) -> Closing
 
 // 13: whether a program has failed, or has not ended.
 fn unfinished(program: Program) -> bool
-    ensures { λ r. ⌜ r ≡ either (program .progress .failed) (Run.going (program .terms) (program .progress)) ⌝ }
+    ensures { λ r. ⌜ r ≡ Says.unfinished program ⌝ }
 {
     let progress = program.progress;
     if progress.failed {
@@ -62,13 +60,15 @@ fn unfinished(program: Program) -> bool
 }
 
 // Whether two pairs are the same: the sizes, and all bytes of the roots.
-fn same_pair(size: u64, root: [u8; 32], other: u64, its: [u8; 32]) -> bool
-    ensures { λ r. ⌜ r ≡ both (eqb size other) (same root its) ⌝ }
+fn same_pair(one: Pair, two: Pair) -> bool
+    ensures { λ r. ⌜ r ≡ samePair one two ⌝ }
 {
-    if size != other {
+    if one.size != two.size {
         return false;
     }
-    area::same(&root, &its)
+    let root = one.root;
+    let other = two.root;
+    area::same(&root, &other)
 }
 
 // Staged sectors go to the parent's slots on the disk, and the parent takes its final size.
@@ -102,26 +102,23 @@ fn commit(host: Host, disk: &mut [u8], stage: &[u8]) -> Closing
     }
 }
 
-// An agreement: 14 drops the changes, and closes.
-fn agree_to(host: Host, disk: &mut [u8], stage: &[u8], size: u64, root: [u8; 32]) -> Closing
+// An agreement. Where nothing changed there is nothing to agree, and nothing to commit; else 14 drops the changes, and closes.
+fn agree_to(host: Host, disk: &mut [u8], stage: &[u8], named: Pair) -> Closing
     requires { ⌜ Ready (now disk) host (now stage) ⌝ }
-    ensures { λ r. ⌜ closeLeaves r (now (disk .exit)) ≡ Says.agreed 4096 (now (disk .entry)) host (now (stage .entry)) size root ⌝ }
+    ensures { λ r. ⌜ closeLeaves r (now (disk .exit)) ≡ Says.agreed 4096 (now (disk .entry)) host (now (stage .entry)) named ⌝ }
 {
-    let program = host.program;
-    let terms = program.terms;
-    let head = terms.head;
-    let id = head.contract;
-    let places = host.places;
-    let parent = host::place_of(places, id);
-    let progress = program.progress;
-    let running = step::running_root(&*disk, stage, parent, progress);
-    if !same_pair(size, root, progress.size, running) {
+    let starting = turns::starting_pair(host, &*disk);
+    let running = turns::running_pair(host, &*disk, stage);
+    if same_pair(running, starting) {
+        return give_up(0, host);
+    }
+    if !same_pair(named, running) {
         return give_up(14, host);
     }
     commit(host, disk, stage)
 }
 
-// Closes the program: 1, 2, 4, 13, 14. Giving up always closes and commits nothing.
+// Closes the program: 1, 2, 4, 13, 14. Giving up always closes and commits nothing; so does an agreement to a program that changed nothing.
 pub fn close(
     host: Host,
     disk: &mut [u8],
@@ -148,5 +145,9 @@ pub fn close(
     if unfinished(program) {
         return refused(13, host);
     }
-    agree_to(host, disk, stage, size, root)
+    let named = Pair {
+        size,
+        root,
+    };
+    agree_to(host, disk, stage, named)
 }

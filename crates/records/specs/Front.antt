@@ -2,10 +2,7 @@
 use mathlib.Core.List.{List, _++_}
 use Prim.Native.Nat.{ℕ}
 use Rattle.area.specs.Little.{le8}
-use Rattle.rules.specs.Record.{Pair}
-
-abbrev pub pair : ℕ → List ℕ → Pair
-pair size root = record { size = size; root = root }
+use Rattle.rules.specs.declared.Pair.{Pair}
 
 -- "number (0 if it succeeded), cost, new size (8 each), new root (32), proof count"
 unfoldable pub front : ℕ → ℕ → Pair → ℕ → List ℕ

@@ -7,16 +7,16 @@ ghost use Prim.Native.Nat.{_≤_};
 ghost use lib.ListN.{length};
 ghost use Rattle.area.specs.Pick.{pick};
 ghost use Rattle.area.specs.Area.{put};
-ghost use Rattle.rules.specs.Record.{recordBytes};
+ghost use Rattle.rules.specs.Record.{pairing, recordBytes};
 ghost use Rattle.view.specs.Seen.{Lies, Inside, Ranged};
-ghost use Rattle.records.specs.Front.{pair, front};
+ghost use Rattle.records.specs.Front.{front};
 ghost use Rattle.records.specs.Shown.{shownProof, shownBytes, Shows};
 use view::Seen;
 
 // The first 64 bytes: number, cost, size, root and the count of hashes.
 fn put_front(number: u64, cost: u64, size: u64, root: [u8; 32], hashes: u64, out: &mut [u8])
     requires { ⌜ 64 ≤ length (now out) ⌝ }
-    ensures { λ _. ⌜ now (out .exit) ≡ put (now (out .entry)) 0 (front number cost (pair size root) hashes) ⌝ }
+    ensures { λ _. ⌜ now (out .exit) ≡ put (now (out .entry)) 0 (front number cost (pairing size root) hashes) ⌝ }
 {
     area::store(out, 0, 8, number);
     area::store(out, 8, 8, cost);
@@ -28,7 +28,7 @@ fn put_front(number: u64, cost: u64, size: u64, root: [u8; 32], hashes: u64, out
 // The record of a failure: cost 0, both counts 0.
 pub fn put_failure(number: u64, size: u64, root: [u8; 32], out: &mut [u8])
     requires { ⌜ 72 ≤ length (now out) ⌝ }
-    ensures { λ _. ⌜ now (out .exit) ≡ put (now (out .entry)) 0 (recordBytes number 0 (pair size root) 0 [] 0 []) ⌝ }
+    ensures { λ _. ⌜ now (out .exit) ≡ put (now (out .entry)) 0 (recordBytes number 0 (pairing size root) 0 [] 0 []) ⌝ }
 {
     put_front(number, 0, size, root, 0, out);
     area::store(out, 64, 8, 0);
@@ -101,7 +101,7 @@ pub fn put_success<'a>(
     out: &mut [u8],
 )
     requires { ⌜ Shows (now disk) (now stage) seen asked reads at n hashes (now out) ⌝ }
-    ensures { λ _. ⌜ now (out .exit) ≡ put (now (out .entry)) 0 (recordBytes 0 cost (pair size root) hashes (shownProof asked (now (disk .entry)) (now (stage .entry)) seen at n) (pick reads n 0) (shownBytes reads (now (disk .entry)) (now (stage .entry)) seen at n)) ⌝ }
+    ensures { λ _. ⌜ now (out .exit) ≡ put (now (out .entry)) 0 (recordBytes 0 cost (pairing size root) hashes (shownProof asked (now (disk .entry)) (now (stage .entry)) seen at n) (pick reads n 0) (shownBytes reads (now (disk .entry)) (now (stage .entry)) seen at n)) ⌝ }
 {
     put_front(0, cost, size, root, hashes, out);
     put_proof(asked, disk, stage, seen, at, n, &mut out[64..]);

@@ -212,8 +212,9 @@ given-declared z n disk h d = record { some = d .some; places = d .places; stage
 
 declared-closes : (z : ℕ) (h : Host) (a : Areas) (g : Agreement) → Ready z h → Declared z (closes z h a g .host)
 declared-closes z h a g r =
-    close-ways z h a g (λ (x : Closed). Declared z (x .host)) (λ n _ _. r .declared) (given-declared z 0 (a .disk) h (r .declared))
-    (given-declared z 14 (a .disk) h (r .declared)) (λ _ live _ _. commit-declared z (a .disk) h (a .stage) r live)
+    let up : (n : ℕ) → Declared z (givenUp n (a .disk) h .host) = λ n. given-declared z n (a .disk) h (r .declared) in
+    close-ways z h a g (λ (x : Closed). Declared z (x .host)) (λ n _ _ _. r .declared) (λ _. up 0) (λ _ _ _. up 0) (λ _ _ _. up 14)
+    (λ _ finished _ _. commit-declared z (a .disk) h (a .stage) r (finished .live))
 
 -- ---- all calls
 

@@ -1,7 +1,7 @@
 -- A commit gives the parent the size, root and bytes that it was read with, leaves every other contract, and changes no slot but those that
 -- staged positions go to. Assumes nothing.
 use mathlib.Core.Path.{_≡_, refl, sym, ap, ap₂, _∙_, subst}
-use mathlib.Core.Bool.{Bool, true, false, not}
+use mathlib.Core.Bool.{true, false}
 use mathlib.Core.List.{List, [], _++_, append-nil}
 use Prim.Native.Nat.{ℕ, suc, _+_, _*_, _/_, _≤_, _<_}
 use native.Mathlib.Nat.{zero-div, suc-mul, mul-le-mul-right, le-of-mul-le-mul-right}
@@ -9,11 +9,9 @@ use native.Mathlib.Omega.{arith}
 use lib.ListN.{length, getD, List·getD-append}
 use lib.IntN.{pos, _-ℤ_}
 use lib.Dec.{ltb, eqb}
-use borrow.Author.Tests.{not-true, not-false, ltb-true, eqb-true, eq-eqb}
-use Rattle.area.specs.Pick.{both}
+use borrow.Author.Tests.{not-true, ltb-true}
 use Rattle.area.specs.Area.{same, part, tab}
-use Rattle.area.proofs.Laws.Pick.{by, picks, skips, never, both-left, both-right, both-join, either-join}
-use Rattle.area.proofs.Laws.Same.{same-eq, eq-same}
+use Rattle.area.proofs.Laws.Pick.{by, picks, skips, never, both-left}
 use Rattle.area.proofs.Laws.Parts.{length-part}
 use Rattle.area.proofs.Laws.Tab.{length-tab}
 use Rattle.sia.specs.Encode.{joined, every}
@@ -21,64 +19,37 @@ use Rattle.host.specs.Lists.{some, each, apart, unused}
 use Rattle.host.specs.Empty.{none, noPlace, noProgram}
 use Rattle.host.specs.With.{withPlaces, withProgram, withSize, withSlots}
 use Rattle.host.specs.Places.{hasId, whose, committed, taken}
-use Rattle.sia.specs.Names.{readOnly}
-use Rattle.host.specs.Order.{inOrder, slotInOrder, parentInOrder, termsInOrder}
+use Rattle.host.specs.Order.{inOrder, slotInOrder, termsInOrder}
 use Rattle.host.specs.Calls.{replaced}
 use Rattle.rules.specs.View.{settingOf, parent, areasRight, sector, spotOf, parentSpots, committedSpots, whole}
 use Rattle.rules.specs.Roots.{contractRoot}
-use Rattle.rules.specs.Record.{Pair, pairOf, runningPair}
-use Rattle.rules.specs.Run.{going}
+use Rattle.rules.specs.Record.{pairing, samePair, pairOf, startingPair, runningPair}
 use Rattle.rules.specs.Facts.{Good, Solid}
-use Rattle.rules.specs.Commit.{Closed, closed, finalSlots, finalPlace, copiedBack, givenUp, commit, agreed, close}
-use Rattle.rules.specs.Visit.{Areas, Agreement, Declared}
-use Rattle.rules.specs.Trace.{sectorsOf, pairing}
-use Rattle.rules.specs.Outcome.{Committed}
+use Rattle.rules.specs.Commit.{Closed, closed, finalSlots, finalPlace, copiedBack, givenUp, commit}
+use Rattle.rules.specs.Visit.{Areas, Agreement, named, closes, Declared, Finished}
+use Rattle.rules.specs.Trace.{sectorsOf, parentIn, starting, running, Unchanged}
+use Rattle.rules.specs.Outcome.{Dropped, Committed}
 use Rattle.rules.specs.Demand2.{Agreed}
 use Rattle.rules.proofs.Laws.Effects.{whole-sectors}
 use Rattle.rules.proofs.Laws.Slots.{every-and, every-fore, every-aft, apart-out}
-use Rattle.rules.proofs.Laws.Spots.{every-at, every-get, whose-every, whose-nobody, length-each, unstaged}
+use Rattle.rules.proofs.Laws.Spots.{every-at, every-get, whose-every, length-each, unstaged}
 use Rattle.rules.proofs.Laws.Split.{Split, split, replaced-none, replaced-split, taken-split, none-of}
 use Rattle.rules.proofs.Laws.Taking.{order-good, order-solid, areas-stage}
-use Rattle.rules.proofs.Laws.Ways.{passes}
 use Rattle.rules.proofs.Laws.Filling.{held, filling-length, filling-outside, filling-inside, joined-each, joined-tab, roots-alike}
 use Rattle.rules.proofs.Laws.Others.{whose-new, not-other, whose-other, none-has, none-bare, some-at, distinct, fore-unused, aft-unused, joined-alike}
+use Rattle.rules.proofs.Laws.Pairs.{same-pairs, pairs-differ, none-starts, none-runs}
+use Rattle.rules.proofs.Laws.Sizes.{nothing-reached}
+use Rattle.rules.proofs.Nothing.{given-up, close-ways}
+use Rattle.rules.proofs.Unchanged.{same-closes, right-closes}
 use Rattle.rules.proofs.Committing.{Final, final, order-places, place-twins}
 use Rattle.host.specs.declared.Place.{Place}
 use Rattle.host.specs.declared.Host.{Host}
+use Rattle.rules.specs.declared.Pair.{Pair}
 use Rattle.rules.specs.declared.Spot.the-variants.{OnDisk, InStage}
 
 -- an area that no close looks at
 abbrev lends : List ℕ → List ℕ → Areas
 lends disk stage = record { disk = disk; stage = stage; input = []; output = [] }
-
--- ---- an agreement that is answered with 0
-
-record Agrees (z : ℕ) (disk : List ℕ) (h : Host) (stage : List ℕ) (size : ℕ) (root : List ℕ) : Type 0 where
-  order : inOrder z h ≡ true
-  areas : areasRight z h disk stage ≡ true
-  live : h .program .active ≡ true
-  pair : pairing size root ≡ runningPair z (settingOf h disk) (h .program .progress) stage
-  done : close z disk h stage true size root ≡ commit z disk h stage
-
-agreement : (z : ℕ) (disk : List ℕ) (h : Host) (stage : List ℕ) (size : ℕ) (root : List ℕ) → close z disk h stage true size root .number ≡ 0 → Agrees z disk h stage size root
-unfolding close agreed givenUp
-agreement z disk h stage size root e =
-    let pair = runningPair z (settingOf h disk) (h .program .progress) stage in
-    let c1 = passes (λ r. r .number) (not (inOrder z h)) (closed 1 0 (pos 0) h disk) _ (λ n. absurd (omega arith)) e in
-    let c2 = passes (λ r. r .number) (not (areasRight z h disk stage)) (closed 2 0 (pos 0) h disk) _ (λ n. absurd (omega arith)) (c1 .1) in
-    let c4 = passes (λ r. r .number) (not (h .program .active)) (closed 4 0 (pos 0) h disk) _ (λ n. absurd (omega arith)) (c2 .1) in
-    let up = skips (not true) (givenUp 0 disk h) _ refl in
-    let c13 = passes (λ r. r .number) _ (closed 13 0 (pos 0) h disk) _ (λ n. absurd (omega arith))
-    (ap (λ (r : Closed). r .number) (sym up) ∙ c4 .1) in
-    by (both (eqb size (pair .size)) (same root (pair .root)))
-    (λ t. record {
-      order = not-false _ (c1 .0);
-      areas = not-false _ (c2 .0);
-      live = not-false _ (c4 .0);
-      pair = ap₂ pairing (eqb-true _ _ (both-left _ _ t)) (same-eq _ _ (both-right _ _ t));
-      done = c1 .2 ∙ c2 .2 ∙ c4 .2 ∙ up ∙ c13 .2 ∙ picks (both (eqb size (pair .size)) (same root (pair .root))) _ _ t;
-    })
-    (λ t. absurd (let q = ap (λ (r : Closed). r .number) (sym (skips (both (eqb size (pair .size)) (same root (pair .root))) (commit z disk h stage) _ t)) ∙ c13 .1 in omega arith))
 
 -- ---- a held parent
 
@@ -243,12 +214,8 @@ module _ (z : ℕ) (disk : List ℕ) (h : Host) (stage : List ℕ) (sound : Decl
   -- ---- no parent: read-only mode
 
   nobody : whose id (h .places) .held ≡ false → h .program .progress .size ≡ 0
-  unfolding id parentInOrder termsInOrder settingOf
-  nobody e =
-      let t = both-left _ _ (good .terms) in
-      by (same (h .program .terms .head .contract) readOnly)
-      (λ u. eqb-true _ _ (sym (picks (same (h .program .terms .head .contract) readOnly) _ _ u) ∙ t))
-      (λ u. never (sym t ∙ skips (same (h .program .terms .head .contract) readOnly) _ _ u ∙ e))
+  unfolding id termsInOrder settingOf
+  nobody e = nothing-reached (h .places) (h .program .terms .head .contract) _ (both-left _ _ (good .terms)) e
 
   none-committed : whose id (h .places) .held ≡ false → committedSpots z (whose id (h .places)) ≡ []
   unfolding committedSpots committed each
@@ -267,9 +234,8 @@ module _ (z : ℕ) (disk : List ℕ) (h : Host) (stage : List ℕ) (sound : Decl
   nobody-sectors e = ap (whole z disk []) (none-committed e) ∙ sym (ap (whole z disk stage) (none-read e))
 
   nobody-pair : whose id (h .places) .held ≡ false → pairOf z disk (whose id (h .places)) ≡ runningPair z (settingOf h disk) (h .program .progress) stage
-  unfolding pairOf runningPair contractRoot settingOf
-  nobody-pair e =
-      ap₂ pairing (whose-nobody id (h .places) e ∙ sym (nobody e)) (ap (contractRoot z disk []) (none-committed e) ∙ sym (ap (contractRoot z disk stage) (none-read e)))
+  unfolding startingPair parent settingOf id
+  nobody-pair e = none-starts z (settingOf h disk) e ∙ sym (none-runs z (settingOf h disk) (h .program .progress) stage (nobody e))
 
   nobody-commits : whose id (h .places) .held ≡ false → (l : List ℕ) → Committed z h (lends disk stage) (left (whose id (h .places)) l)
   unfolding left withProgram withPlaces id size staged
@@ -299,13 +265,7 @@ module _ (z : ℕ) (disk : List ℕ) (h : Host) (stage : List ℕ) (sound : Decl
       (held-commits s f))
       (λ e. subst (Committed z h (lends disk stage)) (sym commit-left) (nobody-commits e _))
 
--- ---- the whole
-
-commits-all : (z : ℕ) (disk : List ℕ) (h : Host) (stage : List ℕ) (size : ℕ) (root : List ℕ) → Declared z h
-    → close z disk h stage true size root .number ≡ 0 → Committed z h (lends disk stage) (close z disk h stage true size root)
-commits-all z disk h stage size root declared e =
-    let g = agreement z disk h stage size root e in
-    subst (Committed z h (lends disk stage)) (sym (g .done)) (commits z disk h stage declared (g .order) (g .areas) (g .live))
+-- ---- an agreement that is answered with 0
 
 with-areas : (z : ℕ) (h : Host) (a : Areas) (r : Closed) → Committed z h (lends (a .disk) (a .stage)) r → Committed z h a r
 with-areas z h a r c = record {
@@ -318,26 +278,46 @@ with-areas z h a r c = record {
   growth = c .growth;
 }
 
--- an agreement to the pair reached is answered with 0
-answers : (z : ℕ) (disk : List ℕ) (h : Host) (stage : List ℕ) (size : ℕ) (root : List ℕ) → inOrder z h ≡ true
-    → areasRight z h disk stage ≡ true → h .program .active ≡ true → h .program .progress .failed ≡ false → going (h .program .terms) (h .program .progress) ≡ false
-    → pairing size root ≡ runningPair z (settingOf h disk) (h .program .progress) stage → close z disk h stage true size root .number ≡ 0
-unfolding close agreed commit
-answers z disk h stage size root order areas live good ended same-pair =
-    let sizes = eq-eqb _ _ (ap (λ (x : Pair). x .size) same-pair) in
-    let roots = eq-same _ _ (ap (λ (x : Pair). x .root) same-pair) in
-    ap (λ (r : Closed). r .number)
-    (skips (not (inOrder z h)) _ _ (ap not order) ∙ skips (not (areasRight z h disk stage)) _ _ (ap not areas)
-    ∙ skips (not (h .program .active)) _ _ (ap not live) ∙ skips (not true) _ _ refl ∙ skips _ _ _ (either-join _ _ good ended)
-    ∙ picks (both (eqb size _) (same root _)) _ _ (both-join _ _ sizes roots))
+module _ (z : ℕ) (h : Host) (a : Areas) (g : Agreement) (agrees : g .agree ≡ true) where
+  finished : closes z h a g .number ≡ 0 → Finished z h a
+  finished =
+      close-ways z h a g (λ r. r .number ≡ 0 → Finished z h a) (λ n lo _ _ e. absurd (omega arith)) (λ e. never (sym agrees ∙ e))
+      (λ _ f _ _. f) (λ _ f _ _. f) (λ _ f _ _ _. f)
 
-agreed-true : (z : ℕ) (h : Host) (a : Areas) (size : ℕ) (root : List ℕ) → Agreed z h a (record { agree = true; size = size; root = root })
-agreed-true z h a size root = record {
-  pair = λ e. agreement z (a .disk) h (a .stage) size root e .pair;
-  done = answers z (a .disk) h (a .stage) size root;
-  commits = λ declared e. with-areas z h a _ (commits-all z (a .disk) h (a .stage) size root declared e);
-}
+  drops : closes z h a g .number ≡ 0 → Unchanged z h a → Dropped a h (closes z h a g)
+  drops e u = subst (Dropped a h) (sym (same-closes z h a g agrees (finished e) u)) (given-up z h a 0)
 
-pub agreements : (z : ℕ) (h : Host) (a : Areas) (g : Agreement) → g .agree ≡ true → Agreed z h a g
-agreements z h a g e =
-    subst (λ (b : Bool). Agreed z h a (record { agree = b; size = g .size; root = g .root })) (sym e) (agreed-true z h a (g .size) (g .root))
+  pair : closes z h a g .number ≡ 0 → (Unchanged z h a → ⊥) → named g ≡ running z h a
+  unfolding givenUp
+  pair =
+      close-ways z h a g (λ r. r .number ≡ 0 → (Unchanged z h a → ⊥) → named g ≡ running z h a) (λ n lo _ _ e. absurd (omega arith))
+      (λ e. never (sym agrees ∙ e)) (λ _ _ u _ changed. absurd (changed u)) (λ _ _ _ e. absurd (omega arith)) (λ _ _ _ q _ _. q)
+
+  all-commits : Declared z h → closes z h a g .number ≡ 0 → (Unchanged z h a → ⊥) → Committed z h a (closes z h a g)
+  all-commits declared e changed =
+      let f = finished e in
+      subst (Committed z h a) (sym (right-closes z h a g agrees f changed (pair e changed)))
+      (with-areas z h a _ (commits z (a .disk) h (a .stage) declared (f .order) (f .areas) (f .live)))
+
+  -- the pair of the parent in what a close leaves
+  abbrev standing : Closed → Pair
+  standing r = pairOf z (r .disk) (parentIn h (r .host .places))
+
+  stands : Declared z h → closes z h a g .number ≡ 0 → standing (closes z h a g) ≡ running z h a
+  unfolding startingPair parent settingOf
+  stands declared e =
+      by (samePair (running z h a) (starting z h a))
+      (λ t. let u = same-pairs _ _ t in
+      let d = drops e u .untouched in
+      ap₂ (λ (disk : List ℕ) (ps : List Place). pairOf z disk (parentIn h ps)) (d .bytes) (d .places) ∙ sym u)
+      (λ t. all-commits declared e (pairs-differ _ _ t) .parent)
+
+  done : Finished z h a → named g ≡ running z h a → closes z h a g .number ≡ 0
+  unfolding givenUp commit
+  done f q =
+      by (samePair (running z h a) (starting z h a))
+      (λ t. ap (λ (r : Closed). r .number) (same-closes z h a g agrees f (same-pairs _ _ t)))
+      (λ t. ap (λ (r : Closed). r .number) (right-closes z h a g agrees f (pairs-differ _ _ t) q))
+
+  pub agreements : Agreed z h a g
+  agreements = record { finished = finished; drops = drops; pair = pair; commits = all-commits; stands = stands; done = done }

@@ -9,6 +9,7 @@ pub mod Taking
 pub mod Trails
 pub mod Spots
 pub mod Lengths
+pub mod Pairs
 pub mod Pigeons
 pub mod Sizes
 pub mod Slots

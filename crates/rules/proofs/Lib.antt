@@ -9,8 +9,9 @@ pub mod Records
 pub mod Ordering
 pub mod Opening
 pub mod Committing
-pub mod Commits
 pub mod Nothing
+pub mod Unchanged
+pub mod Commits
 pub mod Showing
 pub mod Arrays
 pub mod Visits

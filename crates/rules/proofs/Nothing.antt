@@ -6,7 +6,7 @@ use mathlib.Core.List.{List}
 use Prim.Native.Nat.{ℕ, _<_}
 use native.Mathlib.Omega.{arith}
 use lib.IntN.{pos}
-use borrow.Author.Tests.{not-false}
+use borrow.Author.Tests.{not-true, not-false}
 use Rattle.area.specs.Pick.{pick}
 use Rattle.area.proofs.Laws.Pick.{picks, skips, never, either-left, either-right}
 use Rattle.host.specs.Empty.{noProgram}
@@ -15,11 +15,13 @@ use Rattle.host.specs.Order.{inOrder}
 use Rattle.rules.specs.View.{withRun, areasRight}
 use Rattle.rules.specs.Run.{going}
 use Rattle.rules.specs.Calls.{openedHead, opened, Pieced, accepted, piece, Interrupted, stopped, interrupt}
-use Rattle.rules.specs.Commit.{Closed, closed, givenUp, commit, agreed, close}
-use Rattle.rules.specs.Visit.{Areas, Opening, Agreement, opens, gives, stops, closes}
-use Rattle.rules.specs.Outcome.{Untouched, stageTaken, Shut}
+use Rattle.rules.specs.Commit.{Closed, closed, givenUp, commit, agreed, unfinished, close}
+use Rattle.rules.specs.Visit.{Areas, Opening, Agreement, named, opens, gives, stops, closes, Finished}
+use Rattle.rules.specs.Trace.{running, Unchanged}
+use Rattle.rules.specs.Outcome.{Untouched, stageTaken, Shut, Dropped}
 use Rattle.rules.specs.Demand1.{Nothing, Closing}
 use Rattle.rules.proofs.Laws.Ways.{either-way}
+use Rattle.rules.proofs.Laws.Pairs.{same-pairs, pairs-differ}
 use Rattle.host.specs.declared.Host.{Host}
 use Rattle.rules.specs.declared.Answer.{Answer}
 
@@ -49,55 +51,75 @@ module _ (z : ℕ) (h : Host) (a : Areas) where
       way _ _ _ (λ _. refl) (λ _. way _ _ _ (λ _. refl) (λ _. way _ _ _ (λ _. refl) (λ _. way _ _ _ (λ _. refl) (λ _.
       way _ _ _ (λ _. refl) (λ _. refl)))))
 
-  -- down the chain of a close: 1, 2, 4 and 13, which leave all; giving up, with 0 or 14; the commit, of a program that has ended and not
-  -- failed
-  module _ (g : Agreement) (K : Closed → Type 0) (refusal : (n : ℕ) → 0 < n → n < 14 → K (closed n 0 (pos 0) h (a .disk)))
-      (up : K (givenUp 0 (a .disk) h)) (wrong : K (givenUp 14 (a .disk) h))
-      (done : g .agree ≡ true → h .program .active ≡ true → h .program .progress .failed ≡ false
-      → going (h .program .terms) (h .program .progress) ≡ false → K (commit z (a .disk) h (a .stage))) where
+  -- giving up, with any number
+  pub given-up : (n : ℕ) → Dropped a h (givenUp n (a .disk) h)
+  unfolding givenUp withProgram
+  given-up n = record { untouched = record { bytes = refl; places = refl }; shut = shut h; tally = refl; growth = refl }
+
+  -- down the chain of a close: 1, 2, 4 and 13, which leave all; giving up; and of a program that has ended and not failed, what the pairs say
+  module _ (g : Agreement) (K : Closed → Type 0)
+      (refusal : (n : ℕ) → 0 < n → n < 14 → (n ≡ 13 → unfinished (h .program) ≡ true) → K (closed n 0 (pos 0) h (a .disk)))
+      (up : g .agree ≡ false → K (givenUp 0 (a .disk) h))
+      (same : g .agree ≡ true → Finished z h a → Unchanged z h a → K (givenUp 0 (a .disk) h))
+      (wrong : g .agree ≡ true → Finished z h a → (Unchanged z h a → ⊥) → K (givenUp 14 (a .disk) h))
+      (done : g .agree ≡ true → Finished z h a → (Unchanged z h a → ⊥) → named g ≡ running z h a → K (commit z (a .disk) h (a .stage))) where
     pub close-ways : K (closes z h a g)
-    unfolding close agreed
+    unfolding close agreed unfinished
     close-ways =
-        either-way K _ _ _ (λ _. refusal 1 (omega arith) (omega arith)) (λ _.
-        either-way K _ _ _ (λ _. refusal 2 (omega arith) (omega arith)) (λ _.
-        either-way K _ _ _ (λ _. refusal 4 (omega arith) (omega arith)) (λ live.
-        either-way K _ _ _ (λ _. up) (λ agrees.
-        either-way K _ _ _ (λ _. refusal 13 (omega arith) (omega arith)) (λ ended.
-        either-way K _ _ _ (λ _. done (not-false _ agrees) (not-false _ live) (either-left _ _ ended) (either-right _ _ ended))
-        (λ _. wrong))))))
+        either-way K _ _ _ (λ _. refusal 1 (omega arith) (omega arith) (λ n. absurd (omega arith))) (λ order.
+        either-way K _ _ _ (λ _. refusal 2 (omega arith) (omega arith) (λ n. absurd (omega arith))) (λ areas.
+        either-way K _ _ _ (λ _. refusal 4 (omega arith) (omega arith) (λ n. absurd (omega arith))) (λ live.
+        either-way K _ _ _ (λ e. up (not-true _ e)) (λ e.
+        either-way K _ _ _ (λ t. refusal 13 (omega arith) (omega arith) (λ _. t)) (λ ended.
+        let agrees = not-false _ e in
+        let finished : Finished z h a = record {
+          order = not-false _ order;
+          areas = not-false _ areas;
+          live = not-false _ live;
+          good = either-left _ _ ended;
+          ended = either-right _ _ ended;
+        } in
+        either-way K _ _ _ (λ t. same agrees finished (same-pairs _ _ t)) (λ t.
+        let changed = pairs-differ _ _ t in
+        either-way K _ _ _ (λ u. done agrees finished changed (same-pairs _ _ u)) (λ _. wrong agrees finished changed)))))))
 
   module _ (g : Agreement) where
-    same-refused : (n : ℕ) → 0 < n → n < 14 → Untouched a h (closed n 0 (pos 0) h (a .disk))
-    same-refused n _ _ = record { bytes = refl; places = refl }
-
-    same-up : (n : ℕ) → Untouched a h (givenUp n (a .disk) h)
-    unfolding givenUp withProgram
-    same-up n = record { bytes = refl; places = refl }
+    -- what is committed, is committed by a close that goes all the way down
+    untouched-but : (g .agree ≡ true → Finished z h a → (Unchanged z h a → ⊥) → Untouched a h (commit z (a .disk) h (a .stage)))
+        → Untouched a h (closes z h a g)
+    untouched-but done =
+        close-ways g (Untouched a h) (λ n _ _ _. record { bytes = refl; places = refl }) (λ _. given-up 0 .untouched)
+        (λ _ _ _. given-up 0 .untouched) (λ _ _ _. given-up 14 .untouched) (λ agrees finished changed _. done agrees finished changed)
 
     uncommitted : (closes z h a g .number ≡ 0 → g .agree ≡ true → ⊥) → Untouched a h (closes z h a g)
     unfolding commit
     uncommitted =
-        close-ways g (λ r. (r .number ≡ 0 → g .agree ≡ true → ⊥) → Untouched a h r) (λ n lo hi _. same-refused n lo hi)
-        (λ _. same-up 0) (λ _. same-up 14) (λ agrees _ _ _ not. absurd (not refl agrees))
+        close-ways g (λ r. (r .number ≡ 0 → g .agree ≡ true → ⊥) → Untouched a h r) (λ n _ _ _ _. record { bytes = refl; places = refl })
+        (λ _ _. given-up 0 .untouched) (λ _ _ _ _. given-up 0 .untouched) (λ _ _ _ _. given-up 14 .untouched)
+        (λ agrees _ _ _ not. absurd (not refl agrees))
 
     -- 13: "agreement to a program not ended, or failed"
     failed : h .program .progress .failed ≡ true → Untouched a h (closes z h a g)
-    failed f = close-ways g (Untouched a h) same-refused (same-up 0) (same-up 14) (λ _ _ good _. never (sym f ∙ good))
+    failed f = untouched-but (λ _ finished _. never (sym f ∙ finished .good))
 
     unended : going (h .program .terms) (h .program .progress) ≡ true → Untouched a h (closes z h a g)
-    unended e = close-ways g (Untouched a h) same-refused (same-up 0) (same-up 14) (λ _ _ _ ended. never (sym e ∙ ended))
+    unended e = untouched-but (λ _ finished _. never (sym e ∙ finished .ended))
+
+    -- a program whose running pair is its starting pair
+    pub unchanged : Unchanged z h a → Untouched a h (closes z h a g)
+    unchanged u = untouched-but (λ _ _ changed. absurd (changed u))
 
     done : closes z h a g .number ≡ 0 → Shut (closes z h a g .host)
     unfolding givenUp commit
     done =
-        close-ways g (λ r. r .number ≡ 0 → Shut (r .host)) (λ n lo _ e. absurd (omega arith)) (λ _. shut h) (λ _. shut h)
-        (λ _ _ _ _ _. shut _)
+        close-ways g (λ r. r .number ≡ 0 → Shut (r .host)) (λ n lo _ _ e. absurd (omega arith)) (λ _ _. shut h) (λ _ _ _ _. shut h)
+        (λ _ _ _ _. shut h) (λ _ _ _ _ _. shut _)
 
     dropped : closes z h a g .number ≡ 14 → Shut (closes z h a g .host)
     unfolding givenUp commit
     dropped =
-        close-ways g (λ r. r .number ≡ 14 → Shut (r .host)) (λ n _ hi e. absurd (omega arith)) (λ _. shut h) (λ _. shut h)
-        (λ _ _ _ _ _. shut _)
+        close-ways g (λ r. r .number ≡ 14 → Shut (r .host)) (λ n _ hi _ e. absurd (omega arith)) (λ _ _. shut h) (λ _ _ _ _. shut h)
+        (λ _ _ _ _. shut h) (λ _ _ _ _ _. shut _)
 
     gives-up : inOrder z h ≡ true → areasRight z h (a .disk) (a .stage) ≡ true → h .program .active ≡ true → g .agree ≡ false
         → closes z h a g ≡ givenUp 0 (a .disk) h
@@ -109,8 +131,8 @@ module _ (z : ℕ) (h : Host) (a : Areas) where
     wrong : closes z h a g .number ≡ 14 → closes z h a g ≡ givenUp 14 (a .disk) h
     unfolding givenUp commit
     wrong =
-        close-ways g (λ r. r .number ≡ 14 → r ≡ givenUp 14 (a .disk) h) (λ n _ hi e. absurd (omega arith))
-        (λ e. absurd (omega arith)) (λ _. refl) (λ _ _ _ _ e. absurd (omega arith))
+        close-ways g (λ r. r .number ≡ 14 → r ≡ givenUp 14 (a .disk) h) (λ n _ hi _ e. absurd (omega arith))
+        (λ _ e. absurd (omega arith)) (λ _ _ _ e. absurd (omega arith)) (λ _ _ _ _. refl) (λ _ _ _ _ e. absurd (omega arith))
 
   pub nothing : Nothing z h a
   nothing = record {

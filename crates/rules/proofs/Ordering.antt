@@ -161,7 +161,8 @@ unfolding close agreed
 closing z disk h stage agree size root sound o =
     let way = either-way (λ (r : Closed). inOrder z (r .host) ≡ true) in
     way _ _ _ (λ _. o) (λ _. way _ _ _ (λ _. o) (λ _. way _ _ _ (λ _. o) (λ live. way _ _ _ (λ _. given-up z 0 disk h o) (λ _. way _ _ _ (λ _. o) (λ _.
-    way _ _ _ (λ _. commit-order z disk h stage sound o (not-false _ live)) (λ _. given-up z 14 disk h o))))))
+    way _ _ _ (λ _. given-up z 0 disk h o) (λ _.
+    way _ _ _ (λ _. commit-order z disk h stage sound o (not-false _ live)) (λ _. given-up z 14 disk h o)))))))
 
 -- ---- a host that is not in order
 

@@ -132,7 +132,8 @@ committed-before z h a id k =
 closed-before : (z : ℕ) (h : Host) (a : Areas) (id : List ℕ) (g : Agreement) → Before h id (closes z h a g .host)
 unfolding givenUp withProgram
 closed-before z h a id g =
-    close-ways z h a g (λ r. Before h id (r .host)) (λ n _ _ k. k) (λ k. k) (λ k. k) (λ _ _ _ _. committed-before z h a id)
+    close-ways z h a g (λ r. Before h id (r .host)) (λ n _ _ _ k. k) (λ _ k. k) (λ _ _ _ k. k) (λ _ _ _ k. k)
+    (λ _ _ _ _. committed-before z h a id)
 
 held-as : (id : List ℕ) (ps after : List Place) → after ≡ ps → whose id after .held ≡ true → whose id ps .held ≡ true
 held-as id ps after e k = ap (λ (l : List Place). whose id l .held) (sym e) ∙ k

@@ -53,5 +53,6 @@ refusals z h a = record {
   closing = λ g zero fourteen.
       let or = refused-or (λ r. r .number) (λ n. closed n 0 (pos 0) h (a .disk)) (λ n. refl) (λ r. (r .number ≡ 0 → ⊥) × (r .number ≡ 14 → ⊥)) in
       let way = either-way (λ r. r .number) (λ n. closed n 0 (pos 0) h (a .disk)) (λ n. refl) (λ r. (r .number ≡ 0 → ⊥) × (r .number ≡ 14 → ⊥)) in
-      or _ _ _ (or _ _ _ (or _ _ _ (way _ _ _ (λ n. absurd (n .0 refl)) (or _ _ _ (way _ _ _ (λ n. absurd (n .0 refl)) (λ n. absurd (n .1 refl))))))) (zero, fourteen);
+      or _ _ _ (or _ _ _ (or _ _ _ (way _ _ _ (λ n. absurd (n .0 refl)) (or _ _ _ (way _ _ _ (λ n. absurd (n .0 refl))
+      (way _ _ _ (λ n. absurd (n .0 refl)) (λ n. absurd (n .1 refl)))))))) (zero, fourteen);
 }

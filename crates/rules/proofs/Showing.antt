@@ -15,11 +15,11 @@ use Rattle.host.specs.With.{withProgram, withCame, withProgress, withRunning, w
 use Rattle.rules.specs.View.{Setting, Turn, settingOf, turnOf, withRun, parentSpots}
 use Rattle.rules.specs.Inputs.{inputsOf}
 use Rattle.rules.specs.Plan.{judged}
-use Rattle.rules.specs.Record.{Pair, runningPair, recordBytes, successBytes}
+use Rattle.rules.specs.Record.{pairing, runningPair, recordBytes, successBytes}
 use Rattle.rules.specs.Run.{failedProgress, failing, ranProgress, succeeding, stepped, current, step, ready, runs, run}
 use Rattle.rules.specs.Calls.{reachedPair, reached}
 use Rattle.rules.specs.Visit.{Areas}
-use Rattle.rules.specs.Trace.{leftBy, made, after, recordOf, recorded, trail, firstRecords, lastOf, running, pairing}
+use Rattle.rules.specs.Trace.{leftBy, made, after, recordOf, recorded, trail, firstRecords, lastOf, running}
 use Rattle.rules.specs.Demand2.{Tells}
 use Rattle.rules.proofs.Laws.Ways.{either-way}
 use Rattle.rules.proofs.Laws.Steps.{runs-zero, runs-go, runs-stop}
@@ -28,6 +28,7 @@ use Rattle.rules.proofs.Laws.Lengths.{length-root}
 use Rattle.rules.proofs.Records.{first-records}
 use Rattle.sia.specs.declared.Instruction.{Instruction}
 use Rattle.host.specs.declared.Host.{Host}
+use Rattle.rules.specs.declared.Pair.{Pair}
 use Rattle.rules.specs.declared.Reached.{Reached}
 
 abbrev shown : Pair → List ℕ

@@ -7,23 +7,25 @@ use native.Mathlib.Omega.{arith}
 use lib.ListN.{length, length-append}
 use Rattle.area.specs.Area.{part}
 use Rattle.area.specs.Little.{le8}
-use Rattle.rules.specs.View.{settingOf, turnOf}
+use Rattle.rules.specs.View.{settingOf, turnOf, parent}
+use Rattle.rules.specs.Record.{pairOf, startingPair}
 use Rattle.rules.specs.Calls.{Pieced, accepted}
 use Rattle.rules.specs.Commit.{Closed}
 use Rattle.rules.specs.Visit.{Areas, Opening, Agreement, opens, Declared, Visit}
 use Rattle.rules.specs.Trace.{together, lentTo, visited, leftBy, made, after}
-use Rattle.rules.specs.Trace.{firstRecords, recordsIn, lastOf, charged, running}
+use Rattle.rules.specs.Trace.{firstRecords, recordsIn, lastOf, charged, parentIn, running}
 use Rattle.rules.specs.Outcome.{Untouched}
 use Rattle.rules.specs.Demand2.{Ran, Closes}
 use Rattle.rules.specs.Demand3.{Cut}
 use Rattle.rules.proofs.Failing.{summed, within}
-use Rattle.rules.proofs.Nothing.{nothing}
+use Rattle.rules.proofs.Nothing.{nothing, unchanged}
 use Rattle.rules.proofs.Arrays.{same-opens, same-fed}
 use Rattle.rules.proofs.Opening.{Opened, opening-takes, opening-begins}
 use Rattle.rules.proofs.Cutting.{all-taken, cut-state, cut-alike}
 use Rattle.rules.proofs.Records.{after-count, after-output, after-written}
 use Rattle.rules.proofs.Showing.{after-shows}
 use Rattle.rules.proofs.Commits.{agreements}
+use Rattle.host.specs.declared.Place.{Place}
 use Rattle.host.specs.declared.Host.{Host}
 
 -- ---- pieces cut anywhere
@@ -91,6 +93,7 @@ before a b h g r e p u = record { bytes = u .bytes ∙ e; places = u .places ∙
 
 pub closing-visits : (z : ℕ) (h : Host) (o : Opening) (a : Areas) (bs : List (List ℕ)) (g : Agreement) → Declared z h
     → Closes z h a (visited z h o a bs) g
+unfolding startingPair parent settingOf
 closing-visits z h o a bs g d =
     let first = same-opens z h o d in
     let w = visited z h o a bs in
@@ -98,7 +101,9 @@ closing-visits z h o a bs g d =
     let none = nothing z (w .host) (leftBy a w) in
     let places = last .1 ∙ first .1 in
     record {
-      all = λ n agrees. agreements z (w .host) (leftBy a w) g agrees .commits (last .0) n;
+      starts = ap (λ (ps : List Place). pairOf z (a .disk) (parentIn (w .host) ps)) places;
+      all = λ n agrees changed. agreements z (w .host) (leftBy a w) g agrees .commits (last .0) n changed;
+      unchanged = λ u. before a (leftBy a w) h (w .host) _ refl places (unchanged z (w .host) (leftBy a w) g u);
       nothing = λ no. before a (leftBy a w) h (w .host) _ refl places (none .uncommitted g no);
       failed = λ f. before a (leftBy a w) h (w .host) _ refl places (none .failed g f);
       unended = λ e. before a (leftBy a w) h (w .host) _ refl places (none .unended g e);

@@ -14,13 +14,14 @@ use Rattle.host.specs.With.{withProgram}
 use Rattle.host.specs.Places.{whose}
 use Rattle.host.specs.Order.{inOrder}
 use Rattle.rules.specs.View.{settingOf, turnOf, withRun, diskRight, areasRight}
-use Rattle.rules.specs.Record.{Pair, startingPair, runningPair}
+use Rattle.rules.specs.Record.{startingPair, runningPair}
 use Rattle.rules.specs.Run.{failing, going, run}
 use Rattle.sia.specs.declared.Head.{Head}
 use Rattle.host.specs.declared.Prices.{Prices}
 use Rattle.host.specs.declared.Program.{Program}
 use Rattle.host.specs.declared.Host.{Host}
 use Rattle.rules.specs.declared.Answer.{Answer}
+use Rattle.rules.specs.declared.Pair.{Pair}
 use Rattle.rules.specs.declared.Reached.{Reached}
 
 abbrev pub answered : ℕ → ℕ → Host → Answer

@@ -5,8 +5,8 @@ use Prim.Native.Nat.{ℕ, zero, suc, _-_, _*_, _/_, min}
 use lib.ListN.{length, getD}
 use lib.IntN.{ℤ, pos, _-ℤ_}
 use lib.Dec.{eqb}
-use Rattle.area.specs.Pick.{pick, both, either}
-use Rattle.area.specs.Area.{same, part, put, zeros}
+use Rattle.area.specs.Pick.{pick, either}
+use Rattle.area.specs.Area.{part, put, zeros}
 use Rattle.area.specs.Lowest.{lowest}
 use Rattle.host.specs.Lists.{unused}
 use Rattle.host.specs.Empty.{none, noProgram}
@@ -15,10 +15,12 @@ use Rattle.host.specs.Places.{committed, taken}
 use Rattle.host.specs.Order.{inOrder}
 use Rattle.host.specs.Calls.{replaced}
 use Rattle.rules.specs.View.{settingOf, parent, areasRight}
-use Rattle.rules.specs.Record.{runningPair}
+use Rattle.rules.specs.Record.{pairing, samePair, startingPair, runningPair}
 use Rattle.rules.specs.Run.{going}
 use Rattle.host.specs.declared.Place.{Place}
+use Rattle.host.specs.declared.Program.{Program}
 use Rattle.host.specs.declared.Host.{Host}
+use Rattle.rules.specs.declared.Pair.{Pair}
 
 -- ---- slots
 
@@ -75,21 +77,28 @@ commit z disk h stage =
     closed 0 (p .tally) (pos (p .size) -ℤ pos (old .size)) (withProgram (withPlaces h places) noProgram)
     (copiedBack z stage (p .staged) slots 0 (p .size / z) disk)
 
--- "Agreement names final size and root", all 32 bytes; 14: "agreed size or root differs: changes dropped, program closed"
-unfoldable pub agreed : ℕ → List ℕ → Host → List ℕ → ℕ → List ℕ → Closed
-agreed z disk h stage size root =
+-- "when final size and root equal the starting ones .. closes with 0 whatever pair is given, and nothing is committed"; else "Agreement
+-- names final size and root", all 32 bytes; 14: "agreed size or root differs: changes dropped, program closed"
+unfoldable pub agreed : ℕ → List ℕ → Host → List ℕ → Pair → Closed
+agreed z disk h stage named =
+    let starting = startingPair z (settingOf h disk) in
+    let running = runningPair z (settingOf h disk) (h .program .progress) stage in
     let done = commit z disk h stage in
-    let pair = runningPair z (settingOf h disk) (h .program .progress) stage in
-    pick (both (eqb size (pair .size)) (same root (pair .root))) done (givenUp 14 disk h)
+    pick (samePair running starting) (givenUp 0 disk h)
+    (pick (samePair named running) done
+    (givenUp 14 disk h))
+
+-- "a program not ended, or failed"
+unfoldable pub unfinished : Program → Bool
+unfinished g = either (g .progress .failed) (going (g .terms) (g .progress))
 
 -- "Closing gives up or agrees." 1, 2, 4; 13: "agreement to a program not ended, or failed"
 unfoldable pub close : ℕ → List ℕ → Host → List ℕ → Bool → ℕ → List ℕ → Closed
 close z disk h stage agree size root =
-    let done = agreed z disk h stage size root in
-    let p = h .program .progress in
+    let done = agreed z disk h stage (pairing size root) in
     pick (not (inOrder z h)) (closed 1 0 (pos 0) h disk)
     (pick (not (areasRight z h disk stage)) (closed 2 0 (pos 0) h disk)
     (pick (not (h .program .active)) (closed 4 0 (pos 0) h disk)
     (pick (not agree) (givenUp 0 disk h)
-    (pick (either (p .failed) (going (h .program .terms) p)) (closed 13 0 (pos 0) h disk)
+    (pick (unfinished (h .program)) (closed 13 0 (pos 0) h disk)
     done))))

@@ -10,14 +10,15 @@ use Rattle.area.specs.Little.{le8, Bytes}
 use Rattle.sia.specs.Encode.{encode, within}
 use Rattle.sia.specs.Decode.{decode, told}
 use Rattle.sia.specs.Trim.{trimmed, Proper}
-use Rattle.host.specs.Order.{inOrder}
-use Rattle.rules.specs.View.{Setting, Turn, areasRight}
+use Rattle.rules.specs.View.{Setting, Turn}
 use Rattle.rules.specs.Roots.{sectorRoot, firstRoot}
+use Rattle.rules.specs.Record.{pairing, pairOf}
 use Rattle.rules.specs.Run.{going}
 use Rattle.rules.specs.Calls.{Pieced}
-use Rattle.rules.specs.Visit.{Areas, Opening, Agreement, opens, reaches, closes, Declared, Visit}
-use Rattle.rules.specs.Trace.{together, visited, leftBy, closesAfter, firstRecords, lastOf, charged, running, pairing}
-use Rattle.rules.specs.Outcome.{Instructed, Untouched, Committed}
+use Rattle.rules.specs.Visit.{Areas, Opening, Agreement, named, opens, reaches, closes, Declared, Finished, Visit}
+use Rattle.rules.specs.Trace.{together, visited, leftBy, closesAfter, firstRecords, lastOf, charged}
+use Rattle.rules.specs.Trace.{parentIn, starting, running, Unchanged}
+use Rattle.rules.specs.Outcome.{Instructed, Untouched, Dropped, Committed}
 use Rattle.sia.specs.declared.Head.{Head}
 use Rattle.sia.specs.declared.Instruction.{Instruction}
 use Rattle.host.specs.declared.Host.{Host}
@@ -28,7 +29,7 @@ pub record Ran (z : ℕ) (h : Host) (o : Opening) (a : Areas) (all : List ℕ) (
   -- "equal to the definition's summed instruction costs and never above the given budget"; "Init, is tallied at opening"
   pub tally : w .tally ≡ o .prices .init + charged z h a all k
   pub within : w .tally ≤ o .budget
-  -- if the program has not failed, its last record shows, behind number and cost, the pair that an agreement must name
+  -- if the program has not failed, its last record shows, behind number and cost, the running pair, which an agreement names
   pub shows : 0 < length (firstRecords z h a all k) → w .host .program .progress .failed ≡ false
       → let pair = running z (w .host) (leftBy a w) in part (lastOf [] (firstRecords z h a all k)) 16 40 ≡ le8 (pair .size) ++ pair .root
 
@@ -39,17 +40,26 @@ Tells z h a = let r = reaches z h a in
 
 -- an agreement that a host answers
 pub record Agreed (z : ℕ) (h : Host) (a : Areas) (g : Agreement) : Type 0 where
-  -- it must name the running pair, all 32 bytes of the root
-  pub pair : closes z h a g .number ≡ 0 → pairing (g .size) (g .root) ≡ running z h a
-  -- and if it does, of a program that has ended and not failed, it is answered with 0
-  pub done : inOrder z h ≡ true → areasRight z h (a .disk) (a .stage) ≡ true → h .program .active ≡ true
-      → h .program .progress .failed ≡ false → going (h .program .terms) (h .program .progress) ≡ false
-      → pairing (g .size) (g .root) ≡ running z h a → closes z h a g .number ≡ 0
-  pub commits : Declared z h → closes z h a g .number ≡ 0 → Committed z h a (closes z h a g)
+  -- answered with 0, the program had ended and not failed
+  pub finished : closes z h a g .number ≡ 0 → Finished z h a
+  -- and then either the running pair is the starting pair, and nothing is committed
+  pub drops : closes z h a g .number ≡ 0 → Unchanged z h a → Dropped a h (closes z h a g)
+  -- or the agreement names the running pair, all 32 bytes of the root, and that is committed
+  pub pair : closes z h a g .number ≡ 0 → (Unchanged z h a → ⊥) → named g ≡ running z h a
+  pub commits : Declared z h → closes z h a g .number ≡ 0 → (Unchanged z h a → ⊥) → Committed z h a (closes z h a g)
+  -- either way the parent's size and root are then the running pair
+  pub stands : Declared z h → closes z h a g .number ≡ 0
+      → pairOf z (closes z h a g .disk) (parentIn h (closes z h a g .host .places)) ≡ running z h a
+  -- one that names the running pair, of a program that has ended and not failed, is answered with 0
+  pub done : Finished z h a → named g ≡ running z h a → closes z h a g .number ≡ 0
 
 -- a program opened on h, given pieces that leave w, and closed: it commits, or leaves what stood before it was opened
 pub record Closes (z : ℕ) (h : Host) (a : Areas) (w : Pieced) (g : Agreement) : Type 0 where
-  pub all : closesAfter z a w g .number ≡ 0 → g .agree ≡ true → Committed z (w .host) (leftBy a w) (closesAfter z a w g)
+  -- its starting pair is that of the parent before it was opened
+  pub starts : starting z (w .host) (leftBy a w) ≡ pairOf z (a .disk) (parentIn (w .host) (h .places))
+  pub all : closesAfter z a w g .number ≡ 0 → g .agree ≡ true → (Unchanged z (w .host) (leftBy a w) → ⊥)
+      → Committed z (w .host) (leftBy a w) (closesAfter z a w g)
+  pub unchanged : Unchanged z (w .host) (leftBy a w) → Untouched a h (closesAfter z a w g)
   pub nothing : (closesAfter z a w g .number ≡ 0 → g .agree ≡ true → ⊥) → Untouched a h (closesAfter z a w g)
   pub failed : w .host .program .progress .failed ≡ true → Untouched a h (closesAfter z a w g)
   pub unended : going (w .host .program .terms) (w .host .program .progress) ≡ true → Untouched a h (closesAfter z a w g)

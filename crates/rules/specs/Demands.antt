@@ -5,6 +5,7 @@ use Rattle.rules.specs.Demand1.{Demand1}
 use Rattle.rules.specs.Demand2.{Demand2}
 use Rattle.rules.specs.Demand3.{Demand3}
 use Rattle.rules.specs.Padded.{ShortIds}
+use Rattle.rules.specs.Unchanged.{NothingToAgree}
 
 pub record Demands : Type 0 where
   -- "No input breaks it."
@@ -15,3 +16,5 @@ pub record Demands : Type 0 where
   pub three : Demand3
   -- "No padded short ids."
   pub ids : ShortIds
+  -- "Nothing changed, nothing to agree."
+  pub unchanged : NothingToAgree

@@ -16,6 +16,7 @@ pub mod Trace
 pub mod Outcome
 pub mod Renaming
 pub mod Padded
+pub mod Unchanged
 pub mod Demand1
 pub mod Demand2
 pub mod Demand3

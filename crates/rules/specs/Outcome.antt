@@ -81,6 +81,13 @@ pub record Shut (h : Host) : Type 0 where
   pub active : h .program .active ≡ false
   pub slots : stageTaken h ≡ []
 
+-- a close commits nothing: disk and contracts as they were, no stage slot taken any more; the tally, and growth 0
+pub record Dropped (a : Areas) (h : Host) (after : Closed) : Type 0 where
+  pub untouched : Untouched a h after
+  pub shut : Shut (after .host)
+  pub tally : after .tally ≡ h .program .progress .tally
+  pub growth : after .growth ≡ pos 0
+
 -- a close commits: the parent has the size, root and bytes that it was read with; every other contract is as it was, and so is each slot
 -- into which no staged position goes ("No other byte changes."); the tally, and the growth, "final less starting size"
 pub record Committed (z : ℕ) (h : Host) (a : Areas) (after : Closed) : Type 0 where

@@ -1,11 +1,11 @@
--- The bytes of a record. z is the sector size. Assumes nothing.
+-- Pairs of a size and a root, and the bytes of a record. z is the sector size. Assumes nothing.
 use mathlib.Core.Bool.{Bool}
 use mathlib.Core.List.{List, [], _∷_, _++_}
 use Prim.Native.Nat.{ℕ, _/_, _%_}
 use lib.ListN.{getD}
 use lib.Dec.{eqb}
-use Rattle.area.specs.Pick.{pick}
-use Rattle.area.specs.Area.{part}
+use Rattle.area.specs.Pick.{pick, both}
+use Rattle.area.specs.Area.{same, part}
 use Rattle.area.specs.Little.{le8}
 use Rattle.host.specs.With.{withRunning, withStaged}
 use Rattle.rules.specs.View.{Setting, sector, parent, parentSpots, committedSpots}
@@ -17,11 +17,16 @@ use Rattle.sia.specs.declared.Op.{Op}
 use Rattle.host.specs.declared.Place.{Place}
 use Rattle.host.specs.declared.Progress.{Progress}
 use Rattle.rules.specs.declared.Spot.{Spot}
+use Rattle.rules.specs.declared.Pair.{Pair}
 
--- a size and a root
-pub record Pair : Type 0 where
-  pub size : ℕ
-  pub root : List ℕ
+-- ---- pairs
+
+abbrev pub pairing : ℕ → List ℕ → Pair
+pairing size root = record { size = size; root = root }
+
+-- whether two pairs are the same: the sizes, and all bytes of the roots
+unfoldable pub samePair : Pair → Pair → Bool
+samePair one two = both (eqb (one .size) (two .size)) (same (one .root) (two .root))
 
 -- a contract as its committed sectors are
 unfoldable pub pairOf : ℕ → List ℕ → Place → Pair
@@ -34,6 +39,8 @@ startingPair z s = pairOf z (s .disk) (parent s)
 -- the parent as it is read now, with the stage's bytes
 unfoldable pub runningPair : ℕ → Setting → Progress → List ℕ → Pair
 runningPair z s p stage = record { size = p .size; root = contractRoot z (s .disk) stage (parentSpots z s p) }
+
+-- ---- records
 
 -- "Record: number (0 if it succeeded), cost, new size (8 each), new root (32), proof count and hashes, output count and bytes."
 unfoldable pub recordBytes : ℕ → ℕ → Pair → ℕ → List ℕ → ℕ → List ℕ → List ℕ

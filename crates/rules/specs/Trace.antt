@@ -14,7 +14,7 @@ use Rattle.rules.specs.View.{Setting, Turn, settingOf, turnOf, withRun, 
 use Rattle.rules.specs.Inputs.{need, inputsOf, argsOf}
 use Rattle.rules.specs.Plan.{sourceOf, cost, newSize, judged}
 use Rattle.rules.specs.Effect.{groundOf, effect}
-use Rattle.rules.specs.Record.{Pair, runningPair, failureBytes, successBytes}
+use Rattle.rules.specs.Record.{startingPair, runningPair, failureBytes, successBytes}
 use Rattle.rules.specs.Run.{current, step, ready, run}
 use Rattle.rules.specs.Calls.{Pieced, pieced, piece}
 use Rattle.rules.specs.Commit.{Closed}
@@ -22,6 +22,7 @@ use Rattle.rules.specs.Visit.{Areas, Opening, Agreement, opens, closes}
 use Rattle.sia.specs.declared.Instruction.{Instruction}
 use Rattle.host.specs.declared.Place.{Place}
 use Rattle.host.specs.declared.Host.{Host}
+use Rattle.rules.specs.declared.Pair.{Pair}
 
 -- ---- pieces in turn
 
@@ -150,12 +151,17 @@ sectorsOf z disk p = whole z disk [] (committedSpots z p)
 abbrev pub parentIn : Host → List Place → Place
 parentIn h ps = whose (h .program .terms .head .contract) ps
 
--- the parent as it is read now: its sectors, and its size and root
+-- the parent as committed, and so as it was when the program was opened: its size and root
+abbrev pub starting : ℕ → Host → Areas → Pair
+starting z h a = startingPair z (settingOf h (a .disk))
+
+-- the parent as it is read now: its size and root, and its sectors
 abbrev pub running : ℕ → Host → Areas → Pair
 running z h a = runningPair z (settingOf h (a .disk)) (h .program .progress) (a .stage)
 
 abbrev pub runningSectors : ℕ → Host → Areas → List ℕ
 runningSectors z h a = whole z (a .disk) (a .stage) (parentSpots z (settingOf h (a .disk)) (h .program .progress))
 
-abbrev pub pairing : ℕ → List ℕ → Pair
-pairing size root = record { size = size; root = root }
+-- "final size and root equal the starting ones": a matter of the two pairs, not of which instructions ran
+abbrev pub Unchanged : ℕ → Host → Areas → Type 0
+Unchanged z h a = running z h a ≡ starting z h a

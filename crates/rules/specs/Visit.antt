@@ -1,7 +1,7 @@
 -- What a caller lends and says, and the calls with it; hosts that code can hold; and the visits that the demands speak of. z is the sector
 -- size. Assumes nothing.
 use mathlib.Core.Path.{_≡_}
-use mathlib.Core.Bool.{Bool, true}
+use mathlib.Core.Bool.{Bool, true, false}
 use mathlib.Core.List.{List, [], _∷_}
 use Prim.Native.Nat.{ℕ, _%_, _≤_, _<_}
 use lib.ListN.{length}
@@ -9,12 +9,15 @@ use Rattle.area.specs.Little.{Bytes}
 use Rattle.sia.specs.Decode.{decode}
 use Rattle.host.specs.Order.{inOrder}
 use Rattle.rules.specs.View.{areasRight}
+use Rattle.rules.specs.Record.{pairing}
+use Rattle.rules.specs.Run.{going}
 use Rattle.rules.specs.Calls.{opened, Pieced, piece, Interrupted, interrupt, reached}
 use Rattle.rules.specs.Commit.{Closed, close}
 use Rattle.host.specs.declared.Place.{Place}
 use Rattle.host.specs.declared.Prices.{Prices}
 use Rattle.host.specs.declared.Host.{Host}
 use Rattle.rules.specs.declared.Answer.{Answer}
+use Rattle.rules.specs.declared.Pair.{Pair}
 use Rattle.rules.specs.declared.Reached.{Reached}
 
 -- ---- what is lent and said
@@ -38,6 +41,10 @@ pub record Agreement : Type 0 where
   pub agree : Bool
   pub size : ℕ
   pub root : List ℕ
+
+-- the pair that it names
+abbrev pub named : Agreement → Pair
+named g = pairing (g .size) (g .root)
 
 -- ---- the calls with these
 
@@ -78,6 +85,14 @@ pub record Ready (z : ℕ) (h : Host) : Type 0 where
 pub record Sectors (z : ℕ) : Type 0 where
   pub segments : z % 64 ≡ 0
   pub most : z ≤ 4294967296
+
+-- a host with a program that an agreement can close, and its areas: in order, the lengths right, a program open that has ended and not failed
+pub record Finished (z : ℕ) (h : Host) (a : Areas) : Type 0 where
+  pub order : inOrder z h ≡ true
+  pub areas : areasRight z h (a .disk) (a .stage) ≡ true
+  pub live : h .program .active ≡ true
+  pub good : h .program .progress .failed ≡ false
+  pub ended : going (h .program .terms) (h .program .progress) ≡ false
 
 -- ---- visits
 

@@ -17,6 +17,12 @@ pub struct Answer {
     pub host: Host,
 }
 
+// A size and a root.
+pub struct Pair {
+    pub size: u64,
+    pub root: [u8; 32],
+}
+
 // The size and root that a program has reached.
 pub struct Reached {
     pub number: u64,

@@ -8,10 +8,9 @@ use Rattle.rules.specs.View.{Turn, turn, spotOf}
 use Rattle.rules.specs.Roots.{contractRoot}
 use Rattle.rules.specs.Plan.{reads}
 use Rattle.rules.specs.Effect.{Staging, effect}
-use Rattle.rules.specs.Record.{recordBytes}
+use Rattle.rules.specs.Record.{pairing, recordBytes}
 use Rattle.rules.specs.Run.{ranProgress}
 use Rattle.staging.specs.Parts.{ground, staging, args}
-use Rattle.records.specs.Front.{pair}
 use Rattle.records.specs.Shown.{shownProof, shownBytes}
 use Rattle.host.specs.declared.Place.{Place}
 use Rattle.host.specs.declared.Progress.{Progress}
@@ -30,7 +29,7 @@ progressAfter p g after = ranProgress g (p .cost) (p .count) (p .size) (after .s
 -- the record
 unfoldable pub recordAfter : Place → List ℕ → Plan → Bool → Staging → List ℕ
 recordAfter parent disk p asked after =
-    recordBytes 0 (p .cost) (pair (p .size) (contractRoot 4096 disk (after .bytes) (tab 0 (p .size / 4096) (spotOf (parent .slots) (after .staged))))) (p .hashes)
+    recordBytes 0 (p .cost) (pairing (p .size) (contractRoot 4096 disk (after .bytes) (tab 0 (p .size / 4096) (spotOf (parent .slots) (after .staged))))) (p .hashes)
     (shownProof asked disk (after .bytes) (p .seen) (p .args .first) (p .args .len))
     (pick (reads (p .op)) (p .args .len) 0) (shownBytes (reads (p .op)) disk (after .bytes) (p .seen) (p .args .first) (p .args .len))
 

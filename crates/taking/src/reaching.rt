@@ -23,24 +23,21 @@ fn reach<'a>(host: Host, disk: &'a [u8], stage: &'a [u8]) -> Reached
     ensures { λ r. ⌜ r ≡ reachedAt 0 (reachedPair 4096 (now (disk .entry)) host (now (stage .entry))) ⌝ }
 {
     let program = host.program;
-    let terms = program.terms;
-    let head = terms.head;
-    let id = head.contract;
-    let places = host.places;
-    let parent = host::place_of(places, id);
     let progress = program.progress;
     if progress.failed {
-        let root = step::committed_root(disk, parent);
+        let starting = turns::starting_pair(host, disk);
+        let root = starting.root;
         return Reached {
             number: 0,
-            size: parent.size,
+            size: starting.size,
             root,
         };
     }
-    let root = step::running_root(disk, stage, parent, progress);
+    let running = turns::running_pair(host, disk, stage);
+    let root = running.root;
     Reached {
         number: 0,
-        size: progress.size,
+        size: running.size,
         root,
     }
 }

@@ -2,11 +2,13 @@
 use mathlib.Core.Path.{refl}
 use borrow.Author.Tests.{eq-eqb, ne-eqb}
 use Rattle.area.proofs.Laws.Pick.{yes, no}
+use Rattle.rules.specs.Record.{samePair}
 use borrow.Author.Needs.{needs}
 use Rattle.closing.proofs.same_pair.Statement.{statement}
 use Rattle.closing.proofs.same_pair.Tie as tie
 
 returns : tie.Need-returns
+unfolding samePair
 returns c = no _ _ _ (ne-eqb _ _ (c .if1 .taken)) refl
 
 slice-aggregate-same : tie.Need-slice-aggregate-same
@@ -19,7 +21,8 @@ same-requires : tie.Need-same-requires
 same-requires c κs = search needs
 
 returns-2 : tie.Need-returns-2
-returns-2 c = yes _ _ _ (eq-eqb _ _ (c .before .before .before .if1 .left)) (c .same .ensures)
+unfolding samePair
+returns-2 c = yes _ _ _ (eq-eqb _ _ (c .before .before .before .before .before .if1 .left)) (c .same .ensures)
 
 pub same-pair-spec : {M : Type 1} → statement M
 same-pair-spec =

@@ -1,17 +1,20 @@
 -- `closing::unfinished` meets its contract. Assumes nothing.
 use mathlib.Core.Path.{refl}
 use Rattle.area.proofs.Laws.Pick.{yes, no}
+use Rattle.rules.specs.Commit.{unfinished}
 use borrow.Author.Needs.{needs}
 use Rattle.closing.proofs.unfinished.Statement.{statement}
 use Rattle.closing.proofs.unfinished.Tie as tie
 
 returns : tie.Need-returns
+unfolding unfinished
 returns c = yes _ _ _ (c .if1 .taken) refl
 
 going-requires : tie.Need-going-requires
 going-requires c κs = search needs
 
 returns-2 : tie.Need-returns-2
+unfolding unfinished
 returns-2 c = no _ _ _ (c .before .if1 .left) (c .going .ensures)
 
 pub unfinished-spec : {M : Type 1} → statement M

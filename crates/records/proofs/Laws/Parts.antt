@@ -10,8 +10,9 @@ use Rattle.area.specs.Little.{le8}
 use Rattle.area.proofs.Laws.Little.{length-bytes}
 use Rattle.area.proofs.Laws.Lent.{rest-take, more}
 use Rattle.sia.proofs.Laws.Joined.{lay-two}
-use Rattle.rules.specs.Record.{Pair, recordBytes}
+use Rattle.rules.specs.Record.{recordBytes}
 use Rattle.records.specs.Front.{front}
+use Rattle.rules.specs.declared.Pair.{Pair}
 
 pub record-front : (number cost : ℕ) (p : Pair) (hashes : ℕ) (rest : List ℕ)
     → le8 number ++ (le8 cost ++ (le8 (p .size) ++ (p .root ++ (le8 hashes ++ rest)))) ≡ front number cost p hashes ++ rest

@@ -4,8 +4,8 @@ use mathlib.Core.List.{List, [], _++_, append-nil}
 use Prim.Native.Nat.{ℕ}
 use Rattle.area.specs.Little.{le8}
 use Rattle.sia.proofs.Laws.Joined.{lay-same, lay-two}
-use Rattle.rules.specs.Record.{recordBytes}
-use Rattle.records.specs.Front.{pair, front}
+use Rattle.rules.specs.Record.{pairing, recordBytes}
+use Rattle.records.specs.Front.{front}
 use Rattle.records.proofs.Laws.Parts.{record-front, length-front}
 use borrow.Author.Needs.{needs}
 use Rattle.records.proofs.put_failure.Statement.{statement}
@@ -25,7 +25,7 @@ unfolding recordBytes
 returns c =
     let front-laid = c .before .before .before .before .before .before in
     let start = front-laid .before .before .before in
-    let p = pair (start .args .size) (start .args .root) in
+    let p = pairing (start .args .size) (start .args .root) in
     lay-same _ 0 _
     (lay-two _ 0 _ _ 64 (front-laid .put-front .ensures) (c .before .before .store .ensures) (length-front _ _ p 0 (start .good .1 .1 .0 .1 .0 .1)) refl)
     (ap (λ (l : List ℕ). front (start .args .number) 0 p 0 ++ l) (sym (append-nil (le8 0))) ∙ sym (record-front (start .args .number) 0 p 0 (le8 0 ++ [])))

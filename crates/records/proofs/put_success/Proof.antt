@@ -4,7 +4,7 @@ use Prim.Native.Nat.{_+_, _*_, _-_}
 use native.Mathlib.Omega.{arith}
 use lib.ListN.{length}
 use Rattle.sia.proofs.Laws.Joined.{lay-same}
-use Rattle.records.specs.Front.{pair}
+use Rattle.rules.specs.Record.{pairing}
 use Rattle.records.proofs.Laws.Parts.{length-front, rest-long, record-parts, length-two, length-three, behind, lay-behind}
 use borrow.Author.Needs.{needs}
 use Rattle.records.proofs.put_success.Statement.{statement}
@@ -67,7 +67,7 @@ returns : tie.Need-returns
 returns c =
     let start = c .before .before .before .before .before .before .before .before .before .before .before .before .before .before .before .before .before .before .before .before in
     let shows = start .pre in
-    let p = pair (start .args .size) (start .args .root) in
+    let p = pairing (start .args .size) (start .args .root) in
     let long : length (p .root) ≡ 32 = start .good .1 .1 .0 .1 .0 .1 in
     lay-same _ 0 _
     (behind _ _ _ (64 + 32 * start .args .hashes + 8)

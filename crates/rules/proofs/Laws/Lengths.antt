@@ -22,7 +22,7 @@ use Rattle.rules.specs.Roots.{contractRoot, segments, rangeProof, rangeC
 use Rattle.rules.specs.Inputs.{Args, argsOf, illFormed, pastEnd, wellFormed}
 use Rattle.rules.specs.Plan.{Source, spots, sourceOf, reads, badSpan, badSpans, badProof, newSize, proofCount, outputCount, recordCount, judgedSource, judgedInputs, judged}
 use Rattle.rules.specs.Effect.{groundOf, effect}
-use Rattle.rules.specs.Record.{Pair, pairOf, startingPair, runningPair, recordBytes, failureBytes, outputOf, successBytes}
+use Rattle.rules.specs.Record.{pairOf, startingPair, runningPair, recordBytes, failureBytes, outputOf, successBytes}
 use Rattle.rules.specs.Run.{failedProgress, failing, ranProgress, succeeding, stepped}
 use Rattle.rules.specs.Visit.{Sectors}
 use Rattle.rules.specs.Trace.{recordOf}
@@ -35,6 +35,7 @@ use Rattle.sia.specs.declared.Op.the-variants.{Read, ReadSector, Write, Copy, S
 use Rattle.sia.specs.declared.Instruction.{Instruction}
 use Rattle.host.specs.declared.Progress.{Progress}
 use Rattle.rules.specs.declared.Spot.{Spot}
+use Rattle.rules.specs.declared.Pair.{Pair}
 use Rattle.rules.specs.declared.Spot.the-variants.{OnDisk, InStage}
 
 -- ---- what a read hands out is as long as it was asked for

@@ -7,6 +7,7 @@ use native.Mathlib.Nat.{add-mul, zero-mod}
 use native.Mathlib.Omega.{arith}
 use lib.ListN.{length, take, length-append}
 use lib.Seq.{length-take-le}
+use lib.Dec.{eqb}
 use borrow.Author.Tests.{not-true, leb-true, eqb-true}
 use Rattle.area.specs.Pick.{pick, both}
 use Rattle.area.specs.Area.{same}
@@ -17,10 +18,11 @@ use Rattle.sia.specs.Encode.{joined, every}
 use Rattle.host.specs.Lists.{each, sum}
 use Rattle.host.specs.Empty.{noPlace}
 use Rattle.host.specs.Places.{hasId, whose, ownSize, others, committed, taken}
-use Rattle.host.specs.Order.{placeInOrder}
+use Rattle.host.specs.Order.{placeInOrder, parentInOrder}
 use Rattle.rules.specs.Visit.{Shaped}
 use Rattle.rules.proofs.Laws.Effects.{whole-sectors}
 use Rattle.rules.proofs.Laws.Areas.{either-second as second-not}
+use Rattle.rules.proofs.Laws.Spots.{whose-nobody}
 use Rattle.host.specs.declared.Place.{Place}
 
 pub has-id : (id : List ℕ) (p : Place) → p .held ≡ true → same (p .id) id ≡ true → hasId id p ≡ true
@@ -96,10 +98,6 @@ sizes z id (p ∷ ps) h s =
     (λ f. omega (arith, ih, tl, cb, ap (λ (x : Place). x .size) (whose-on id p ps (has-not id p f)), others-kept id p ps (both-join _ _ e (ap not f)))))
     (λ e. omega (arith, ih, tl, ap (λ (x : Place). x .size) (whose-on id p ps (has-none id p e)), others-left id p ps (skips (p .held) _ false e)))
 
-no-place-size : (id : List ℕ) → whose id [] .size ≡ 0
-unfolding whose noPlace
-no-place-size id = refl
-
 no-place-whole : (z : ℕ) (id : List ℕ) → whose id [] .size % z ≡ 0
 unfolding whose noPlace
 no-place-whole z id = zero-mod z
@@ -122,10 +120,24 @@ whose-whole z id (p ∷ ps) h =
     (λ e. ap (λ (x : Place). x .size % z) (whose-on id p ps e) ∙ whose-whole z id ps (both-right _ _ h))
 
 -- no contract has the ReadOnly word
-pub read-only-size : (z : ℕ) (id : List ℕ) (ps : List Place) → every (placeInOrder z) ps ≡ true → same id readOnly ≡ true → whose id ps .size ≡ 0
-unfolding every
-read-only-size z id [] h w = no-place-size id
-read-only-size z id (p ∷ ps) h w =
+pub read-only-free : (z : ℕ) (id : List ℕ) (ps : List Place) → every (placeInOrder z) ps ≡ true → same id readOnly ≡ true → whose id ps .held ≡ false
+unfolding every whose noPlace
+read-only-free z id [] h w = refl
+read-only-free z id (p ∷ ps) h w =
     by (hasId id p)
     (λ e. never (sym w ∙ subst (λ (x : List ℕ). same x readOnly ≡ false) (same-eq (p .id) id (has-same id p e)) (place-size z p (both-left _ _ h) (has-held id p e) .2)))
-    (λ e. ap (λ (x : Place). x .size) (whose-on id p ps e) ∙ read-only-size z id ps (both-right _ _ h) w)
+    (λ e. ap (λ (x : Place). x .held) (whose-on id p ps e) ∙ read-only-free z id ps (both-right _ _ h) w)
+
+pub read-only-size : (z : ℕ) (id : List ℕ) (ps : List Place) → every (placeInOrder z) ps ≡ true → same id readOnly ≡ true → whose id ps .size ≡ 0
+read-only-size z id ps h w = whose-nobody id ps (read-only-free z id ps h w)
+
+-- nothing is read in read-only mode, nor of a parent that is not held
+pub read-only-reached : (ps : List Place) (c : List ℕ) (size : ℕ) → parentInOrder ps c size ≡ true → same c readOnly ≡ true → size ≡ 0
+unfolding parentInOrder
+read-only-reached ps c size e w = eqb-true size 0 (sym (picks (same c readOnly) (eqb size 0) (whose c ps .held) w) ∙ e)
+
+pub nothing-reached : (ps : List Place) (c : List ℕ) (size : ℕ) → parentInOrder ps c size ≡ true → whose c ps .held ≡ false → size ≡ 0
+unfolding parentInOrder
+nothing-reached ps c size e free =
+    by (same c readOnly) (read-only-reached ps c size e)
+    (λ w. never (sym e ∙ skips (same c readOnly) (eqb size 0) (whose c ps .held) w ∙ free))

@@ -1,33 +1,32 @@
 -- Closing and commits under new ids: the parent keeps its slots, and the new ones are the lowest free of the same slots. Assumes nothing.
 use mathlib.Core.Path.{_≡_, refl, sym, ap, ap₂, _∙_}
-use mathlib.Core.Bool.{Bool, true, false, not}
+use mathlib.Core.Bool.{Bool, true, not}
 use mathlib.Core.List.{List, [], _++_}
 use Prim.Native.Nat.{ℕ, _-_, _/_}
 use native.Mathlib.Nat.{zero-div}
 use native.Mathlib.Omega.{arith}
 use lib.ListN.{length}
-use lib.Dec.{eqb}
 use lib.IntN.{pos, _-ℤ_}
-use borrow.Author.Tests.{not-false, eqb-true}
-use Rattle.area.specs.Pick.{pick, both, either}
-use Rattle.area.specs.Area.{same}
-use Rattle.area.proofs.Laws.Pick.{by, picks, skips, never, both-left, both-right}
-use Rattle.sia.specs.Names.{readOnly}
+use borrow.Author.Tests.{not-false}
+use Rattle.area.specs.Pick.{pick, either}
+use Rattle.area.proofs.Laws.Pick.{by}
 use Rattle.host.specs.Empty.{noProgram}
 use Rattle.host.specs.With.{withPlaces, withProgram, withSize, withSlots}
 use Rattle.host.specs.Places.{whose, committed, taken}
-use Rattle.host.specs.Order.{parentInOrder, termsInOrder, programInOrder, inOrder}
+use Rattle.host.specs.Order.{parentInOrder, inOrder}
+use Rattle.host.proofs.Laws.Order.{order-facts}
 use Rattle.host.specs.Calls.{replaced}
 use Rattle.rules.specs.View.{settingOf, parent}
-use Rattle.rules.specs.Run.{going}
-use Rattle.rules.specs.Record.{Pair, runningPair}
-use Rattle.rules.specs.Commit.{Closed, closed, givenUp, cut, newSlots, finalSlots, copiedBack, finalPlace, commit, agreed, close}
+use Rattle.rules.specs.Record.{samePair, startingPair, runningPair}
+use Rattle.rules.specs.Commit.{Closed, closed, givenUp, cut, newSlots, finalSlots, copiedBack, finalPlace, commit, agreed, unfinished, close}
 use Rattle.host.specs.Renaming.{Renaming, placeAs, hostAs}
 use Rattle.host.proofs.Renaming.Places.{allAs, id-as, taken-as, replaced-as, in-order-as}
-use Rattle.rules.proofs.Renaming.Sight.{running-as}
+use Rattle.rules.proofs.Laws.Sizes.{nothing-reached}
+use Rattle.rules.proofs.Renaming.Sight.{starting-as, running-as}
 use Rattle.host.specs.declared.Place.{Place}
 use Rattle.host.specs.declared.Terms.{Terms}
 use Rattle.host.specs.declared.Host.{Host}
+use Rattle.rules.specs.declared.Pair.{Pair}
 use Rattle.host.proofs.Laws.Ways.{down}
 use Rattle.host.proofs.Renaming.Contracts.{active-as, whose-places}
 use Rattle.rules.proofs.Renaming.Programs.{terms-of, setting-as, going-as, areas-as}
@@ -41,22 +40,12 @@ no-slots : (disk : ℕ) (used : List ℕ) {n : ℕ} → n ≡ 0 → newSlots dis
 unfolding newSlots
 no-slots disk used e = ap (newSlots disk used) e
 
-nothing-reached : (ps : List Place) (c : List ℕ) (size : ℕ) → parentInOrder ps c size ≡ true → whose c ps .held ≡ false → size ≡ 0
-unfolding parentInOrder
-nothing-reached ps c size e free =
-    by (same c readOnly)
-    (λ w. eqb-true size 0 (sym (picks (same c readOnly) (eqb size 0) (whose c ps .held) w) ∙ e))
-    (λ w. never (sym e ∙ skips (same c readOnly) (eqb size 0) (whose c ps .held) w ∙ free))
-
-parent-held : (z : ℕ) (h : Host) → inOrder z h ≡ true → h .program .active ≡ true
-    → parentInOrder (h .places) (h .program .terms .head .contract) (h .program .progress .size) ≡ true
-unfolding inOrder programInOrder termsInOrder
-parent-held z h o live =
-    let program = both-right _ _ (both-right _ _ (both-right _ _ o)) in
-    both-left _ _ (both-left _ _ (sym (skips (not (h .program .active)) true _ (ap not live)) ∙ program))
-
 module _ (r : List ℕ → List ℕ) (new : Renaming r) where
   -- ---- closing
+
+  start-as : (z : ℕ) (disk : List ℕ) (h : Host) → h .program .active ≡ true
+      → startingPair z (settingOf (hostAs r h) disk) ≡ startingPair z (settingOf h disk)
+  start-as z disk h e = rw (setting-as r new h disk e, starting-as r new z (settingOf h disk))
 
   pair-as : (z : ℕ) (disk : List ℕ) (h : Host) (stage : List ℕ) → h .program .active ≡ true
       → runningPair z (settingOf (hostAs r h) disk) (hostAs r h .program .progress) stage
@@ -64,10 +53,8 @@ module _ (r : List ℕ → List ℕ) (new : Renaming r) where
   unfolding hostAs
   pair-as z disk h stage e = rw (setting-as r new h disk e, running-as r new z (settingOf h disk) (h .program .progress) stage)
 
-  ended-same : (h : Host)
-      → either (hostAs r h .program .progress .failed) (going (hostAs r h .program .terms) (hostAs r h .program .progress))
-      ≡ either (h .program .progress .failed) (going (h .program .terms) (h .program .progress))
-  unfolding hostAs
+  ended-same : (h : Host) → unfinished (hostAs r h .program) ≡ unfinished (h .program)
+  unfolding unfinished hostAs
   ended-same h = ap (either (h .program .progress .failed)) (going-as r new h)
 
   unfoldable pub closedAs : Closed → Closed
@@ -125,14 +112,15 @@ module _ (r : List ℕ → List ℕ) (new : Renaming r) where
       let c = h .program .terms .head .contract in
       ap₂ (body z disk (hostAs r h) stage) (ap (λ (t : Terms). t .head .contract) (terms-of r new h live))
       (ap (λ (t : Terms). whose (t .head .contract) (hostAs r h .places)) (terms-of r new h live) ∙ whose-places r new h c)
-      ∙ body-as z disk h stage c (parent-held z h o live)
+      ∙ body-as z disk h stage c (order-facts z h o .running live .terms .parent)
 
-  agreed-as : (z : ℕ) (disk : List ℕ) (h : Host) (stage : List ℕ) (size : ℕ) (root : List ℕ) → h .program .active ≡ true → inOrder z h ≡ true
-      → agreed z disk (hostAs r h) stage size root ≡ closedAs (agreed z disk h stage size root)
+  agreed-as : (z : ℕ) (disk : List ℕ) (h : Host) (stage : List ℕ) (named : Pair) → h .program .active ≡ true → inOrder z h ≡ true
+      → agreed z disk (hostAs r h) stage named ≡ closedAs (agreed z disk h stage named)
   unfolding agreed
-  agreed-as z disk h stage size root live o =
-      down closedAs _ _ _ _ _ _ (ap (λ (p : Pair). both (eqb size (p .size)) (same root (p .root))) (pair-as z disk h stage live))
-      (λ _. commit-as z disk h stage live o) (λ _. given-up-as 14 disk h)
+  agreed-as z disk h stage named live o =
+      down closedAs _ _ _ _ _ _ (ap₂ samePair (pair-as z disk h stage live) (start-as z disk h live)) (λ _. given-up-as 0 disk h) (λ _.
+      down closedAs _ _ _ _ _ _ (ap (samePair named) (pair-as z disk h stage live)) (λ _. commit-as z disk h stage live o)
+      (λ _. given-up-as 14 disk h))
 
   pub close-as : (z : ℕ) (disk : List ℕ) (h : Host) (stage : List ℕ) (agree : Bool) (size : ℕ) (root : List ℕ)
       → close z disk (hostAs r h) stage agree size root ≡ closedAs (close z disk h stage agree size root)
@@ -143,4 +131,4 @@ module _ (r : List ℕ → List ℕ) (new : Renaming r) where
       down closedAs _ _ _ _ _ _ (ap not (active-as r new h)) (λ _. closed-not 4 h disk) (λ live.
       down closedAs _ _ _ _ _ _ refl (λ _. given-up-as 0 disk h) (λ _.
       down closedAs _ _ _ _ _ _ (ended-same h) (λ _. closed-not 13 h disk) (λ _.
-      agreed-as z disk h stage size root (not-false _ live) (not-false _ o))))))
+      agreed-as z disk h stage _ (not-false _ live) (not-false _ o))))))

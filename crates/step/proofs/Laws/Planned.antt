@@ -20,7 +20,7 @@ use Rattle.rules.specs.Roots.{contractRoot, rangeProof, rangeCount}
 use Rattle.rules.specs.Inputs.{Args, pastEnd, inputsOf, nth, argsOf}
 use Rattle.rules.specs.Plan.{Source, spots, sourceOf, badSpan, badSpans, reads, cost, newSize, proofCount, outputCount, recordCount, judged}
 use Rattle.rules.specs.Effect.{Staging, groundOf, effect}
-use Rattle.rules.specs.Record.{runningPair, recordBytes, successBytes, outputOf}
+use Rattle.rules.specs.Record.{pairing, runningPair, recordBytes, successBytes, outputOf}
 use Rattle.rules.specs.Run.{ranProgress, succeeding}
 use Rattle.rules.specs.Facts.{Solid, Good}
 use Rattle.rules.proofs.Laws.Effects.{Passed, passed}
@@ -39,7 +39,6 @@ use Rattle.inputs.specs.Given.{placed, fromOf, argsGiven, bytesGiven}
 use Rattle.plan.specs.Planned.{Said, said, failed, runs, planOf}
 use Rattle.inputs.proofs.Laws.Given.{given-args}
 use Rattle.plan.proofs.Laws.Planned.{size-few}
-use Rattle.records.specs.Front.{pair}
 use Rattle.records.specs.Shown.{shownProof, shownBytes, Shows}
 use Rattle.step.specs.Ran.{stageAfter, progressAfter, recordAfter, ran}
 use Rattle.step.specs.Asks.{Reads, Steps, Runs}
@@ -258,11 +257,11 @@ module _ (s : Setting) (t : Turn) (input : List ℕ) (i : Instruction) (q : Plac
         ≡ successBytes 4096 s (t .progress) (i .proof) from op a (cost (s .terms .head .length) (s .terms .prices) op (a .len)) (newSize (t .progress .size) op a) after
     unfolding recordAfter runs placed successBytes runningPair parentSpots withRunning withStaged outputCount op a from
     record-is =
-        ap (λ (y : Said). recordBytes 0 (y .cost) (pair (y .size) (contractRoot 4096 (s .disk) (after .bytes) (tab 0 (y .size / 4096) (spotOf (q .slots) (after .staged))))) (y .hashes)
+        ap (λ (y : Said). recordBytes 0 (y .cost) (pairing (y .size) (contractRoot 4096 (s .disk) (after .bytes) (tab 0 (y .size / 4096) (spotOf (q .slots) (after .staged))))) (y .hashes)
         (shownProof (i .proof) (s .disk) (after .bytes) (r .seen) (y .args .first) (y .args .len))
         (pick (reads (y .op)) (y .args .len) 0) (shownBytes (reads (y .op)) (s .disk) (after .bytes) (r .seen) (y .args .first) (y .args .len))) says
         ∙ ap (λ (b : Place). recordBytes 0 (cost (s .terms .head .length) (s .terms .prices) op (a .len))
-        (pair (newSize (t .progress .size) op a) (contractRoot 4096 (s .disk) (after .bytes) (tab 0 (newSize (t .progress .size) op a / 4096) (spotOf (b .slots) (after .staged)))))
+        (pairing (newSize (t .progress .size) op a) (contractRoot 4096 (s .disk) (after .bytes) (tab 0 (newSize (t .progress .size) op a / 4096) (spotOf (b .slots) (after .staged)))))
         (proofCount 4096 (i .proof) from a) (shownProof (i .proof) (s .disk) (after .bytes) (r .seen) (a .first) (a .len)) (outputCount op a)
         (shownBytes (reads op) (s .disk) (after .bytes) (r .seen) (a .first) (a .len))) own
         ∙ ap₂ (λ (pr bs : List ℕ). recordBytes 0 (cost (s .terms .head .length) (s .terms .prices) op (a .len))

@@ -12,9 +12,8 @@ use Rattle.rules.specs.View.{Turn, turn, spotOf}
 use Rattle.rules.specs.Roots.{contractRoot}
 use Rattle.rules.specs.Plan.{reads}
 use Rattle.rules.specs.Effect.{Staging}
-use Rattle.rules.specs.Record.{recordBytes}
+use Rattle.rules.specs.Record.{pairing, recordBytes}
 use Rattle.rules.specs.Run.{ranProgress}
-use Rattle.records.specs.Front.{pair}
 use Rattle.records.specs.Shown.{shownProof, shownBytes, Shows}
 use Rattle.step.specs.Ran.{stageAfter, progressAfter, recordAfter, ran}
 use Rattle.step.specs.Asks.{Reads, Runs}
@@ -37,13 +36,13 @@ module _ (copies : ℕ) (parent : Place) (disk input : List ℕ) (p : Plan) (ask
 
   pub ran-is : {g : Progress} {root out : List ℕ} {rd : Bool} → g ≡ ranProgress (t .progress) (p .cost) (p .count) (p .size) (x .staged)
       → root ≡ contractRoot 4096 disk (x .bytes) (tab 0 (g .size / 4096) (spotOf (parent .slots) (g .staged))) → rd ≡ reads (p .op)
-      → out ≡ put (t .output) (t .progress .written) (recordBytes 0 (p .cost) (pair (p .size) root) (p .hashes) (shownProof asked disk (x .bytes) (p .seen) (p .args .first) (p .args .len))
+      → out ≡ put (t .output) (t .progress .written) (recordBytes 0 (p .cost) (pairing (p .size) root) (p .hashes) (shownProof asked disk (x .bytes) (p .seen) (p .args .first) (p .args .len))
       (pick rd (p .args .len) 0) (shownBytes rd disk (x .bytes) (p .seen) (p .args .first) (p .args .len)))
       → turn g (x .bytes) out ≡ ran copies parent disk input p asked t
   unfolding ran progressAfter recordAfter ranProgress
   ran-is q r b o =
       ap₂ (λ (g : Progress) (l : List ℕ). turn g (x .bytes) l) q
-      (o ∙ ap₂ (λ (w : List ℕ) (rd : Bool). put (t .output) (t .progress .written) (recordBytes 0 (p .cost) (pair (p .size) w) (p .hashes)
+      (o ∙ ap₂ (λ (w : List ℕ) (rd : Bool). put (t .output) (t .progress .written) (recordBytes 0 (p .cost) (pairing (p .size) w) (p .hashes)
       (shownProof asked disk (x .bytes) (p .seen) (p .args .first) (p .args .len)) (pick rd (p .args .len) 0) (shownBytes rd disk (x .bytes) (p .seen) (p .args .first) (p .args .len))))
       (r ∙ ap (λ (g : Progress). contractRoot 4096 disk (x .bytes) (tab 0 (g .size / 4096) (spotOf (parent .slots) (g .staged)))) q) b)
       ∙ ap (λ (y : Staging). turn (progressAfter p (t .progress) y) (y .bytes) (put (t .output) (t .progress .written) (recordAfter parent disk p asked y))) e

@@ -4,9 +4,8 @@ use mathlib.Core.List.{List, []}
 use Prim.Native.Nat.{ℕ}
 use Rattle.area.specs.Area.{put}
 use Rattle.area.proofs.Laws.Lent.{lent}
-use Rattle.rules.specs.Record.{pairOf, recordBytes}
+use Rattle.rules.specs.Record.{pairing, pairOf, recordBytes}
 use Rattle.rules.specs.Run.{failedProgress}
-use Rattle.records.specs.Front.{pair}
 use borrow.Author.Needs.{needs}
 use Rattle.step.proofs.pairs.fail.Statement.{statement}
 use Rattle.step.proofs.pairs.fail.Tie as tie
@@ -36,7 +35,7 @@ returns : tie.Need-returns
 unfolding failedProgress pairOf
 returns c =
     let a = c .before .before .before .before .before .before .before .before .args in
-    (refl, lent _ _ _ (c .before .before .before .put-failure .ensures) ∙ ap (λ (r : List ℕ). put (a .output .now) (a .progress .written) (recordBytes (a .number) 0 (pair (a .parent .size) r) 0 [] 0 [])) (c .before .before .before .before .before .committed-root .ensures))
+    (refl, lent _ _ _ (c .before .before .before .put-failure .ensures) ∙ ap (λ (r : List ℕ). put (a .output .now) (a .progress .written) (recordBytes (a .number) 0 (pairing (a .parent .size) r) 0 [] 0 [])) (c .before .before .before .before .before .committed-root .ensures))
 
 pub fail-spec : {M : Type 1} → statement M
 fail-spec =

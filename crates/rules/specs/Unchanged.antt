@@ -1,0 +1,50 @@
+-- "Nothing changed, nothing to agree.": a program whose final size and root equal the starting ones closes with 0 whatever pair is named, and
+-- nothing is committed. z is the sector size. Assumes nothing.
+use mathlib.Core.Path.{_≡_}
+use mathlib.Core.Bool.{true}
+use Prim.Native.Nat.{ℕ}
+use lib.IntN.{pos}
+use Rattle.host.specs.Order.{inOrder}
+use Rattle.rules.specs.View.{areasRight, readOnlyMode}
+use Rattle.rules.specs.Record.{samePair}
+use Rattle.rules.specs.Calls.{noPair}
+use Rattle.rules.specs.Commit.{closed, givenUp, unfinished}
+use Rattle.rules.specs.Visit.{Areas, Agreement, named, closes, Finished}
+use Rattle.rules.specs.Trace.{starting, running, Unchanged}
+use Rattle.rules.specs.Outcome.{Untouched, Dropped}
+use Rattle.host.specs.declared.Host.{Host}
+use Rattle.rules.specs.declared.Pair.{Pair}
+
+-- 13, "agreement to a program not ended, or failed", comes before all that is asked of pairs: the whole answer
+pub record Thirteen (z : ℕ) (h : Host) (a : Areas) (g : Agreement) : Type 0 where
+  pub first : inOrder z h ≡ true → areasRight z h (a .disk) (a .stage) ≡ true → h .program .active ≡ true
+      → unfinished (h .program) ≡ true → closes z h a g ≡ closed 13 0 (pos 0) h (a .disk)
+  pub only : closes z h a g .number ≡ 13 → unfinished (h .program) ≡ true
+
+-- an agreement
+pub record Agreeing (z : ℕ) (h : Host) (a : Areas) (g : Agreement) : Type 0 where
+  pub thirteen : Thirteen z h a g
+  -- "such a program, once ended without failure, closes with 0 whatever pair is given, and nothing is committed, its stage copies included":
+  -- the whole answer is that of giving up
+  pub up : Finished z h a → Unchanged z h a → closes z h a g ≡ givenUp 0 (a .disk) h
+  pub answered : Finished z h a → Unchanged z h a → closes z h a g .number ≡ 0
+  pub dropped : Finished z h a → Unchanged z h a → Dropped a h (closes z h a g)
+  -- of any other the pair decides
+  pub fourteen : Finished z h a → (Unchanged z h a → ⊥) → (named g ≡ running z h a → ⊥) → closes z h a g .number ≡ 14
+
+-- "A read-only program falls under the same rule.": its pair is 0 and zeros at both ends, so its agreement is always answered with 0
+pub record Reading (z : ℕ) (h : Host) (a : Areas) (g : Agreement) : Type 0 where
+  pub starts : starting z h a ≡ noPair
+  pub runs : running z h a ≡ noPair
+  pub answered : closes z h a g .number ≡ 0
+  pub dropped : Dropped a h (closes z h a g)
+
+pub record NothingToAgree : Type 0 where
+  -- pairs are compared by one test: it says yes of equal ones, the sizes and all bytes of the roots, and of no others
+  pub equal : (one two : Pair) → samePair one two ≡ true → one ≡ two
+  pub yes : (one two : Pair) → one ≡ two → samePair one two ≡ true
+  pub agreeing : (z : ℕ) (h : Host) (a : Areas) (g : Agreement) → g .agree ≡ true → Agreeing z h a g
+  pub reading : (z : ℕ) (h : Host) (a : Areas) (g : Agreement) → g .agree ≡ true → Finished z h a
+      → readOnlyMode (h .program .terms) ≡ true → Reading z h a g
+  -- whatever is said of it at the close, an unchanged program changes no contract
+  pub nothing : (z : ℕ) (h : Host) (a : Areas) (g : Agreement) → Unchanged z h a → Untouched a h (closes z h a g)

@@ -1,0 +1,33 @@
+-- `turns::pairs::running_pair` meets its contract: the running size, and the root of the parent's sectors as they are read. Assumes nothing.
+use mathlib.Core.Path.{ap, _∙_}
+use mathlib.Core.List.{List}
+use Prim.Native.Nat.{ℕ, _/_}
+use Rattle.area.specs.Area.{tab}
+use Rattle.host.proofs.Laws.Lengths.{hosted}
+use Rattle.rules.specs.View.{settingOf, parent, spotOf, parentSpots}
+use Rattle.rules.specs.Roots.{contractRoot}
+use Rattle.rules.specs.Record.{pairing, runningPair}
+use Rattle.turns.proofs.Laws.Hosts.{reads}
+use Rattle.host.specs.declared.Place.{Place}
+use borrow.Author.Needs.{needs}
+use Rattle.turns.proofs.pairs.running_pair.Statement.{statement}
+use Rattle.turns.proofs.pairs.running_pair.Tie as tie
+
+place-of-requires : tie.Need-place-of-requires
+place-of-requires c κs = search needs
+
+running-root-requires : tie.Need-running-root-requires
+running-root-requires c κs =
+    let start = c .before .before .before .before .before .before .before .before .before in
+    reads (start .args .host) _ _ (hosted (start .args .host) _ (start .good .0)) (c .before .place-of .ensures) (start .pre)
+
+returns : tie.Need-returns
+unfolding runningPair parentSpots parent settingOf
+returns c =
+    let a = c .before .before .before .before .before .before .before .before .before .before .args in
+    let p = a .host .program .progress in
+    let root : Place → List ℕ = λ q. contractRoot 4096 (a .disk .now) (a .stage .now) (tab 0 (p .size / 4096) (spotOf (q .slots) (p .staged))) in
+    ap (pairing (p .size)) (c .running-root .ensures ∙ ap root (c .before .before .place-of .ensures))
+
+pub running-pair-spec : {M : Type 1} → statement M
+running-pair-spec = tie.close (tie.spec place-of-requires running-root-requires returns)

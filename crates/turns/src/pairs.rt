@@ -1,0 +1,47 @@
+// The two pairs of an open program: the parent's size and root as committed, and as it is read now.
+ghost use mathlib.Core.Path.{_≡_};
+ghost use mathlib.Core.Bool.{true};
+ghost use Rattle.host.specs.Order.{inOrder};
+ghost use Rattle.rules.specs.View.{settingOf, diskRight};
+ghost use Rattle.rules.specs.Record as Says;
+ghost use Rattle.turns.specs.Asks.{Ready};
+use host::Host;
+use rules::Pair;
+
+// What the program started from; 0 and zeros in read-only mode.
+pub fn starting_pair(host: Host, disk: &[u8]) -> Pair
+    requires { ⌜ inOrder 4096 host ≡ true ⌝ }
+    requires { ⌜ diskRight 4096 host (now disk) ≡ true ⌝ }
+    ensures { λ r. ⌜ r ≡ Says.startingPair 4096 (settingOf host (now (disk .entry))) ⌝ }
+{
+    let program = host.program;
+    let terms = program.terms;
+    let head = terms.head;
+    let id = head.contract;
+    let places = host.places;
+    let parent = host::place_of(places, id);
+    let root = step::committed_root(disk, parent);
+    Pair {
+        size: parent.size,
+        root,
+    }
+}
+
+// What it has reached.
+pub fn running_pair<'a>(host: Host, disk: &'a [u8], stage: &'a [u8]) -> Pair
+    requires { ⌜ Ready (now disk) host (now stage) ⌝ }
+    ensures { λ r. ⌜ r ≡ Says.runningPair 4096 (settingOf host (now (disk .entry))) (host .program .progress) (now (stage .entry)) ⌝ }
+{
+    let program = host.program;
+    let terms = program.terms;
+    let head = terms.head;
+    let id = head.contract;
+    let places = host.places;
+    let parent = host::place_of(places, id);
+    let progress = program.progress;
+    let root = step::running_root(disk, stage, parent, progress);
+    Pair {
+        size: progress.size,
+        root,
+    }
+}
