@@ -277,7 +277,7 @@ def still_scripts():
 def scripts():
     """Scripts of `calls` that are cut off, that lend too much, or that poke past an array or a width."""
     example = (here.parent / "calls" / "stdin").read_bytes()
-    yield from (example[:n] for n in (0, 1, 17, 18, 19, 51, 130, 400, 500, 620, len(example) - 1))
+    yield from (example[:n] for n in (0, 1, 17, 18, 19, 51, 130, 400, 500, 620, 850, len(example) - 1, len(example)))
     areas = {"p": (262_144, 65_536, 65_536, 65_536), "i": (262_144, 65_536)}
     areas.update(dict.fromkeys("gar", (262_144, 65_536)))
     rest = {"p": number(3) + b"abc", "a": number(0) + bytes(32)}
