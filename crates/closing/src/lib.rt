@@ -145,9 +145,6 @@ pub fn close(
     if unfinished(program) {
         return refused(13, host);
     }
-    let named = Pair {
-        size,
-        root,
-    };
+    let named = Pair { size, root };
     agree_to(host, disk, stage, named)
 }

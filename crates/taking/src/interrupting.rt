@@ -19,11 +19,7 @@ fn stop(host: Host, disk: &[u8], output: &mut [u8]) -> Answer
     ensures { λ r. ⌜ interruptLeaves r (now (output .exit)) ≡ stopped 4096 (now (disk .entry)) host (now (output .entry)) ⌝ }
 {
     let mut program = host.program;
-    let terms = program.terms;
-    let head = terms.head;
-    let id = head.contract;
-    let places = host.places;
-    let parent = host::place_of(places, id);
+    let parent = turns::parent(host);
     let progress = program.progress;
     let failed = step::fail(20, disk, parent, progress, output);
     program.progress = failed;

@@ -4,13 +4,14 @@ ghost use mathlib.Core.Path.{_≡_};
 ghost use Rattle.rules.specs.Run as Says;
 
 mod areas; // areas.rt: whether areas are as long as stated
-mod pairs; // pairs.rt: the starting pair and the running pair
+mod pairs; // pairs.rt: the parent, the starting pair and the running pair
 mod running; // running.rt: instructions in turn
 
 pub use areas::areas_right;
 pub use areas::lent;
 pub use areas::wrong;
 use host::Program;
+pub use pairs::parent;
 pub use pairs::running_pair;
 pub use pairs::starting_pair;
 pub use running::run;

@@ -37,9 +37,10 @@ unfolding agreed givenUp
 returns c =
     let then = c .before .before in
     let pairs = then .before in
-    let disk = pairs .before .before .before .before .before .before .args .disk .now in
+    let started = pairs .before .before in
+    let disk = started .before .before .before .before .args .disk .now in
     ap (λ (r : Closing). closeLeaves r disk) (c .give-up .ensures)
-    ∙ yes _ _ _ (tested _ _ (then .same-pair .ensures) (pairs .running-pair .ensures) (pairs .before .before .starting-pair .ensures)
+    ∙ yes _ _ _ (tested _ _ (then .same-pair .ensures) (pairs .running-pair .ensures) (started .starting-pair .ensures)
     ∙ c .before .if1 .taken) refl
 
 same-pair-requires-2 : tie.Need-same-pair-requires-2
@@ -54,13 +55,15 @@ same-length-2 c = search needs
 returns-2 : tie.Need-returns-2
 unfolding agreed givenUp
 returns-2 c =
-    let then = c .before .before .before .before in
+    let else = c .before in
+    let then = else .before .before .before in
     let pairs = then .before in
-    let disk = pairs .before .before .before .before .before .before .args .disk .now in
+    let started = pairs .before .before in
+    let disk = started .before .before .before .before .args .disk .now in
     ap (λ (r : Closing). closeLeaves r disk) (c .give-up2 .ensures)
-    ∙ no _ _ _ (tested _ _ (then .same-pair .ensures) (pairs .running-pair .ensures) (pairs .before .before .starting-pair .ensures)
-    ∙ c .before .before .before .if1 .left)
-    (no _ _ _ (tested _ _ (c .before .before .same-pair2 .ensures) refl (pairs .running-pair .ensures) ∙ not-true _ (c .before .if2 .taken)) refl)
+    ∙ no _ _ _ (tested _ _ (then .same-pair .ensures) (pairs .running-pair .ensures) (started .starting-pair .ensures)
+    ∙ else .before .before .if1 .left)
+    (no _ _ _ (tested _ _ (else .before .same-pair2 .ensures) refl (pairs .running-pair .ensures) ∙ not-true _ (else .if2 .taken)) refl)
 
 commit-requires : tie.Need-commit-requires
 commit-requires c κs = search needs
@@ -71,13 +74,15 @@ same-length-3 c = search needs
 returns-3 : tie.Need-returns-3
 unfolding agreed givenUp
 returns-3 c =
-    let else = c .before .before .before .before in
+    let done = c .before .before in
+    let else = done .before .before in
     let then = else .before .before .before in
     let pairs = then .before in
-    no _ _ _ (tested _ _ (then .same-pair .ensures) (pairs .running-pair .ensures) (pairs .before .before .starting-pair .ensures)
+    let started = pairs .before .before in
+    no _ _ _ (tested _ _ (then .same-pair .ensures) (pairs .running-pair .ensures) (started .starting-pair .ensures)
     ∙ else .before .before .if1 .left)
     (yes _ _ _ (tested _ _ (else .before .same-pair2 .ensures) refl (pairs .running-pair .ensures) ∙ not-false _ (else .if2 .left))
-    (c .before .before .commit .ensures))
+    (done .commit .ensures))
 
 pub agree-to-spec : {M : Type 1} → statement M
 agree-to-spec =

@@ -22,7 +22,9 @@ same-requires c κs = search needs
 
 returns-2 : tie.Need-returns-2
 unfolding samePair
-returns-2 c = yes _ _ _ (eq-eqb _ _ (c .before .before .before .before .before .if1 .left)) (c .same .ensures)
+returns-2 c =
+    let roots = c .before .before .before in
+    yes _ _ _ (eq-eqb _ _ (roots .before .before .if1 .left)) (c .same .ensures)
 
 pub same-pair-spec : {M : Type 1} → statement M
 same-pair-spec =

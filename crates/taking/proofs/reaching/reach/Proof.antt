@@ -8,7 +8,10 @@ use Rattle.taking.proofs.reaching.reach.Statement.{statement}
 use Rattle.taking.proofs.reaching.reach.Tie as tie
 
 starting-pair-requires : tie.Need-starting-pair-requires
-starting-pair-requires c κs = let asked = c .before .before .before .before .before .pre in (asked .order, areas-disk _ _ _ (asked .areas))
+starting-pair-requires c κs =
+    let program = c .before .before in
+    let asked = program .before .before .before .pre in
+    (asked .order, areas-disk _ _ _ (asked .areas))
 
 returns : tie.Need-returns
 unfolding reachedPair

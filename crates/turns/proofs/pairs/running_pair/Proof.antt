@@ -13,21 +13,23 @@ use borrow.Author.Needs.{needs}
 use Rattle.turns.proofs.pairs.running_pair.Statement.{statement}
 use Rattle.turns.proofs.pairs.running_pair.Tie as tie
 
-place-of-requires : tie.Need-place-of-requires
-place-of-requires c κs = search needs
+parent-requires : tie.Need-parent-requires
+parent-requires c κs = search needs
 
 running-root-requires : tie.Need-running-root-requires
 running-root-requires c κs =
-    let start = c .before .before .before .before .before .before .before .before .before in
-    reads (start .args .host) _ _ (hosted (start .args .host) _ (start .good .0)) (c .before .place-of .ensures) (start .pre)
+    let program = c .before .before in
+    let start = program .before .before .before in
+    reads (start .args .host) _ _ (hosted (start .args .host) _ (start .good .0)) (c .parent .ensures) (start .pre)
 
 returns : tie.Need-returns
 unfolding runningPair parentSpots parent settingOf
 returns c =
-    let a = c .before .before .before .before .before .before .before .before .before .before .args in
+    let program = c .before .before .before in
+    let a = program .before .before .before .args in
     let p = a .host .program .progress in
     let root : Place → List ℕ = λ q. contractRoot 4096 (a .disk .now) (a .stage .now) (tab 0 (p .size / 4096) (spotOf (q .slots) (p .staged))) in
-    ap (pairing (p .size)) (c .running-root .ensures ∙ ap root (c .before .before .place-of .ensures))
+    ap (pairing (p .size)) (c .running-root .ensures ∙ ap root (c .before .parent .ensures))
 
 pub running-pair-spec : {M : Type 1} → statement M
-running-pair-spec = tie.close (tie.spec place-of-requires running-root-requires returns)
+running-pair-spec = tie.close (tie.spec parent-requires running-root-requires returns)
