@@ -9,3 +9,4 @@ pub mod Tab
 pub mod Same
 pub mod Lowest
 pub mod Little
+pub mod Slots

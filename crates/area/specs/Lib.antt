@@ -3,3 +3,4 @@ pub mod Pick
 pub mod Area
 pub mod Lowest
 pub mod Little
+pub mod Slots

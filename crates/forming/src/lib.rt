@@ -2,38 +2,49 @@
 // forming or dropping leaves the host as it was.
 ghost use mathlib.Core.Path.{_≡_};
 ghost use mathlib.Core.Bool.{not};
+ghost use Prim.Native.Nat.{_<_};
 ghost use Rattle.host.specs.Lists.{some};
-ghost use Rattle.host.specs.Empty.{newPlace};
-ghost use Rattle.host.specs.Calls.{lengthRight, freshed, padded, formedAt, formed, dropped};
+ghost use Rattle.host.specs.Empty.{newPlace, bare};
+ghost use Rattle.host.specs.Calls.{answered, lengthRight, freshed, padded, formedAt, formed, dropped};
 use host::Answer;
 use host::Host;
 use host::Place;
 
-// Makes a host for areas of these lengths in bytes, that holds no contract and no open program: 0; or 2 for a bad length, and a host
-// with no slots, which every later call refuses with 1.
-pub fn fresh(disk: u64, stage: u64) -> Answer
-    ensures { λ r. ⌜ r ≡ freshed 4096 disk stage ⌝ }
-{
-    if !length_right(disk, Host::DISK) {
-        let host = Host::bare(0, 0);
-        return Answer { number: 2, host };
-    }
-    if !length_right(stage, Host::STAGE) {
-        let host = Host::bare(0, 0);
-        return Answer { number: 2, host };
-    }
-    let host = Host::bare(disk / Host::SECTOR, stage / Host::SECTOR);
-    Answer { number: 0, host }
-}
-
 // Whether an area of n bytes can be lent: whole sectors, one at least.
-fn length_right(n: u64, most: u64) -> bool
-    ensures { λ r. ⌜ r ≡ lengthRight 4096 most n ⌝ }
+fn length_right(z: u64, n: u64, most: u64) -> bool
+    requires { ⌜ 0 < z ⌝ }
+    ensures { λ r. ⌜ r ≡ lengthRight z most n ⌝ }
 {
-    if n % Host::SECTOR != 0 {
+    if n % z != 0 {
         return false;
     }
-    host::lent(n / Host::SECTOR, most)
+    host::lent(n / z, most)
+}
+
+// What a host is refused with: a host with no slots, which every later call refuses with 1.
+fn unmade() -> Answer
+    ensures { λ r. ⌜ r ≡ answered 2 (bare 0 0 0) ⌝ }
+{
+    let host = Host::bare(0, 0, 0);
+    Answer { number: 2, host }
+}
+
+// Makes a host with sectors of this size, any power of two from 4,096 to 4,194,304, for areas of these lengths in bytes, that holds no
+// contract and no open program: 0; or 2 for another size or a bad length.
+pub fn fresh(sector: u64, disk: u64, stage: u64) -> Answer
+    ensures { λ r. ⌜ r ≡ freshed sector disk stage ⌝ }
+{
+    if !host::is_size(sector) {
+        return unmade();
+    }
+    if !length_right(sector, disk, Host::DISK) {
+        return unmade();
+    }
+    if !length_right(sector, stage, Host::STAGE) {
+        return unmade();
+    }
+    let host = Host::bare(sector, disk / sector, stage / sector);
+    Answer { number: 0, host }
 }
 
 // Whether an id is an identifier of the old service, four bytes filled with zeros: bytes 4 to 31 are all zero.
@@ -99,7 +110,7 @@ fn formed_at(places: [Place; 8], id: [u8; 32]) -> [Place; 8]
 // Forms the contract of an id, of size 0, in the lowest free place: 0; or 1, 3, 5 (the ReadOnly word), 15 (a padded short id), 6
 // (already present), 8 (no free place).
 pub fn form(host: Host, id: [u8; 32]) -> Answer
-    ensures { λ r. ⌜ r ≡ formed 4096 host id ⌝ }
+    ensures { λ r. ⌜ r ≡ formed host id ⌝ }
 {
     if !order::in_order(host) {
         return Answer { number: 1, host };
@@ -134,7 +145,7 @@ pub fn form(host: Host, id: [u8; 32]) -> Answer
 
 // Drops the contract of an id, at any size, and frees its place and slots: 0; or 1, 3, 5 (the ReadOnly word), 7 (not found).
 pub fn drop(host: Host, id: [u8; 32]) -> Answer
-    ensures { λ r. ⌜ r ≡ dropped 4096 host id ⌝ }
+    ensures { λ r. ⌜ r ≡ dropped host id ⌝ }
 {
     if !order::in_order(host) {
         return Answer { number: 1, host };

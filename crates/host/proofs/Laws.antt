@@ -2,6 +2,7 @@
 pub mod Slices
 pub mod Places
 pub mod Slots
+pub mod Sizes
 pub mod Sums
 pub mod Order
 pub mod Forming

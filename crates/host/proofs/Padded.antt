@@ -58,16 +58,16 @@ word = refl
 not-word : (id : List ℕ) → padded id ≡ true → same id readOnly ≡ false
 not-word id e = by (same id readOnly) (λ w. never (sym e ∙ ap padded (same-eq id readOnly w) ∙ word)) (λ w. w)
 
-abbrev Tells : ℕ → Host → List ℕ → Answer → Type 0
-Tells z h id r = r .number ≡ 15 → (padded id ≡ true) × (inOrder z h ≡ true) × (h .program .active ≡ false)
+abbrev Tells : Host → List ℕ → Answer → Type 0
+Tells h id r = r .number ≡ 15 → (padded id ≡ true) × (inOrder h ≡ true) × (h .program .active ≡ false)
 
-pub fifteen : (z : ℕ) (h : Host) (id : List ℕ) → Fifteen z h id
+pub fifteen : (h : Host) (id : List ℕ) → Fifteen h id
 unfolding formed
-fifteen z h id = record {
+fifteen h id = record {
   refused = λ e o idle.
       skips _ _ _ (ap not o) ∙ skips _ _ _ idle ∙ skips _ _ _ (not-word id e) ∙ picks _ _ _ e;
   only =
-      let way = either-way (Tells z h id) in
+      let way = either-way (Tells h id) in
       way _ _ _ (λ _ n. absurd (omega arith)) (λ o. way _ _ _ (λ _ n. absurd (omega arith)) (λ idle.
       way _ _ _ (λ _ n. absurd (omega arith)) (λ _. way _ _ _ (λ e n. (e, not-false _ o, idle)) (λ _.
       way _ _ _ (λ _ n. absurd (omega arith)) (λ _. way _ _ _ (λ _ n. absurd (omega arith)) (λ _ n. absurd (omega arith)))))));

@@ -9,6 +9,7 @@ use Rattle.area.proofs.Laws.Pick.{picks, both-join, both-right}
 use Rattle.area.proofs.Laws.Same.{same-eq, eq-same}
 use Rattle.sia.specs.Encode.{every, joined}
 use Rattle.host.specs.Lists.{some, those, apart}
+use Rattle.host.specs.Sizes.{doubled, isSize}
 use Rattle.host.specs.Empty.{noPlace, noProgress, noPrices, noTerms, noProgram, newPlace, bare}
 use Rattle.host.specs.With.{withPlaces}
 use Rattle.host.specs.Places.{hasId, whose, committed, taken}
@@ -29,20 +30,20 @@ same-found id p h e = both-join _ _ h (eq-same _ _ e)
 
 -- ---- a host with no slots: every later call refuses it with 1
 
-pub no-slots-refused : (z : ℕ) → inOrder z (bare 0 0) ≡ false
-unfolding inOrder lent bare pick
-no-slots-refused z = refl
+pub no-slots-refused : inOrder (bare 0 0 0) ≡ false
+unfolding inOrder isSize doubled lent bare pick
+no-slots-refused = refl
 
-pub no-slots-formed : (z : ℕ) (id : List ℕ) → formed z (bare 0 0) id ≡ answered 1 (bare 0 0)
+pub no-slots-formed : (id : List ℕ) → formed (bare 0 0 0) id ≡ answered 1 (bare 0 0 0)
 unfolding formed
-no-slots-formed z id = picks _ _ _ (ap not (no-slots-refused z))
+no-slots-formed id = picks _ _ _ (ap not no-slots-refused)
 
-pub no-slots-dropped : (z : ℕ) (id : List ℕ) → dropped z (bare 0 0) id ≡ answered 1 (bare 0 0)
+pub no-slots-dropped : (id : List ℕ) → dropped (bare 0 0 0) id ≡ answered 1 (bare 0 0 0)
 unfolding dropped
-no-slots-dropped z id = picks _ _ _ (ap not (no-slots-refused z))
+no-slots-dropped id = picks _ _ _ (ap not no-slots-refused)
 
 -- ---- "(P) Ids equal but for byte 31 form two contracts."
 
 pub two-contracts : twoForms (idOf 1) (idOf 2) ≡ 0 ∷ 0 ∷ 2 ∷ []
-unfolding twoForms benchHost freshed lengthRight lent bare noPlace noProgram noTerms noPrices noProgress padded formed inOrder placesInOrder placeInOrder twins taken committed every joined some those apart whose hasId same formedAt newPlace withPlaces pick
+unfolding twoForms benchHost freshed isSize doubled lengthRight lent bare noPlace noProgram noTerms noPrices noProgress padded formed inOrder placesInOrder placeInOrder twins taken committed every joined some those apart whose hasId same formedAt newPlace withPlaces pick
 two-contracts = refl

@@ -18,6 +18,6 @@ benchHost = freshed 4096 32768 16384 .host
 -- the numbers that two forms answer, and how many contracts there are then
 unfoldable pub twoForms : List ℕ → List ℕ → List ℕ
 twoForms a b =
-    let one = formed 4096 benchHost a in
-    let two = formed 4096 (one .host) b in
+    let one = formed benchHost a in
+    let two = formed (one .host) b in
     one .number ∷ two .number ∷ length (those (λ p. p .held) (two .host .places)) ∷ []

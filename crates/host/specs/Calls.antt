@@ -1,5 +1,5 @@
 -- Making a host, forming a contract and dropping one: what each call answers and leaves. A refusal leaves the host as it was. z is the
--- sector size. Assumes nothing.
+-- sector size that a host is made with; every other call takes the one that its host holds. Assumes nothing.
 use mathlib.Core.Bool.{Bool, not}
 use mathlib.Core.List.{List, [], _∷_}
 use Prim.Native.Nat.{ℕ, _/_, _%_}
@@ -10,6 +10,7 @@ use Rattle.area.specs.Area.{same}
 use Rattle.sia.specs.Names.{readOnly}
 use Rattle.sia.specs.Encode.{every}
 use Rattle.host.specs.Lists.{some, each}
+use Rattle.host.specs.Sizes.{isSize}
 use Rattle.host.specs.Empty.{noPlace, newPlace, bare}
 use Rattle.host.specs.With.{withPlaces}
 use Rattle.host.specs.Places.{hasId, whose}
@@ -25,12 +26,14 @@ answered n h = record { number = n; host = h }
 unfoldable pub lengthRight : ℕ → ℕ → ℕ → Bool
 lengthRight z most n = both (eqb (n % z) 0) (lent most (n / z))
 
--- "Making a host with bad lengths answers 2 and a host with no slots"; the lengths of both areas in bytes
+-- "any power of two from 4,096 to 4,194,304, else 2"; "Making a host with bad lengths answers 2 and a host with no slots", and of sector
+-- size 0; the lengths of both areas in bytes
 unfoldable pub freshed : ℕ → ℕ → ℕ → Answer
 freshed z disk stage =
-    pick (not (lengthRight z 64 disk)) (answered 2 (bare 0 0))
-    (pick (not (lengthRight z 16 stage)) (answered 2 (bare 0 0))
-    (answered 0 (bare (disk / z) (stage / z))))
+    pick (not (isSize z)) (answered 2 (bare 0 0 0))
+    (pick (not (lengthRight z 64 disk)) (answered 2 (bare 0 0 0))
+    (pick (not (lengthRight z 16 stage)) (answered 2 (bare 0 0 0))
+    (answered 0 (bare z (disk / z) (stage / z)))))
 
 -- an identifier of the old service, four bytes filled with zeros: "any id whose last 28 bytes are all zero, the zero id included"
 unfoldable pub padded : List ℕ → Bool
@@ -42,9 +45,9 @@ formedAt id [] = []
 formedAt id (p ∷ ps) = let rest = p ∷ formedAt id ps in let here = newPlace id ∷ ps in pick (p .held) rest here
 
 -- forming a contract: 1, 3, 5, 15 ("checked right after 5"), 6, 8
-unfoldable pub formed : ℕ → Host → List ℕ → Answer
-formed z h id =
-    pick (not (inOrder z h)) (answered 1 h)
+unfoldable pub formed : Host → List ℕ → Answer
+formed h id =
+    pick (not (inOrder h)) (answered 1 h)
     (pick (h .program .active) (answered 3 h)
     (pick (same id readOnly) (answered 5 h)
     (pick (padded id) (answered 15 h)
@@ -57,9 +60,9 @@ unfoldable pub replaced : List ℕ → Place → List Place → List Place
 replaced id p ps = each (λ q. pick (hasId id q) p q) ps
 
 -- dropping a contract: 1, 3, 5, 7; "dropping, at any size, frees place and slots"
-unfoldable pub dropped : ℕ → Host → List ℕ → Answer
-dropped z h id =
-    pick (not (inOrder z h)) (answered 1 h)
+unfoldable pub dropped : Host → List ℕ → Answer
+dropped h id =
+    pick (not (inOrder h)) (answered 1 h)
     (pick (h .program .active) (answered 3 h)
     (pick (same id readOnly) (answered 5 h)
     (pick (not (whose id (h .places) .held)) (answered 7 h)

@@ -32,8 +32,8 @@ unfoldable pub noProgram : Program
 noProgram = record { active = false; terms = noTerms; came = 0; progress = noProgress }
 
 -- "A fresh host holds no contract and no open program."
-unfoldable pub bare : ℕ → ℕ → Host
-bare disk stage = record { disk = disk; stage = stage; places = replicate 8 noPlace; program = noProgram }
+unfoldable pub bare : ℕ → ℕ → ℕ → Host
+bare sector disk stage = record { sector = sector; disk = disk; stage = stage; places = replicate 8 noPlace; program = noProgram }
 
 -- a contract of size 0
 unfoldable pub newPlace : List ℕ → Place

@@ -6,6 +6,7 @@ use Prim.Native.Nat.{ℕ, _+_, _*_, _/_, _%_, _≤_}
 use lib.ListN.{take, drop}
 use lib.Dec.{ltb, eqb}
 use Rattle.area.specs.Pick.{pick}
+use Rattle.area.specs.Slots.{Size}
 use Rattle.sia.specs.Encode.{every, within}
 use Rattle.host.specs.Lists.{apart}
 use Rattle.host.specs.Empty.{none}
@@ -54,10 +55,11 @@ pub record Running (z disk stage : ℕ) (ps : List Place) (g : Program) : Type 0
   pub progress : Orderly z disk stage ps (g .terms) (g .progress)
 
 -- a host in order
-pub record Order (z : ℕ) (h : Host) : Type 0 where
+pub record Order (h : Host) : Type 0 where
+  pub size : Size (h .sector)
   pub diskLeast : 1 ≤ h .disk
   pub diskMost : h .disk ≤ 64
   pub stageLeast : 1 ≤ h .stage
   pub stageMost : h .stage ≤ 16
-  pub contracts : Contracts z (h .disk) (h .places)
-  pub running : h .program .active ≡ true → Running z (h .disk) (h .stage) (h .places) (h .program)
+  pub contracts : Contracts (h .sector) (h .disk) (h .places)
+  pub running : h .program .active ≡ true → Running (h .sector) (h .disk) (h .stage) (h .places) (h .program)

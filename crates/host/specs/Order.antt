@@ -1,4 +1,4 @@
--- "Host in order", clause by clause. z is the sector size. Assumes nothing.
+-- "Host in order", clause by clause. z is the sector size, which the record holds. Assumes nothing.
 use mathlib.Core.Bool.{Bool, not}
 use mathlib.Core.List.{List}
 use Prim.Native.Nat.{ℕ, _+_, _*_, _/_, _%_}
@@ -9,6 +9,7 @@ use Rattle.area.specs.Area.{same}
 use Rattle.sia.specs.Names.{readOnly}
 use Rattle.sia.specs.Encode.{every, within}
 use Rattle.host.specs.Lists.{apart}
+use Rattle.host.specs.Sizes.{isSize}
 use Rattle.host.specs.Empty.{none}
 use Rattle.host.specs.Places.{whose, others, taken}
 use Rattle.host.specs.declared.Place.{Place}
@@ -93,10 +94,11 @@ programInOrder z disk stage ps g =
 
 -- ---- the whole record
 
--- "Host in order: lengths as above; .. For an open program: .."
-unfoldable pub inOrder : ℕ → Host → Bool
-inOrder z h =
-    both (lent 64 (h .disk))
+-- "a host holding another is not in order"; "Host in order: lengths as above; .. For an open program: .."
+unfoldable pub inOrder : Host → Bool
+inOrder h =
+    both (isSize (h .sector))
+    (both (lent 64 (h .disk))
     (both (lent 16 (h .stage))
-    (both (placesInOrder z (h .disk) (h .places))
-    (either (not (h .program .active)) (programInOrder z (h .disk) (h .stage) (h .places) (h .program)))))
+    (both (placesInOrder (h .sector) (h .disk) (h .places))
+    (either (not (h .program .active)) (programInOrder (h .sector) (h .disk) (h .stage) (h .places) (h .program))))))

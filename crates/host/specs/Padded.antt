@@ -1,4 +1,4 @@
--- "No padded short ids.": which ids these are, and where forming answers 15. z is the sector size. Assumes nothing.
+-- "No padded short ids.": which ids these are, and where forming answers 15. Assumes nothing.
 use mathlib.Core.Path.{_≡_}
 use mathlib.Core.Bool.{true, false}
 use mathlib.Core.List.{List}
@@ -14,6 +14,6 @@ pub record Padding (id : List ℕ) : Type 0 where
   pub enough : length id ≡ 32 → ((i : ℕ) → 4 ≤ i → i < 32 → getD id i 0 ≡ 0) → padded id ≡ true
 
 -- 15 is answered exactly where the id is padded and neither 1 nor 3 applies: so before 6 and 8
-pub record Fifteen (z : ℕ) (h : Host) (id : List ℕ) : Type 0 where
-  pub refused : padded id ≡ true → inOrder z h ≡ true → h .program .active ≡ false → formed z h id ≡ answered 15 h
-  pub only : formed z h id .number ≡ 15 → (padded id ≡ true) × (inOrder z h ≡ true) × (h .program .active ≡ false)
+pub record Fifteen (h : Host) (id : List ℕ) : Type 0 where
+  pub refused : padded id ≡ true → inOrder h ≡ true → h .program .active ≡ false → formed h id ≡ answered 15 h
+  pub only : formed h id .number ≡ 15 → (padded id ≡ true) × (inOrder h ≡ true) × (h .program .active ≡ false)

@@ -10,10 +10,10 @@ use Rattle.host.specs.declared.Host.{Host}
 -- ---- of a host
 
 unfoldable pub withPlaces : Host → List Place → Host
-withPlaces h ps = record { disk = h .disk; stage = h .stage; places = ps; program = h .program }
+withPlaces h ps = record { sector = h .sector; disk = h .disk; stage = h .stage; places = ps; program = h .program }
 
 unfoldable pub withProgram : Host → Program → Host
-withProgram h g = record { disk = h .disk; stage = h .stage; places = h .places; program = g }
+withProgram h g = record { sector = h .sector; disk = h .disk; stage = h .stage; places = h .places; program = g }
 
 -- ---- of a place
 

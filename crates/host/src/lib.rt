@@ -8,12 +8,14 @@ ghost use Rattle.host.specs.Empty as Says;
 ghost use Rattle.host.specs.Order as Order;
 
 mod places; // places.rt: contracts by id, and their sizes
+mod sizes; // sizes.rt: which sizes of sectors there are
 mod slots; // slots.rt: the slots that contracts take, and the lowest free ones
 
 pub use places::place_of;
 pub use places::replaced_in;
 pub use places::sizes_fit;
 use sia::Head;
+pub use sizes::is_size;
 pub use slots::Slots;
 pub use slots::below;
 pub use slots::distinct;
@@ -69,8 +71,9 @@ pub struct Program {
     pub progress: Progress,
 }
 
-// The sectors of the disk area and of the stage area, the places for contracts, and the program.
+// The bytes of a sector, the sectors of the disk area and of the stage area, the places for contracts, and the program.
 pub struct Host {
+    pub sector: u64,
     pub disk: u64,
     pub stage: u64,
     pub places: [Place; 8],
@@ -179,10 +182,10 @@ impl Program {
 }
 
 impl Host {
-    // The bytes of a sector; the same as a length in an area.
-    pub const SECTOR: u64 = 4_096;
+    // The bytes of a sector: a power of two from LEAST to MOST.
+    pub const LEAST: u64 = 4_096;
 
-    pub const SECTOR_LEN: usize = Host::SECTOR as usize;
+    pub const MOST: u64 = 4_194_304;
 
     // The most sectors of a disk area, and of a stage area.
     pub const DISK: u64 = 64;
@@ -191,14 +194,15 @@ impl Host {
 
     pub const PLACES: usize = 8;
 
-    // A host with so many sectors that holds no contract and no open program.
-    pub fn bare(disk: u64, stage: u64) -> Host
-        ensures { λ r. ⌜ r ≡ Says.bare disk stage ⌝ }
+    // A host with so many sectors of that size that holds no contract and no open program.
+    pub fn bare(sector: u64, disk: u64, stage: u64) -> Host
+        ensures { λ r. ⌜ r ≡ Says.bare sector disk stage ⌝ }
     {
         let none = Place::none();
         let places = [none; 8];
         let program = Program::none();
         Host {
+            sector,
             disk,
             stage,
             places,

@@ -3,7 +3,7 @@ use crate::Host;
 use crate::Place;
 ghost use mathlib.Core.Path.{_≡_};
 ghost use mathlib.Core.List.{_++_};
-ghost use Prim.Native.Nat.{_+_, _/_, _≤_, min};
+ghost use Prim.Native.Nat.{_+_, _/_, _≤_, _<_, min};
 ghost use lib.ListN.{take};
 ghost use lib.Seq.{slice};
 ghost use lib.Dec.{ltb, eqb};
@@ -25,10 +25,11 @@ pub fn wide(x: u8) -> u64
 }
 
 // The sectors of a size, at most as many as a place has slots.
-pub fn sectors(size: u64) -> usize
-    ensures { λ r. ⌜ (r ≡ min (size / 4096) 64) × (r ≤ 64) ⌝ }
+pub fn sectors(z: u64, size: u64) -> usize
+    requires { ⌜ 0 < z ⌝ }
+    ensures { λ r. ⌜ (r ≡ min (size / z) 64) × (r ≤ 64) ⌝ }
 {
-    let n = size / Host::SECTOR;
+    let n = size / z;
     if n < Place::SLOTS {
         return n as usize;
     }
@@ -36,9 +37,10 @@ pub fn sectors(size: u64) -> usize
 }
 
 // The slots of a place, behind those that are listed.
-fn with_slots(s: Slots, p: Place) -> Slots
+fn with_slots(z: u64, s: Slots, p: Place) -> Slots
+    requires { ⌜ 0 < z ⌝ }
     requires { ⌜ s .count ≤ 448 ⌝ }
-    ensures { λ r. ⌜ (listed r ≡ listed s ++ committed 4096 p) × (r .count ≤ s .count + 64) ⌝ }
+    ensures { λ r. ⌜ (listed r ≡ listed s ++ committed z p) × (r .count ≤ s .count + 64) ⌝ }
 {
     if !p.held {
         return s;
@@ -46,7 +48,7 @@ fn with_slots(s: Slots, p: Place) -> Slots
     let mut items = s.items;
     let mut count = s.count;
     let slots = p.slots;
-    let end = sectors(p.size);
+    let end = sectors(z, p.size);
     let mut i: usize = 0;
     while i < end {
         items[count] = slots[i];
@@ -57,15 +59,16 @@ fn with_slots(s: Slots, p: Place) -> Slots
 }
 
 // The slots of all committed positions, place by place.
-pub fn slots_taken(places: [Place; 8]) -> Slots
-    ensures { λ r. ⌜ (listed r ≡ taken 4096 places) × (r .count ≤ 512) ⌝ }
+pub fn slots_taken(z: u64, places: [Place; 8]) -> Slots
+    requires { ⌜ 0 < z ⌝ }
+    ensures { λ r. ⌜ (listed r ≡ taken z places) × (r .count ≤ 512) ⌝ }
 {
     let items = [0u8; 512];
     let mut s = Slots { count: 0, items };
     let mut k: usize = 0;
     while k < Host::PLACES {
         let p = places[k];
-        s = with_slots(s, p);
+        s = with_slots(z, s, p);
         k += 1;
     }
     s

@@ -1,10 +1,11 @@
 // Whether a host is in order, decided on any record, however damaged. Each function is one clause of crate host's definition, in its
 // order.
 ghost use mathlib.Core.Path.{_≡_};
-ghost use Prim.Native.Nat.{_+_, _≤_};
+ghost use Prim.Native.Nat.{_+_, _≤_, _<_};
 ghost use lib.Seq.{slice};
 ghost use lib.Dec.{leb};
 ghost use Rattle.area.specs.Pick.{pick};
+ghost use Rattle.area.specs.Slots.{Size};
 ghost use Rattle.sia.specs.Encode.{every};
 ghost use Rattle.host.specs.Lists.{some, apart};
 ghost use Rattle.host.specs.Order.{placeInOrder, twins, placesInOrder, parentInOrder, termsInOrder, progressInOrder, programInOrder, inOrder};
@@ -20,8 +21,9 @@ use staged::staged_in_order;
 
 // ---- contracts
 
-fn place_in_order(p: Place) -> bool
-    ensures { λ r. ⌜ r ≡ placeInOrder 4096 p ⌝ }
+fn place_in_order(z: u64, p: Place) -> bool
+    requires { ⌜ 0 < z ⌝ }
+    ensures { λ r. ⌜ r ≡ placeInOrder z p ⌝ }
 {
     if !p.held {
         return true;
@@ -30,19 +32,20 @@ fn place_in_order(p: Place) -> bool
     if sia::is_read_only(id) {
         return false;
     }
-    if p.size % Host::SECTOR != 0 {
+    if p.size % z != 0 {
         return false;
     }
-    p.size / Host::SECTOR <= Place::SLOTS
+    p.size / z <= Place::SLOTS
 }
 
-fn each_in_order(places: [Place; 8]) -> bool
-    ensures { λ r. ⌜ r ≡ every (placeInOrder 4096) places ⌝ }
+fn each_in_order(z: u64, places: [Place; 8]) -> bool
+    requires { ⌜ 0 < z ⌝ }
+    ensures { λ r. ⌜ r ≡ every (placeInOrder z) places ⌝ }
 {
     let mut i: usize = 0;
     while i < 8 {
         let p = places[i];
-        if !place_in_order(p) {
+        if !place_in_order(z, p) {
             return false;
         }
         i += 1;
@@ -94,16 +97,17 @@ fn no_twins(places: [Place; 8]) -> bool
     true
 }
 
-fn places_in_order(disk: u64, places: [Place; 8]) -> bool
-    ensures { λ r. ⌜ r ≡ placesInOrder 4096 disk places ⌝ }
+fn places_in_order(z: u64, disk: u64, places: [Place; 8]) -> bool
+    requires { ⌜ 0 < z ⌝ }
+    ensures { λ r. ⌜ r ≡ placesInOrder z disk places ⌝ }
 {
-    if !each_in_order(places) {
+    if !each_in_order(z, places) {
         return false;
     }
     if !no_twins(places) {
         return false;
     }
-    let taken = host::slots_taken(places);
+    let taken = host::slots_taken(z, places);
     let items = taken.items;
     let count = taken.count;
     if !host::distinct(items, count) {
@@ -161,9 +165,17 @@ fn sum_fits(one: u64, two: u64, limit: u64) -> bool
     one <= limit - two
 }
 
-fn progress_in_order(disk: u64, stage: u64, places: [Place; 8], t: Terms, p: Progress) -> bool
+fn progress_in_order(
+    z: u64,
+    disk: u64,
+    stage: u64,
+    places: [Place; 8],
+    t: Terms,
+    p: Progress,
+) -> bool
+    requires { ⌜ Size z ⌝ }
     requires { ⌜ disk ≤ 64 ⌝ }
-    ensures { λ r. ⌜ r ≡ progressInOrder 4096 disk stage places t p ⌝ }
+    ensures { λ r. ⌜ r ≡ progressInOrder z disk stage places t p ⌝ }
 {
     let head = t.head;
     let id = head.contract;
@@ -177,20 +189,21 @@ fn progress_in_order(disk: u64, stage: u64, places: [Place; 8], t: Terms, p: Pro
     if !sum_fits(p.written, owing, t.room) {
         return false;
     }
-    if p.size % Host::SECTOR != 0 {
+    if p.size % z != 0 {
         return false;
     }
-    if !host::sizes_fit(places, id, p.size, disk * Host::SECTOR) {
+    if !host::sizes_fit(places, id, p.size, disk * z) {
         return false;
     }
     let parent = host::place_of(places, id);
     let staged = p.staged;
-    staged_in_order(stage, parent.size / Host::SECTOR, p.size, staged)
+    staged_in_order(z, stage, parent.size / z, p.size, staged)
 }
 
-fn program_in_order(disk: u64, stage: u64, places: [Place; 8], g: Program) -> bool
+fn program_in_order(z: u64, disk: u64, stage: u64, places: [Place; 8], g: Program) -> bool
+    requires { ⌜ Size z ⌝ }
     requires { ⌜ disk ≤ 64 ⌝ }
-    ensures { λ r. ⌜ r ≡ programInOrder 4096 disk stage places g ⌝ }
+    ensures { λ r. ⌜ r ≡ programInOrder z disk stage places g ⌝ }
 {
     let t = g.terms;
     let p = g.progress;
@@ -201,30 +214,34 @@ fn program_in_order(disk: u64, stage: u64, places: [Place; 8], g: Program) -> bo
     if head.length < g.came {
         return false;
     }
-    progress_in_order(disk, stage, places, t, p)
+    progress_in_order(z, disk, stage, places, t, p)
 }
 
 // ---- the whole record
 
 // Whether a host is in order.
 pub fn in_order(host: Host) -> bool
-    ensures { λ r. ⌜ r ≡ inOrder 4096 host ⌝ }
+    ensures { λ r. ⌜ r ≡ inOrder host ⌝ }
 {
+    let z = host.sector;
     let disk = host.disk;
     let stage = host.stage;
     let places = host.places;
     let program = host.program;
+    if !host::is_size(z) {
+        return false;
+    }
     if !host::lent(disk, Host::DISK) {
         return false;
     }
     if !host::lent(stage, Host::STAGE) {
         return false;
     }
-    if !places_in_order(disk, places) {
+    if !places_in_order(z, disk, places) {
         return false;
     }
     if !program.active {
         return true;
     }
-    program_in_order(disk, stage, places, program)
+    program_in_order(z, disk, stage, places, program)
 }

@@ -2,7 +2,7 @@
 use host::Progress;
 ghost use mathlib.Core.Path.{_≡_};
 ghost use mathlib.Core.Bool.{not};
-ghost use Prim.Native.Nat.{_/_, _≤_};
+ghost use Prim.Native.Nat.{_/_, _≤_, _<_};
 ghost use lib.Seq.{slice};
 ghost use lib.Dec.{eqb};
 ghost use Rattle.sia.specs.Encode.{every};
@@ -104,8 +104,9 @@ fn all_staged(staged: [u8; 64], from: u64, end: usize) -> bool
 }
 
 // Whether the staged positions are in order; `start` in sectors, `size` in bytes.
-pub fn staged_in_order(stage: u64, start: u64, size: u64, staged: [u8; 64]) -> bool
-    ensures { λ r. ⌜ r ≡ stagedInOrder stage start (size / 4096) staged ⌝ }
+pub fn staged_in_order(z: u64, stage: u64, start: u64, size: u64, staged: [u8; 64]) -> bool
+    requires { ⌜ 0 < z ⌝ }
+    ensures { λ r. ⌜ r ≡ stagedInOrder stage start (size / z) staged ⌝ }
 {
     if !slots_in_order(staged, stage) {
         return false;
@@ -113,7 +114,7 @@ pub fn staged_in_order(stage: u64, start: u64, size: u64, staged: [u8; 64]) -> b
     if !no_clash(staged) {
         return false;
     }
-    let end = host::sectors(size);
+    let end = host::sectors(z, size);
     if !none_from(staged, end) {
         return false;
     }

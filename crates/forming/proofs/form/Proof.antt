@@ -43,7 +43,7 @@ abbrev start-1 : tie.Else1 → tie.Start
 start-1 c = c .before .before
 
 goes-1 : (c : tie.Else1) → after-1 (start-1 c .args .host) (start-1 c .args .id)
-    ≡ formed 4096 (start-1 c .args .host) (start-1 c .args .id)
+    ≡ formed (start-1 c .args .host) (start-1 c .args .id)
 unfolding formed
 goes-1 c = no _ _ _ (ap not (sym (c .before .in-order .ensures)) ∙ c .if1 .left) refl
 
@@ -51,14 +51,14 @@ abbrev start-3 : tie.Else2 → tie.Start
 start-3 c = start-1 (c .before .before)
 
 goes-3 : (c : tie.Else2) → after-3 (start-3 c .args .host) (start-3 c .args .id)
-    ≡ formed 4096 (start-3 c .args .host) (start-3 c .args .id)
+    ≡ formed (start-3 c .args .host) (start-3 c .args .id)
 goes-3 c = no _ _ _ (c .if2 .left) refl ∙ goes-1 (c .before .before)
 
 abbrev start-5 : tie.Else3 → tie.Start
 start-5 c = start-3 (c .before .before)
 
 goes-5 : (c : tie.Else3) → after-5 (start-5 c .args .host) (start-5 c .args .id)
-    ≡ formed 4096 (start-5 c .args .host) (start-5 c .args .id)
+    ≡ formed (start-5 c .args .host) (start-5 c .args .id)
 goes-5 c = no _ _ _ (sym (c .before .is-read-only .ensures) ∙ c .if3 .left) refl ∙ goes-3 (c .before .before)
 
 abbrev found : tie.Else4 → tie.After-place-of
@@ -71,21 +71,21 @@ abbrev start-15 : tie.Else4 → tie.Start
 start-15 c = start-5 (at-5 c)
 
 goes-15 : (c : tie.Else4) → after-15 (start-15 c .args .host) (start-15 c .args .id)
-    ≡ formed 4096 (start-15 c .args .host) (start-15 c .args .id)
+    ≡ formed (start-15 c .args .host) (start-15 c .args .id)
 goes-15 c = no _ _ _ (sym (c .before .padded .ensures) ∙ c .if4 .left) refl ∙ goes-5 (at-5 c)
 
 abbrev start-6 : tie.Else5 → tie.Start
 start-6 c = start-15 (c .before)
 
 goes-6 : (c : tie.Else5) → after-6 (start-6 c .args .host) (start-6 c .args .id)
-    ≡ formed 4096 (start-6 c .args .host) (start-6 c .args .id)
+    ≡ formed (start-6 c .args .host) (start-6 c .args .id)
 goes-6 c = no _ _ _ (ap (λ (p : Place). p .held) (sym (found (c .before) .place-of .ensures)) ∙ c .if5 .left) refl ∙ goes-15 (c .before)
 
 abbrev start-8 : tie.Else6 → tie.Start
 start-8 c = start-6 (c .before .before)
 
 goes-8 : (c : tie.Else6) → after-8 (start-8 c .args .host) (start-8 c .args .id)
-    ≡ formed 4096 (start-8 c .args .host) (start-8 c .args .id)
+    ≡ formed (start-8 c .args .host) (start-8 c .args .id)
 goes-8 c = no _ _ _ (ap not (sym (c .before .has-free .ensures)) ∙ c .if6 .left) refl ∙ goes-6 (c .before .before)
 
 -- ---- the needs

@@ -19,4 +19,4 @@ unfolding lengthRight
 returns-2 c = yes _ _ _ (eq-eqb _ _ (c .before .if1 .left)) (c .lent .ensures)
 
 pub length-right-spec : {M : Type 1} → statement M
-length-right-spec = tie.close (tie.spec returns lent-requires returns-2)
+length-right-spec = tie.close (tie.spec (λ c. search needs) returns (λ c. search needs) lent-requires returns-2)

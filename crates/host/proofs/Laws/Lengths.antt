@@ -28,6 +28,6 @@ listing s vs g = long u8-field (s .items) (g .1 .1 .1 .0 .1 .0 .1)
 -- a field that is a struct has the same facts one level in: 64 entries for staged positions
 pub hosted : (h : Host) (vs : List Val) → Is (row host.the-type) h vs → length (h .program .progress .staged) ≡ 64
 hosted h vs g =
-    let program = g .1 .1 .1 .1 .1 .0 in
+    let program = g .1 .1 .1 .1 .1 .1 .0 in
     let progress = program .1 .1 .1 .1 .1 .0 in
     long u8-field (h .program .progress .staged) (progress .1 .1 .1 .1 .1 .1 .1 .0 .1 .0 .1)

@@ -12,6 +12,7 @@ use Rattle.host.specs.declared.Terms.{Terms}
 use Rattle.host.specs.declared.Progress.{Progress}
 use Rattle.host.specs.declared.Program.{Program}
 use Rattle.host.specs.declared.Host.{Host}
+use Rattle.host.proofs.Laws.Sizes.{size-facts, facts-size}
 
 pub lent-facts : (most n : ℕ) → lent most n ≡ true → (1 ≤ n) × (n ≤ most)
 unfolding lent
@@ -100,29 +101,32 @@ module _ (z disk stage : ℕ) (ps : List Place) where
 -- ---- the whole record
 
 -- a host in order has the facts
-pub order-facts : (z : ℕ) (h : Host) → inOrder z h ≡ true → Order z h
+pub order-facts : (h : Host) → inOrder h ≡ true → Order h
 unfolding inOrder
-order-facts z h e =
+order-facts h a =
+    let e = both-right _ _ a in
     let f = both-right _ _ e in
     let g = both-right _ _ f in
     let disk = lent-facts 64 (h .disk) (both-left _ _ e) in
     let stage = lent-facts 16 (h .stage) (both-left _ _ f) in
     record {
+      size = size-facts (h .sector) (both-left _ _ a);
       diskLeast = disk .0;
       diskMost = disk .1;
       stageLeast = stage .0;
       stageMost = stage .1;
       contracts = contracts-facts _ _ _ (both-left _ _ g);
-      running = λ a. program-facts _ _ _ _ _ (sym (skips (not (h .program .active)) true _ (ap not a)) ∙ both-right _ _ g);
+      running = λ on. program-facts _ _ _ _ _ (sym (skips (not (h .program .active)) true _ (ap not on)) ∙ both-right _ _ g);
     }
 
 -- and a host with the facts is in order
-pub facts-order : (z : ℕ) (h : Host) → Order z h → inOrder z h ≡ true
+pub facts-order : (h : Host) → Order h → inOrder h ≡ true
 unfolding inOrder
-facts-order z h o =
-    both-join _ _ (facts-lent _ _ (o .diskLeast) (o .diskMost))
+facts-order h o =
+    both-join _ _ (facts-size _ (o .size))
+    (both-join _ _ (facts-lent _ _ (o .diskLeast) (o .diskMost))
     (both-join _ _ (facts-lent _ _ (o .stageLeast) (o .stageMost))
     (both-join _ _ (facts-contracts _ _ _ (o .contracts))
     (by (h .program .active)
     (λ a. skips (not (h .program .active)) true _ (ap not a) ∙ facts-program _ _ _ _ _ (o .running a))
-    (λ a. picks (not (h .program .active)) true _ (ap not a)))))
+    (λ a. picks (not (h .program .active)) true _ (ap not a))))))

@@ -58,10 +58,10 @@ module _ (r : List ℕ → List ℕ) (new : Renaming r) where
   unfolding formedAs hostAs withPlaces
   formed-done h id = ap (λ (ps : List Place). answered 0 (withPlaces (hostAs r h) ps)) (lowest-as id (h .places))
 
-  pub forming-as : (z : ℕ) (h : Host) (id : List ℕ) → padded (r id) ≡ padded id → formed z (hostAs r h) (r id) ≡ formedAs (formed z h id)
+  pub forming-as : (h : Host) (id : List ℕ) → padded (r id) ≡ padded id → formed (hostAs r h) (r id) ≡ formedAs (formed h id)
   unfolding formed
-  forming-as z h id e =
-      down formedAs _ _ _ _ _ _ (ap not (in-order-as r new z h)) (λ _. formed-not 1 h) (λ _.
+  forming-as h id e =
+      down formedAs _ _ _ _ _ _ (ap not (in-order-as r new h)) (λ _. formed-not 1 h) (λ _.
       down formedAs _ _ _ _ _ _ (active-as h) (λ _. formed-not 3 h) (λ _.
       down formedAs _ _ _ _ _ _ (word-as r new id) (λ _. formed-not 5 h) (λ _.
       down formedAs _ _ _ _ _ _ e (λ _. formed-not 15 h) (λ _.
@@ -80,10 +80,10 @@ module _ (r : List ℕ → List ℕ) (new : Renaming r) where
       ap (λ (ps : List Place). answered 0 (withPlaces (hostAs r h) ps))
       (ap (λ (p : Place). replaced (r id) p (allAs r new (h .places))) (sym no-place-as) ∙ replaced-as r new id noPlace (h .places))
 
-  pub dropping-as : (z : ℕ) (h : Host) (id : List ℕ) → dropped z (hostAs r h) (r id) ≡ formedAs (dropped z h id)
+  pub dropping-as : (h : Host) (id : List ℕ) → dropped (hostAs r h) (r id) ≡ formedAs (dropped h id)
   unfolding dropped
-  dropping-as z h id =
-      down formedAs _ _ _ _ _ _ (ap not (in-order-as r new z h)) (λ _. formed-not 1 h) (λ _.
+  dropping-as h id =
+      down formedAs _ _ _ _ _ _ (ap not (in-order-as r new h)) (λ _. formed-not 1 h) (λ _.
       down formedAs _ _ _ _ _ _ (active-as h) (λ _. formed-not 3 h) (λ _.
       down formedAs _ _ _ _ _ _ (word-as r new id) (λ _. formed-not 5 h) (λ _.
       down formedAs _ _ _ _ _ _ (ap (λ (p : Place). not (p .held)) (whose-places h id)) (λ _. formed-not 7 h) (λ _. dropped-done h id))))

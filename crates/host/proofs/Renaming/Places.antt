@@ -14,6 +14,7 @@ use Rattle.sia.specs.Encode.{every, joined, within}
 use Rattle.host.specs.Lists.{some, each, apart, sum}
 use Rattle.host.specs.Empty.{noPlace}
 use Rattle.host.specs.Places.{hasId, whose, ownSize, others, committed, taken}
+use Rattle.host.specs.Sizes.{isSize}
 use Rattle.host.specs.Order.{lent, placeInOrder, twins, placesInOrder, parentInOrder, termsInOrder, progressInOrder, programInOrder, inOrder}
 use Rattle.host.specs.Calls.{replaced}
 use Rattle.host.specs.Renaming.{Renaming, placeAs, termsAs, programAs, hostAs}
@@ -158,10 +159,11 @@ module _ (r : List ℕ → List ℕ) (new : Renaming r) where
       ∙ ap₂ both (terms-in-as ps (g .terms) (g .progress .size))
       (ap (both (leb (g .came) (g .terms .head .length))) (progress-as z disk stage ps (g .terms) (g .progress)))
 
-  pub in-order-as : (z : ℕ) (h : Host) → inOrder z (hostAs r h) ≡ inOrder z h
+  pub in-order-as : (h : Host) → inOrder (hostAs r h) ≡ inOrder h
   unfolding inOrder hostAs
-  in-order-as z h =
-      ap (λ (b : Bool). both (lent 64 (h .disk)) (both (lent 16 (h .stage)) b))
+  in-order-as h =
+      let z = h .sector in
+      ap (λ (b : Bool). both (isSize z) (both (lent 64 (h .disk)) (both (lent 16 (h .stage)) b)))
       (ap₂ both (places-as z (h .disk) (h .places))
       (by (h .program .active)
       (λ e. ap (either (not (h .program .active))) (program-as z (h .disk) (h .stage) (h .places) (h .program) e))

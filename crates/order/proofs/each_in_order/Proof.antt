@@ -14,13 +14,13 @@ use Rattle.order.proofs.each_in_order.Statement.{statement}
 use Rattle.order.proofs.each_in_order.Tie as tie
 
 abbrev Inv-loop : tie.InvT-loop
-Inv-loop places i₀ i = every (placeInOrder 4096) places ≡ every (placeInOrder 4096) (slice i 8 places)
+Inv-loop z places i₀ i = every (placeInOrder z) places ≡ every (placeInOrder z) (slice i 8 places)
 
 abbrev μ-loop : tie.MeasureT-loop
-μ-loop places i₀ i = 8 - i
+μ-loop z places i₀ i = 8 - i
 
 loop-holds : tie.Need-loop-holds Inv-loop μ-loop
-loop-holds c = ap (every (placeInOrder 4096)) (sym (slice-all (c .args .t1) (c .good .0 .1 .0 .1)))
+loop-holds c = ap (every (placeInOrder (c .args .z))) (sym (slice-all (c .args .t2) (c .good .1 .0 .1 .0 .1)))
 
 mul-p : tie.Need-mul-p Inv-loop μ-loop
 mul-p c = search needs
@@ -29,13 +29,13 @@ array-copy-out-p : tie.Need-array-copy-out-p Inv-loop μ-loop
 array-copy-out-p c = search needs
 
 place-in-order-requires : tie.Need-place-in-order-requires Inv-loop μ-loop
-place-in-order-requires c κs = tt
+place-in-order-requires c κs = search needs
 
 returns : tie.Need-returns Inv-loop μ-loop
 returns c =
     let l = c .before .before .before .before .loop in
     let s = c .before .before .before .before .before in
-    every-stops (placeInOrder 4096) (s .args .t1) (l .i) 8 blank (s .good .0 .1 .0 .1) (omega arith) (omega arith)
+    every-stops (placeInOrder (s .args .z)) (s .args .t2) (l .i) 8 blank (s .good .1 .0 .1 .0 .1) (omega arith) (omega arith)
     (sym (c .before .place-in-order .ensures) ∙ not-true _ (c .if1 .taken))
     ∙ sym (l .inv)
 
@@ -50,13 +50,13 @@ loop-again c =
     let l = c .before .before .before .before .loop in
     let s = c .before .before .before .before .before in
     l .inv
-    ∙ every-further (placeInOrder 4096) (s .args .t1) (l .i) 8 blank (s .good .0 .1 .0 .1) (omega arith) (omega arith)
+    ∙ every-further (placeInOrder (s .args .z)) (s .args .t2) (l .i) 8 blank (s .good .1 .0 .1 .0 .1) (omega arith) (omega arith)
     (sym (c .before .place-in-order .ensures) ∙ not-false _ (c .if1 .left))
 
 returns-2 : tie.Need-returns-2 Inv-loop μ-loop
 returns-2 c =
     let s = c .before .before in
-    every-done (placeInOrder 4096) (s .args .t1) (c .before .loop .i) 8 (omega arith) ∙ sym (c .before .loop .inv)
+    every-done (placeInOrder (s .args .z)) (s .args .t2) (c .before .loop .i) 8 (omega arith) ∙ sym (c .before .loop .inv)
 
 pub each-in-order-spec : {M : Type 1} → statement M
 each-in-order-spec =

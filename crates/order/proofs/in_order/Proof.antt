@@ -1,90 +1,118 @@
 -- `order::in_order` meets its contract: a walk down the definition. Assumes nothing.
-use mathlib.Core.Path.{refl, sym, _∙_}
+use mathlib.Core.Path.{_≡_, refl, sym, _∙_}
+use mathlib.Core.Bool.{true}
 use borrow.Author.Tests.{not-true, not-false}
+use Rattle.area.specs.Slots.{Size}
 use Rattle.area.proofs.Laws.Pick.{yes, no}
-use Rattle.host.specs.Order.{inOrder}
+use Rattle.area.proofs.Laws.Slots.{some}
+use Rattle.host.specs.Sizes.{isSize}
+use Rattle.host.specs.Order.{lent, placesInOrder, inOrder}
+use Rattle.host.specs.declared.Host.{Host}
+use Rattle.host.proofs.Laws.Sizes.{size-facts}
 use Rattle.host.proofs.Laws.Order.{lent-facts}
 use borrow.Author.Needs.{needs}
 use Rattle.order.proofs.in_order.Statement.{statement}
 use Rattle.order.proofs.in_order.Tie as tie
 
-lent-requires : tie.Need-lent-requires
-lent-requires c κs = search needs
+-- ---- where the code goes on, a clause holds
+
+abbrev host-1 : tie.Else1 → Host
+host-1 c = c .before .before .before .before .args .host
+
+sized : (c : tie.Else1) → isSize (host-1 c .sector) ≡ true
+sized c = sym (c .before .is-size .ensures) ∙ not-false _ (c .if1 .left)
+
+size : (c : tie.Else1) → Size (host-1 c .sector)
+size c = size-facts _ (sized c)
+
+abbrev one : tie.Else2 → tie.Else1
+one c = c .before .before
+
+disk : (c : tie.Else2) → lent 64 (host-1 (one c) .disk) ≡ true
+disk c = sym (c .before .lent .ensures) ∙ not-false _ (c .if2 .left)
+
+abbrev two : tie.Else3 → tie.Else2
+two c = c .before .before
+
+stage : (c : tie.Else3) → lent 16 (host-1 (one (two c)) .stage) ≡ true
+stage c = sym (c .before .lent2 .ensures) ∙ not-false _ (c .if3 .left)
+
+abbrev three : tie.Else4 → tie.Else3
+three c = c .before .before
+
+contracts : (c : tie.Else4) → let h = host-1 (one (two (three c))) in placesInOrder (h .sector) (h .disk) (h .places) ≡ true
+contracts c = sym (c .before .places-in-order .ensures) ∙ not-false _ (c .if4 .left)
+
+-- ---- the needs
 
 returns : tie.Need-returns
 unfolding inOrder
-returns c = no _ _ _ (sym (c .before .lent .ensures) ∙ not-true _ (c .if1 .taken)) refl
-
-lent-requires-2 : tie.Need-lent-requires-2
-lent-requires-2 c κs = search needs
+returns c = no _ _ _ (sym (c .before .is-size .ensures) ∙ not-true _ (c .if1 .taken)) refl
 
 returns-2 : tie.Need-returns-2
 unfolding inOrder
 returns-2 c =
-    let at-if1 = c .before .before in
-    let at-lent = at-if1 .before in
-    yes _ _ _ (sym (at-lent .lent .ensures) ∙ not-false _ (at-if1 .if1 .left))
-    (no _ _ _ (sym (c .before .lent2 .ensures) ∙ not-true _ (c .if2 .taken)) refl)
-
-places-in-order-requires : tie.Need-places-in-order-requires
-places-in-order-requires c κs = search needs
+    yes _ _ _ (sized (c .before .before))
+    (no _ _ _ (sym (c .before .lent .ensures) ∙ not-true _ (c .if2 .taken)) refl)
 
 returns-3 : tie.Need-returns-3
 unfolding inOrder
 returns-3 c =
-    let at-if2 = c .before .before in
-    let at-lent2 = at-if2 .before in
-    let at-if1 = at-lent2 .before in
-    let at-lent = at-if1 .before in
-    yes _ _ _ (sym (at-lent .lent .ensures) ∙ not-false _ (at-if1 .if1 .left))
-    (yes _ _ _ (sym (at-lent2 .lent2 .ensures) ∙ not-false _ (at-if2 .if2 .left))
-    (no _ _ _ (sym (c .before .places-in-order .ensures) ∙ not-true _ (c .if3 .taken)) refl))
+    let at = c .before .before in
+    yes _ _ _ (sized (one at))
+    (yes _ _ _ (disk at)
+    (no _ _ _ (sym (c .before .lent2 .ensures) ∙ not-true _ (c .if3 .taken)) refl))
+
+places-in-order-requires : tie.Need-places-in-order-requires
+places-in-order-requires c κs = some _ (size (one (two c)))
 
 returns-4 : tie.Need-returns-4
 unfolding inOrder
 returns-4 c =
-    let at-if3 = c .before .before in
-    let at-places-in-order = at-if3 .before in
-    let at-if2 = at-places-in-order .before in
-    let at-lent2 = at-if2 .before in
-    let at-if1 = at-lent2 .before in
-    let at-lent = at-if1 .before in
-    yes _ _ _ (sym (at-lent .lent .ensures) ∙ not-false _ (at-if1 .if1 .left))
-    (yes _ _ _ (sym (at-lent2 .lent2 .ensures) ∙ not-false _ (at-if2 .if2 .left))
-    (yes _ _ _ (sym (at-places-in-order .places-in-order .ensures) ∙ not-false _ (at-if3 .if3 .left))
-    (yes _ _ _ (c .if4 .taken) refl)))
-
-program-in-order-requires : tie.Need-program-in-order-requires
-program-in-order-requires c κs =
-    let at-if1 = c .before .before .before .before .before .before in
-    let at-lent = at-if1 .before in
-    lent-facts 64 _ (sym (at-lent .lent .ensures) ∙ not-false _ (at-if1 .if1 .left)) .1
+    let at = c .before .before in
+    yes _ _ _ (sized (one (two at)))
+    (yes _ _ _ (disk (two at))
+    (yes _ _ _ (stage at)
+    (no _ _ _ (sym (c .before .places-in-order .ensures) ∙ not-true _ (c .if4 .taken)) refl)))
 
 returns-5 : tie.Need-returns-5
 unfolding inOrder
 returns-5 c =
-    let at-if3 = c .before .before .before in
-    let at-places-in-order = at-if3 .before in
-    let at-if2 = at-places-in-order .before in
-    let at-lent2 = at-if2 .before in
-    let at-if1 = at-lent2 .before in
-    let at-lent = at-if1 .before in
-    yes _ _ _ (sym (at-lent .lent .ensures) ∙ not-false _ (at-if1 .if1 .left))
-    (yes _ _ _ (sym (at-lent2 .lent2 .ensures) ∙ not-false _ (at-if2 .if2 .left))
-    (yes _ _ _ (sym (at-places-in-order .places-in-order .ensures) ∙ not-false _ (at-if3 .if3 .left))
-    (no _ _ _ (c .before .if4 .left)
-    (c .program-in-order .ensures))))
+    let at = c .before .before in
+    yes _ _ _ (sized (one (two (three at))))
+    (yes _ _ _ (disk (two (three at)))
+    (yes _ _ _ (stage (three at))
+    (yes _ _ _ (contracts at)
+    (yes _ _ _ (c .if5 .taken) refl))))
+
+program-in-order-requires : tie.Need-program-in-order-requires
+program-in-order-requires c κs =
+    let at = two (three (c .before .before)) in
+    (size (one at), lent-facts 64 _ (disk at) .1)
+
+returns-6 : tie.Need-returns-6
+unfolding inOrder
+returns-6 c =
+    let at = c .before .before .before in
+    yes _ _ _ (sized (one (two (three at))))
+    (yes _ _ _ (disk (two (three at)))
+    (yes _ _ _ (stage (three at))
+    (yes _ _ _ (contracts at)
+    (no _ _ _ (c .before .if5 .left)
+    (c .program-in-order .ensures)))))
 
 pub in-order-spec : {M : Type 1} → statement M
 in-order-spec =
     tie.close
     (tie.spec
-    lent-requires
+    (λ c κs. search needs)
     returns
-    lent-requires-2
+    (λ c κs. search needs)
     returns-2
-    places-in-order-requires
+    (λ c κs. search needs)
     returns-3
+    places-in-order-requires
     returns-4
+    returns-5
     program-in-order-requires
-    returns-5)
+    returns-6)

@@ -21,6 +21,9 @@ returns-2 c =
     let at-if1 = c .before .before .before in
     no _ _ _ (at-if1 .if1 .left) (no _ _ _ (ap not (sym (c .before .is-read-only .ensures) ∙ c .if2 .taken)) refl)
 
+rem-if3 : tie.Need-rem-if3
+rem-if3 c = search needs
+
 returns-3 : tie.Need-returns-3
 unfolding placeInOrder
 returns-3 c =
@@ -28,6 +31,9 @@ returns-3 c =
     let at-is-read-only = at-if2 .before in
     let at-if1 = at-is-read-only .before .before in
     no _ _ _ (at-if1 .if1 .left) (yes _ _ _ (ap not (sym (at-is-read-only .is-read-only .ensures) ∙ at-if2 .if2 .left)) (no _ _ _ (ne-eqb _ _ (c .if3 .taken)) refl))
+
+div-result : tie.Need-div-result
+div-result c = search needs
 
 returns-4 : tie.Need-returns-4
 unfolding placeInOrder
@@ -39,4 +45,4 @@ returns-4 c =
 
 pub place-in-order-spec : {M : Type 1} → statement M
 place-in-order-spec =
-    tie.close (tie.spec returns is-read-only-requires returns-2 returns-3 returns-4)
+    tie.close (tie.spec returns is-read-only-requires returns-2 rem-if3 returns-3 div-result returns-4)

@@ -1,9 +1,12 @@
 -- `order::progress_in_order` meets its contract: a walk down the definition. Assumes nothing.
 use mathlib.Core.Path.{refl, sym, ap, _∙_}
 use Prim.Native.Nat.{ℕ, _+_, _/_}
+use native.Mathlib.Nat.{mul-le-mul}
+use native.Mathlib.Omega.{arith}
 use lib.Dec.{leb}
 use borrow.Author.Tests.{not-true, not-false, eq-eqb, ne-eqb, le-leb, lt-leb}
 use Rattle.area.proofs.Laws.Pick.{yes, no}
+use Rattle.area.proofs.Laws.Slots.{some}
 use Rattle.host.specs.Order.{stagedInOrder, progressInOrder}
 use Rattle.host.specs.declared.Place.{Place}
 use borrow.Author.Needs.{needs}
@@ -52,8 +55,15 @@ returns-4 c =
     (yes _ _ _ (ap (λ (n : ℕ). leb (s .args .p .written + n) (s .args .t .room)) (sym (at-owed .owed .ensures)) ∙ sym (at-sum-fits .sum-fits .ensures) ∙ not-false _ (at-if3 .if3 .left))
     (no _ _ _ (ne-eqb _ _ (c .if4 .taken)) refl)))
 
+-- the beginning, from where the running size is whole sectors
+abbrev start : tie.Else4 → tie.Start
+start c = c .before .before .before .before .before .before .before .before .before .before .before .before .before
+
+rem-if4 : tie.Need-rem-if4
+rem-if4 c = some _ (c .before .before .before .before .before .before .before .before .before .before .before .before .pre .0)
+
 mul-sizes-fit : tie.Need-mul-sizes-fit
-mul-sizes-fit c = search needs
+mul-sizes-fit c = omega (arith, mul-le-mul (start c .pre .1) (start c .pre .0 .most))
 
 sizes-fit-requires : tie.Need-sizes-fit-requires
 sizes-fit-requires c κs = search needs
@@ -78,7 +88,10 @@ place-of-requires : tie.Need-place-of-requires
 place-of-requires c κs = search needs
 
 staged-in-order-requires : tie.Need-staged-in-order-requires
-staged-in-order-requires c κs = search needs
+staged-in-order-requires c κs = some _ (start (c .before .before .before .before .before) .pre .0)
+
+div-staged-in-order : tie.Need-div-staged-in-order
+div-staged-in-order c = some _ (start (c .before .before .before .before .before) .pre .0)
 
 returns-6 : tie.Need-returns-6
 unfolding progressInOrder
@@ -99,7 +112,7 @@ returns-6 c =
     (yes _ _ _ (eq-eqb _ _ (at-if4 .if4 .left))
     (yes _ _ _ (sym (at-sizes-fit .sizes-fit .ensures) ∙ not-false _ (at-if5 .if5 .left))
     (c .staged-in-order .ensures
-    ∙ ap (λ (w : Place). stagedInOrder (s .args .stage) (w .size / 4096) (s .args .p .size / 4096) (s .args .p .staged)) (at-place-of .place-of .ensures))))))
+    ∙ ap (λ (w : Place). stagedInOrder (s .args .stage) (w .size / s .args .z) (s .args .p .size / s .args .z) (s .args .p .staged)) (at-place-of .place-of .ensures))))))
 
 pub progress-in-order-spec : {M : Type 1} → statement M
 progress-in-order-spec =
@@ -110,10 +123,12 @@ progress-in-order-spec =
     owed-requires
     sum-fits-requires
     returns-3
+    rem-if4
     returns-4
     mul-sizes-fit
     sizes-fit-requires
     returns-5
     place-of-requires
+    div-staged-in-order
     staged-in-order-requires
     returns-6)

@@ -17,7 +17,7 @@ none-requires-2 c κs = search needs
 returns : tie.Need-returns
 unfolding bare
 returns c =
-    ap₂ (λ (none : Place) (program : Program). record { disk = c .before .before .args .disk; stage = c .before .before .args .stage; places = replicate 8 none; program = program })
+    ap₂ (λ (none : Place) (program : Program). record { sector = c .before .before .args .sector; disk = c .before .before .args .disk; stage = c .before .before .args .stage; places = replicate 8 none; program = program })
     (c .before .none .ensures) (c .none2 .ensures)
 
 pub bare-spec : {M : Type 1} → statement M

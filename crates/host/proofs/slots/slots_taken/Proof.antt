@@ -14,13 +14,13 @@ use Rattle.host.proofs.slots.slots_taken.Statement.{statement}
 use Rattle.host.proofs.slots.slots_taken.Tie as tie
 
 abbrev Inv-loop : tie.InvT-loop
-Inv-loop places s₀ k₀ s k = (k ≤ 8) × (s .count ≤ 64 * k) × (listed s ≡ taken 4096 (take k places))
+Inv-loop z places s₀ k₀ s k = (k ≤ 8) × (s .count ≤ 64 * k) × (listed s ≡ taken z (take k places))
 
 abbrev μ-loop : tie.MeasureT-loop
-μ-loop places s₀ k₀ s k = 8 - k
+μ-loop z places s₀ k₀ s k = 8 - k
 
 loop-holds : tie.Need-loop-holds Inv-loop μ-loop
-loop-holds c = (omega arith, omega arith, taken-none 4096)
+loop-holds c = (omega arith, omega arith, taken-none _)
 
 mul-p : tie.Need-mul-p Inv-loop μ-loop
 mul-p c = search needs
@@ -29,7 +29,7 @@ array-copy-out-p : tie.Need-array-copy-out-p Inv-loop μ-loop
 array-copy-out-p c = search needs
 
 with-slots-requires : tie.Need-with-slots-requires Inv-loop μ-loop
-with-slots-requires c κs = omega arith
+with-slots-requires c κs = (search needs, omega arith)
 
 add-k : tie.Need-add-k Inv-loop μ-loop
 add-k c = search needs
@@ -44,14 +44,14 @@ loop-again c =
       omega arith,
       omega (arith, c .with-slots .ensures .1),
       c .with-slots .ensures .0
-          ∙ ap (λ (x : List ℕ). x ++ committed 4096 (getD (s .args .t1) (l .k) blank)) (l .inv .2)
-          ∙ taken-one 4096 (s .args .t1) (l .k) blank (s .good .0 .1 .0 .1) (omega arith),
+          ∙ ap (λ (x : List ℕ). x ++ committed (s .args .z) (getD (s .args .t2) (l .k) blank)) (l .inv .2)
+          ∙ taken-one _ (s .args .t2) (l .k) blank (s .good .1 .0 .1 .0 .1) (omega arith),
     )
 
 returns : tie.Need-returns Inv-loop μ-loop
 returns c =
     let s = c .before .before in
-    (c .before .loop .inv .2 ∙ ap (taken 4096) (take-all (c .before .loop .k) (s .args .t1) (omega (arith, s .good .0 .1 .0 .1))), omega arith)
+    (c .before .loop .inv .2 ∙ ap (taken (s .args .z)) (take-all (c .before .loop .k) (s .args .t2) (omega (arith, s .good .1 .0 .1 .0 .1))), omega arith)
 
 pub slots-taken-spec : {M : Type 1} → statement M
 slots-taken-spec =

@@ -14,22 +14,22 @@ use Rattle.host.proofs.slots.with_slots.Statement.{statement}
 use Rattle.host.proofs.slots.with_slots.Tie as tie
 
 abbrev Inv-loop : tie.InvT-loop
-Inv-loop items₀ count₀ slots end i₀ items count i =
+Inv-loop z items₀ count₀ slots end i₀ items count i =
     (i ≤ end) × (count ≡ count₀ + i) × (length items ≡ 512) × (take count items ≡ take count₀ items₀ ++ take i slots)
 
 abbrev μ-loop : tie.MeasureT-loop
-μ-loop items₀ count₀ slots end i₀ items count i = end - i
+μ-loop z items₀ count₀ slots end i₀ items count i = end - i
 
 returns : tie.Need-returns Inv-loop μ-loop
-returns c = (no-slots 4096 _ _ (not-true _ (c .if1 .taken)), omega arith)
+returns c = (no-slots _ _ _ (not-true _ (c .if1 .taken)), omega arith)
 
 sectors-requires : tie.Need-sectors-requires Inv-loop μ-loop
-sectors-requires c κs = tt
+sectors-requires c κs = search needs
 
 loop-holds : tie.Need-loop-holds Inv-loop μ-loop
 loop-holds c =
     let s = c .before .before .before .before .before in
-    (omega arith, omega arith, listing (s .args .s) _ (s .good .0), sym (append-nil _))
+    (omega arith, omega arith, listing (s .args .s) _ (s .good .1 .0), sym (append-nil _))
 
 array-read-items : tie.Need-array-read-items Inv-loop μ-loop
 array-read-items c = search needs
@@ -53,7 +53,7 @@ loop-again c =
       omega arith,
       omega (arith, c .before .loop .inv .1),
       simp length-set (c .before .loop .inv .2),
-      grown (c .before .loop .items) (s .args .p .slots) (listed (s .args .s)) (c .before .loop .count) (c .before .loop .i) (c .before .loop .inv .2) (placed (s .args .p) _ (s .good .1 .0))
+      grown (c .before .loop .items) (s .args .p .slots) (listed (s .args .s)) (c .before .loop .count) (c .before .loop .i) (c .before .loop .inv .2) (placed (s .args .p) _ (s .good .1 .1 .0))
           (omega (arith, c .before .loop .inv .1)) (omega (arith, at-sectors .sectors .ensures .1)) (c .before .loop .inv .3),
     )
 
@@ -63,7 +63,7 @@ returns-2 c =
     let at-if1 = at-sectors .before .before .before in
     let s = at-if1 .before .before in (
       c .before .loop .inv .3
-          ∙ its-slots 4096 (s .args .p) (listed (s .args .s)) (c .before .loop .i) 64 (not-false _ (at-if1 .if1 .left)) (placed (s .args .p) _ (s .good .1 .0))
+          ∙ its-slots _ (s .args .p) (listed (s .args .s)) (c .before .loop .i) 64 (not-false _ (at-if1 .if1 .left)) (placed (s .args .p) _ (s .good .1 .1 .0))
           (omega (arith, at-sectors .sectors .ensures .0)),
       omega (arith, c .before .loop .inv .1, at-sectors .sectors .ensures .1),
     )

@@ -43,7 +43,7 @@ returns-3 c =
     let s = at-slots-in-order .before in
     yes _ _ _ (sym (at-slots-in-order .slots-in-order .ensures) ∙ not-false _ (at-if1 .if1 .left))
     (yes _ _ _ (sym (at-no-clash .no-clash .ensures) ∙ not-false _ (at-if2 .if2 .left))
-    (no _ _ _ (sym (every-behind _ (s .args .staged) _ 64 _ (s .good .1 .1 .1 .0 .1 .0 .1) (at-sectors .sectors .ensures .0)) ∙ sym (c .before .none-from .ensures) ∙ not-true _ (c .if3 .taken)) refl))
+    (no _ _ _ (sym (every-behind _ (s .args .staged) _ 64 _ (s .good .1 .1 .1 .1 .0 .1 .0 .1) (at-sectors .sectors .ensures .0)) ∙ sym (c .before .none-from .ensures) ∙ not-true _ (c .if3 .taken)) refl))
 
 all-staged-requires : tie.Need-all-staged-requires
 all-staged-requires c κs =
@@ -62,8 +62,8 @@ returns-4 c =
     let s = at-slots-in-order .before in
     yes _ _ _ (sym (at-slots-in-order .slots-in-order .ensures) ∙ not-false _ (at-if1 .if1 .left))
     (yes _ _ _ (sym (at-no-clash .no-clash .ensures) ∙ not-false _ (at-if2 .if2 .left))
-    (yes _ _ _ (sym (every-behind _ (s .args .staged) _ 64 _ (s .good .1 .1 .1 .0 .1 .0 .1) (at-sectors .sectors .ensures .0)) ∙ sym (at-none-from .none-from .ensures) ∙ not-false _ (c .before .if3 .left))
-    (c .all-staged .ensures ∙ every-between _ (s .args .staged) _ 64 _ (s .good .1 .1 .1 .0 .1 .0 .1) (at-sectors .sectors .ensures .0) (s .args .start))))
+    (yes _ _ _ (sym (every-behind _ (s .args .staged) _ 64 _ (s .good .1 .1 .1 .1 .0 .1 .0 .1) (at-sectors .sectors .ensures .0)) ∙ sym (at-none-from .none-from .ensures) ∙ not-false _ (c .before .if3 .left))
+    (c .all-staged .ensures ∙ every-between _ (s .args .staged) _ 64 _ (s .good .1 .1 .1 .1 .0 .1 .0 .1) (at-sectors .sectors .ensures .0) (s .args .start))))
 
 pub staged-in-order-spec : {M : Type 1} → statement M
 staged-in-order-spec =
