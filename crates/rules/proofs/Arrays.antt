@@ -2,7 +2,7 @@
 use mathlib.Core.Path.{_≡_, refl, sym, ap, _∙_, subst}
 use mathlib.Core.Bool.{Bool, true}
 use mathlib.Core.List.{List, [], _∷_}
-use Prim.Native.Nat.{ℕ, zero, suc, _-_, _/_, _≤_, _<_}
+use Prim.Native.Nat.{ℕ, zero, suc, _-_, _/_, _≤_}
 use native.Mathlib.Nat.{le-of-mul-le-mul-right}
 use native.Mathlib.Omega.{arith}
 use lib.ListN.{length, length-append, length-replicate}
@@ -30,7 +30,7 @@ use Rattle.rules.proofs.Forming.{making}
 use Rattle.rules.proofs.Ordering.{orders}
 use Rattle.rules.proofs.Nothing.{close-ways}
 use Rattle.rules.proofs.Cutting.{Answered, ok, refused, piece-answers}
-use Rattle.rules.proofs.Committing.{final, order-places, place-twins}
+use Rattle.rules.proofs.Committing.{final, order-places, order-some, place-twins}
 use Rattle.rules.proofs.Laws.Effects.{effect-length, whole-sectors}
 use Rattle.rules.proofs.Laws.Split.{split, replaced-none, none-of}
 use Rattle.rules.proofs.Laws.Steps.{runs-go, runs-stop}
@@ -63,58 +63,58 @@ runs-entries z s a k (suc n) t =
     ∙ stepped-entries z s (current s t) (inputsOf (current s t) a) t)
     (λ r. ap (λ (x : Turn). length (x .progress .staged)) (runs-stop z s a k (suc n) t r))
 
--- what opening and pieces keep: arrays as declared, and the contracts of h
-abbrev pub Same : ℕ → Host → Host → Type 0
-Same z h x = Declared z x × (x .places ≡ h .places)
+-- what opening and pieces keep: arrays as declared, and the contracts and the sector size of h
+abbrev pub Same : Host → Host → Type 0
+Same h x = Declared x × (x .places ≡ h .places) × (x .sector ≡ h .sector)
 
 -- down the chain of an opening: each refusal leaves the host
-abbrev Opens : ℕ → Host → Answer → Type 0
-Opens z h r = Same z h (r .host)
+abbrev Opens : Host → Answer → Type 0
+Opens h r = Same h (r .host)
 
-opens-or : (z : ℕ) (h : Host) (b : Bool) (n : ℕ) (r : Answer) → Declared z h → Opens z h r → Opens z h (pick b (answered n 0 h) r)
-opens-or z h b n r d q = either-way (Opens z h) b _ r (λ _. (d, refl)) (λ _. q)
+opens-or : (h : Host) (b : Bool) (n : ℕ) (r : Answer) → Declared h → Opens h r → Opens h (pick b (answered n 0 h) r)
+opens-or h b n r d q = either-way (Opens h) b _ r (λ _. (d, refl, refl)) (λ _. q)
 
-pub same-opens : (z : ℕ) (h : Host) (o : Opening) → Declared z h → Same z h (opens z h o .host)
+pub same-opens : (h : Host) (o : Opening) → Declared h → Same h (opens h o .host)
 unfolding opened openedHead withProgram begun started
-same-opens z h o d =
-    opens-or z h _ 1 _ d (opens-or z h _ 2 _ d (opens-or z h _ 3 _ d (opens-or z h _ (decode (o .bytes) .number) _ d
-    (opens-or z h _ 7 _ d (opens-or z h _ 11 _ d (record { some = d .some; places = d .places; staged = refl }, refl))))))
+same-opens h o d =
+    opens-or h _ 1 _ d (opens-or h _ 2 _ d (opens-or h _ 3 _ d (opens-or h _ (decode (o .bytes) .number) _ d
+    (opens-or h _ 7 _ d (opens-or h _ 11 _ d (record { places = d .places; staged = refl }, refl, refl))))))
 
-abbrev Takes : ℕ → Host → Pieced → Type 0
-Takes z h r = Same z h (r .host)
+abbrev Takes : Host → Pieced → Type 0
+Takes h r = Same h (r .host)
 
-accepted-same : (z : ℕ) (disk : List ℕ) (w : Pieced) (b : List ℕ) → Declared z (w .host)
-    → Takes z (w .host) (accepted z disk (w .host) (w .stage) (w .input) (w .output) b)
+accepted-same : (disk : List ℕ) (w : Pieced) (b : List ℕ) → Declared (w .host)
+    → Takes (w .host) (accepted disk (w .host) (w .stage) (w .input) (w .output) b)
 unfolding accepted withRun withProgram withProgress withCame run turnOf
-accepted-same z disk w b d =
+accepted-same disk w b d =
     let s = settingOf (w .host) disk in (
       record {
-        some = d .some;
         places = d .places;
-        staged = runs-entries z s _ _ (s .terms .head .count) (turnOf (w .host) (w .stage) (w .output)) ∙ d .staged;
+        staged = runs-entries (w .host .sector) s _ _ (s .terms .head .count) (turnOf (w .host) (w .stage) (w .output)) ∙ d .staged;
       },
+      refl,
       refl,
     )
 
-same-piece : (z : ℕ) (disk : List ℕ) (w : Pieced) (b : List ℕ) → Declared z (w .host)
-    → Takes z (w .host) (piece z disk (w .host) (w .stage) (w .input) (w .output) b)
-same-piece z disk w b d =
-    under (piece z disk (w .host) (w .stage) (w .input) (w .output) b) (piece-answers z disk w b)
+same-piece : (disk : List ℕ) (w : Pieced) (b : List ℕ) → Declared (w .host)
+    → Takes (w .host) (piece disk (w .host) (w .stage) (w .input) (w .output) b)
+same-piece disk w b d =
+    under (piece disk (w .host) (w .stage) (w .input) (w .output) b) (piece-answers disk w b)
   where
-    under : (r : Pieced) → Answered w (accepted z disk (w .host) (w .stage) (w .input) (w .output) b) r → Takes z (w .host) r
-    under r (ok e) = subst (Takes z (w .host)) (sym e) (accepted-same z disk w b d)
-    under r (refused n e) = subst (Takes z (w .host)) (sym e) (d, refl)
+    under : (r : Pieced) → Answered w (accepted disk (w .host) (w .stage) (w .input) (w .output) b) r → Takes (w .host) r
+    under r (ok e) = subst (Takes (w .host)) (sym e) (accepted-same disk w b d)
+    under r (refused n e) = subst (Takes (w .host)) (sym e) (d, refl, refl)
 
-pub same-fed : (z : ℕ) (disk : List ℕ) (w : Pieced) (bs : List (List ℕ)) → Declared z (w .host) → Same z (w .host) (fed z disk w bs .host)
+pub same-fed : (disk : List ℕ) (w : Pieced) (bs : List (List ℕ)) → Declared (w .host) → Same (w .host) (fed disk w bs .host)
 unfolding fed
-same-fed z disk w [] d = (d, refl)
-same-fed z disk w (b ∷ bs) d =
-    let one = same-piece z disk w b d in
-    let more = same-fed z disk (piece z disk (w .host) (w .stage) (w .input) (w .output) b) bs (one .0) in
-    (more .0, more .1 ∙ one .1)
+same-fed disk w [] d = (d, refl, refl)
+same-fed disk w (b ∷ bs) d =
+    let one = same-piece disk w b d in
+    let more = same-fed disk (piece disk (w .host) (w .stage) (w .input) (w .output) b) bs (one .0) in
+    (more .0, more .1 ∙ one .1, more .2 ∙ one .2)
 
-declared-gives : (z : ℕ) (h : Host) (a : Areas) (bytes : List ℕ) → Declared z h → Declared z (gives z h a bytes .host)
-declared-gives z h a bytes d = same-piece z (a .disk) (pieced 0 0 h (a .stage) (a .input) (a .output)) bytes d .0
+declared-gives : (h : Host) (a : Areas) (bytes : List ℕ) → Declared h → Declared (gives h a bytes .host)
+declared-gives h a bytes d = same-piece (a .disk) (pieced 0 0 h (a .stage) (a .input) (a .output)) bytes d .0
 
 -- ---- making, forming and dropping
 
@@ -126,26 +126,26 @@ shaped-formed id (p ∷ ps) h =
     (λ e. subst Shaped (sym (picks (p .held) (p ∷ formedAt id ps) _ e)) (h .0, shaped-formed id ps (h .1)))
     (λ e. subst Shaped (sym (skips (p .held) (p ∷ formedAt id ps) _ e)) (refl, h .1))
 
-abbrev Fine : ℕ → Contract → Type 0
-Fine z r = Declared z (r .host)
+abbrev Fine : Contract → Type 0
+Fine r = Declared (r .host)
 
-declared-formed : (z : ℕ) (h : Host) (id : List ℕ) → Declared z h → Fine z (formed z h id)
+declared-formed : (h : Host) (id : List ℕ) → Declared h → Fine (formed h id)
 unfolding formed withPlaces
-declared-formed z h id d =
-    either-way (Fine z) _ _ _ (λ e. d) (λ e. either-way (Fine z) _ _ _ (λ e. d) (λ e. either-way (Fine z) _ _ _ (λ e. d) (λ e.
-    either-way (Fine z) _ _ _ (λ e. d) (λ e. either-way (Fine z) _ _ _ (λ e. d) (λ e. either-way (Fine z) _ _ _ (λ e. d) (λ e.
-    record { some = d .some; places = shaped-formed id (h .places) (d .places); staged = d .staged }))))))
+declared-formed h id d =
+    either-way Fine _ _ _ (λ e. d) (λ e. either-way Fine _ _ _ (λ e. d) (λ e. either-way Fine _ _ _ (λ e. d) (λ e.
+    either-way Fine _ _ _ (λ e. d) (λ e. either-way Fine _ _ _ (λ e. d) (λ e. either-way Fine _ _ _ (λ e. d) (λ e.
+    record { places = shaped-formed id (h .places) (d .places); staged = d .staged }))))))
 
-declared-bare : (z disk stage : ℕ) → 0 < z → Declared z (bare disk stage)
+declared-bare : (z disk stage : ℕ) → Declared (bare z disk stage)
 unfolding bare noPlace noProgram noProgress
-declared-bare z disk stage pos =
-    record { some = pos; places = (refl, (refl, (refl, (refl, (refl, (refl, (refl, (refl, tt)))))))); staged = refl }
+declared-bare z disk stage =
+    record { places = (refl, (refl, (refl, (refl, (refl, (refl, (refl, (refl, tt)))))))); staged = refl }
 
-declared-fresh : (z disk stage : ℕ) → 0 < z → Fine z (freshed z disk stage)
+declared-fresh : (z disk stage : ℕ) → Fine (freshed z disk stage)
 unfolding freshed
-declared-fresh z disk stage pos =
-    either-way (Fine z) _ _ _ (λ e. declared-bare z 0 0 pos) (λ e.
-    either-way (Fine z) _ _ _ (λ e. declared-bare z 0 0 pos) (λ e. declared-bare z _ _ pos))
+declared-fresh z disk stage =
+    either-way Fine _ _ _ (λ e. declared-bare 0 0 0) (λ e. either-way Fine _ _ _ (λ e. declared-bare 0 0 0) (λ e.
+    either-way Fine _ _ _ (λ e. declared-bare 0 0 0) (λ e. declared-bare z _ _)))
 
 shaped-replaced : (id : List ℕ) (x : Place) (ps : List Place) → length (x .slots) ≡ 64 → Shaped ps → Shaped (replaced id x ps)
 unfolding replaced each
@@ -153,24 +153,24 @@ shaped-replaced id x [] e h = h
 shaped-replaced id x (p ∷ ps) e h =
     (either-way (λ (q : Place). length (q .slots) ≡ 64) (hasId id p) x p (λ _. e) (λ _. h .0), shaped-replaced id x ps e (h .1))
 
-declared-dropped : (z : ℕ) (h : Host) (id : List ℕ) → Declared z h → Fine z (dropped z h id)
+declared-dropped : (h : Host) (id : List ℕ) → Declared h → Fine (dropped h id)
 unfolding dropped withPlaces noPlace
-declared-dropped z h id d =
-    either-way (Fine z) _ _ _ (λ e. d) (λ e. either-way (Fine z) _ _ _ (λ e. d) (λ e. either-way (Fine z) _ _ _ (λ e. d) (λ e.
-    either-way (Fine z) _ _ _ (λ e. d) (λ e.
-    record { some = d .some; places = shaped-replaced id noPlace (h .places) refl (d .places); staged = d .staged }))))
+declared-dropped h id d =
+    either-way Fine _ _ _ (λ e. d) (λ e. either-way Fine _ _ _ (λ e. d) (λ e. either-way Fine _ _ _ (λ e. d) (λ e.
+    either-way Fine _ _ _ (λ e. d) (λ e.
+    record { places = shaped-replaced id noPlace (h .places) refl (d .places); staged = d .staged }))))
 
 -- ---- interrupts
 
-abbrev Stops : ℕ → Interrupted → Type 0
-Stops z r = Declared z (r .host)
+abbrev Stops : Interrupted → Type 0
+Stops r = Declared (r .host)
 
-declared-stops : (z : ℕ) (h : Host) (a : Areas) → Declared z h → Stops z (stops z h a)
+declared-stops : (h : Host) (a : Areas) → Declared h → Stops (stops h a)
 unfolding interrupt stopped failing failedProgress withRun withProgram withProgress withCame turnOf
-declared-stops z h a d =
-    either-way (Stops z) _ _ _ (λ e. d) (λ e. either-way (Stops z) _ _ _ (λ e. d) (λ e. either-way (Stops z) _ _ _ (λ e. d) (λ e.
-    either-way (Stops z) _ _ _ (λ e. d) (λ e. either-way (Stops z) _ _ _
-    (λ e. record { some = d .some; places = d .places; staged = d .staged }) (λ e. d)))))
+declared-stops h a d =
+    either-way Stops _ _ _ (λ e. d) (λ e. either-way Stops _ _ _ (λ e. d) (λ e. either-way Stops _ _ _ (λ e. d) (λ e.
+    either-way Stops _ _ _ (λ e. d) (λ e. either-way Stops _ _ _
+    (λ e. record { places = d .places; staged = d .staged }) (λ e. d)))))
 
 -- ---- closing
 
@@ -178,7 +178,7 @@ final-long : (p : Place) (size : ℕ) (slots : List ℕ) → length slots ≤ 64
 unfolding finalPlace withSlots withSize
 final-long p size slots le = length-append slots _ ∙ omega (arith, length-replicate {A = ℕ} (64 - length slots) 0)
 
-module _ (z : ℕ) (disk : List ℕ) (h : Host) (stage : List ℕ) (r : Ready z h) (live : h .program .active ≡ true) where
+module _ (disk : List ℕ) (h : Host) (stage : List ℕ) (r : Ready h) (live : h .program .active ≡ true) where
   abbrev id : List ℕ
   id = h .program .terms .head .contract
 
@@ -186,50 +186,50 @@ module _ (z : ℕ) (disk : List ℕ) (h : Host) (stage : List ℕ) (r : Ready z 
   size = h .program .progress .size
 
   shaped-commit : let old = whose id (h .places) in
-      Shaped (replaced id (finalPlace old size (finalSlots z (h .disk) (h .places) old size)) (h .places))
+      Shaped (replaced id (finalPlace old size (finalSlots (h .sector) (h .disk) (h .places) old size)) (h .places))
   unfolding settingOf
   shaped-commit =
       let d = r .declared in
       by (whose (h .program .terms .head .contract) (h .places) .held)
       (λ e.
-      let q = order-places z h (r .order) in
-      let g = order-good z h disk (r .order) live (d .staged) .orderly in
-      let s = split id (h .places) (place-twins z (h .disk) (h .places) (q .0)) e in
-      let f = final z (h .disk) size id (h .places) s (d .some) (q .1) (q .0) (d .places) (g .whole) (g .within) in
-      let long = ap (λ (x : Place). length (finalSlots z (h .disk) (h .places) x size)) (s .whose-is) ∙ ap length (f .is) ∙ f .long in
-      let few : size / z ≤ h .disk =
-      le-of-mul-le-mul-right {m = size / z} {n = h .disk} {k = z} (omega (arith, whole-sectors z size (g .whole), g .within)) (d .some) in
+      let q = order-places h (r .order) in
+      let g = order-good h disk (r .order) live (d .staged) .orderly in
+      let s = split id (h .places) (place-twins (h .sector) (h .disk) (h .places) (q .0)) e in
+      let f = final (h .sector) (h .disk) size id (h .places) s (order-some h (r .order)) (q .1) (q .0) (d .places) (g .whole) (g .within) in
+      let long = ap (λ (x : Place). length (finalSlots (h .sector) (h .disk) (h .places) x size)) (s .whose-is) ∙ ap length (f .is) ∙ f .long in
+      let few : size / h .sector ≤ h .disk =
+      le-of-mul-le-mul-right {m = size / h .sector} {n = h .disk} {k = (h .sector)} (omega (arith, whole-sectors (h .sector) size (g .whole), g .within)) (order-some h (r .order)) in
       shaped-replaced id _ (h .places) (final-long _ size _ (omega (arith, long, few, q .1))) (d .places))
       (λ e. subst Shaped (sym (replaced-none id _ (h .places) (none-of id (h .places) e))) (d .places))
 
-  commit-declared : Declared z (commit z disk h stage .host)
+  commit-declared : Declared (commit disk h stage .host)
   unfolding commit parent settingOf withProgram withPlaces noProgram noProgress
-  commit-declared = record { some = r .declared .some; places = shaped-commit; staged = refl }
+  commit-declared = record { places = shaped-commit; staged = refl }
 
-given-declared : (z n : ℕ) (disk : List ℕ) (h : Host) → Declared z h → Declared z (givenUp n disk h .host)
+given-declared : (n : ℕ) (disk : List ℕ) (h : Host) → Declared h → Declared (givenUp n disk h .host)
 unfolding givenUp withProgram noProgram noProgress
-given-declared z n disk h d = record { some = d .some; places = d .places; staged = refl }
+given-declared n disk h d = record { places = d .places; staged = refl }
 
-declared-closes : (z : ℕ) (h : Host) (a : Areas) (g : Agreement) → Ready z h → Declared z (closes z h a g .host)
-declared-closes z h a g r =
-    let up : (n : ℕ) → Declared z (givenUp n (a .disk) h .host) = λ n. given-declared z n (a .disk) h (r .declared) in
-    close-ways z h a g (λ (x : Closed). Declared z (x .host)) (λ n _ _ _. r .declared) (λ _. up 0) (λ _ _ _. up 0) (λ _ _ _. up 14)
-    (λ _ finished _ _. commit-declared z (a .disk) h (a .stage) r (finished .live))
+declared-closes : (h : Host) (a : Areas) (g : Agreement) → Ready h → Declared (closes h a g .host)
+declared-closes h a g r =
+    let up : (n : ℕ) → Declared (givenUp n (a .disk) h .host) = λ n. given-declared n (a .disk) h (r .declared) in
+    close-ways h a g (λ (x : Closed). Declared (x .host)) (λ n _ _ _. r .declared) (λ _. up 0) (λ _ _ _. up 0) (λ _ _ _. up 14)
+    (λ _ finished _ _. commit-declared (a .disk) h (a .stage) r (finished .live))
 
 -- ---- all calls
 
-pub fresh : (z disk stage : ℕ) → 0 < z → freshed z disk stage .number ≡ 0 → Ready z (freshed z disk stage .host)
-fresh z disk stage pos e = record { order = making z disk stage e; declared = declared-fresh z disk stage pos }
+pub fresh : (z disk stage : ℕ) → freshed z disk stage .number ≡ 0 → Ready (freshed z disk stage .host)
+fresh z disk stage e = record { order = making z disk stage e; declared = declared-fresh z disk stage }
 
-pub kept : (z : ℕ) (h : Host) (a : Areas) → Ready z h → Kept z h a
-kept z h a r =
+pub kept : (h : Host) (a : Areas) → Ready h → Kept h a
+kept h a r =
     let d = r .declared in
-    let o = orders z h a d (r .order) in
+    let o = orders h a d (r .order) in
     record {
-      forming = λ id. record { order = o .forming id; declared = declared-formed z h id d };
-      dropping = λ id. record { order = o .dropping id; declared = declared-dropped z h id d };
-      opening = λ p bytes. record { order = o .opening p bytes; declared = same-opens z h p d .0 };
-      piece = λ bytes. record { order = o .piece bytes; declared = declared-gives z h a bytes d };
-      interrupt = record { order = o .interrupt; declared = declared-stops z h a d };
-      closing = λ g. record { order = o .closing g; declared = declared-closes z h a g r };
+      forming = λ id. record { order = o .forming id; declared = declared-formed h id d };
+      dropping = λ id. record { order = o .dropping id; declared = declared-dropped h id d };
+      opening = λ p bytes. record { order = o .opening p bytes; declared = same-opens h p d .0 };
+      piece = λ bytes. record { order = o .piece bytes; declared = declared-gives h a bytes d };
+      interrupt = record { order = o .interrupt; declared = declared-stops h a d };
+      closing = λ g. record { order = o .closing g; declared = declared-closes h a g r };
     }

@@ -24,6 +24,7 @@ use Rattle.sia.specs.Number as SiaNumber
 use Rattle.sia.specs.Encode as SiaEncode
 use Rattle.sia.specs.Decode as SiaDecode
 use Rattle.host.specs.Lists as HostLists
+use Rattle.host.specs.Sizes as HostSizes
 use Rattle.host.specs.Empty as HostEmpty
 use Rattle.host.specs.With as HostWith
 use Rattle.host.specs.Places as HostPlaces
@@ -55,7 +56,7 @@ open-sia = 0
 
 -- opens the definitions of host
 unfoldable open-host : ℕ
-unfolding HostLists.some HostLists.those HostLists.each HostLists.apart HostLists.sum HostLists.count HostEmpty.noPlace HostEmpty.noPrices
+unfolding HostSizes.doubled HostSizes.isSize HostLists.some HostLists.those HostLists.each HostLists.apart HostLists.sum HostLists.count HostEmpty.noPlace HostEmpty.noPrices
     HostEmpty.noTerms HostEmpty.noProgress HostEmpty.noProgram HostEmpty.bare HostEmpty.newPlace HostEmpty.started HostWith.withPlaces
     HostWith.withProgram HostWith.withCame HostWith.withProgress HostWith.withRunning HostWith.withStaged HostPlaces.hasId HostPlaces.whose
     HostPlaces.ownSize HostPlaces.others HostPlaces.committed HostPlaces.taken HostPlaces.freeCopy HostOrder.lent HostOrder.placeInOrder
@@ -107,12 +108,11 @@ below (x ∷ xs) e zero = ltb-true _ _ (both-left _ _ e)
 below (x ∷ xs) e (suc i) = below xs (both-right _ _ e) i
 
 -- the first line of the figures as a visit, on areas of zeros
-pub visit : Visit 4096 host (record { bytes = encode alone; budget = plenty; prices = prices; room = 16384 })
+pub visit : Visit host (record { bytes = encode alone; budget = plenty; prices = prices; room = 16384 })
     (record { disk = zeros 32768; stage = zeros 16384; input = zeros 8; output = zeros 16384 }) (le8 4096)
 unfolding open-area open-sia open-host open-rules
 visit = record {
-  sectors = record { segments = refl; most = omega arith };
-  declared = record { some = omega arith; places = (refl, (refl, (refl, (refl, (refl, (refl, (refl, (refl, tt)))))))); staged = refl };
+  declared = record { places = (refl, (refl, (refl, (refl, (refl, (refl, (refl, (refl, tt)))))))); staged = refl };
   head = below (encode alone) refl;
   opening = refl;
   areas = refl;

@@ -8,17 +8,19 @@ use native.Mathlib.Omega.{arith}
 use lib.ListN.{length, take, getD, length-take, length-append, List·getD-append}
 use lib.Seq.{take-at, getD-take}
 use lib.Dec.{ltb, eqb}
-use borrow.Author.Tests.{leb-true, le-leb, eq-eqb}
+use borrow.Author.Tests.{le-leb, eq-eqb}
 use Rattle.area.specs.Area.{same, zeros}
 use Rattle.area.proofs.Laws.Pick.{by, picks, skips, both-left, both-right, both-join}
 use Rattle.area.proofs.Laws.Same.{same-eq}
+use Rattle.area.proofs.Laws.Slots as Slots
 use Rattle.sia.specs.Encode.{every}
 use Rattle.host.specs.Lists.{apart, count, unused}
 use Rattle.host.specs.Empty.{noProgram}
 use Rattle.host.specs.With.{withPlaces, withProgram, withSize, withSlots}
 use Rattle.host.specs.Places.{whose, others, committed, taken}
-use Rattle.host.specs.Order.{lent, placeInOrder, twins, placesInOrder, inOrder}
+use Rattle.host.specs.Order.{placeInOrder, twins, placesInOrder, inOrder}
 use Rattle.host.specs.Calls.{replaced}
+use Rattle.host.proofs.Laws.Order.{facts-contracts, order-facts}
 use Rattle.rules.specs.View.{settingOf, parent}
 use Rattle.rules.specs.Commit.{cut, newSlots, finalSlots, finalPlace, commit}
 use Rattle.rules.specs.Visit.{Shaped, Declared}
@@ -199,21 +201,25 @@ module _ (z disk size : ℕ) (id : List ℕ) (ps : List Place) (s : Split id ps)
 
 -- ---- committing
 
-commit-places : (z : ℕ) (disk : List ℕ) (h : Host) (stage : List ℕ) → let old = whose (h .program .terms .head .contract) (h .places) in
-    commit z disk h stage .host
-    ≡ withProgram (withPlaces h (replaced (h .program .terms .head .contract) (finalPlace old (h .program .progress .size) (finalSlots z (h .disk) (h .places) old (h .program .progress .size))) (h .places))) noProgram
+commit-places : (disk : List ℕ) (h : Host) (stage : List ℕ) → let old = whose (h .program .terms .head .contract) (h .places) in
+    commit disk h stage .host
+    ≡ withProgram (withPlaces h (replaced (h .program .terms .head .contract) (finalPlace old (h .program .progress .size) (finalSlots (h .sector) (h .disk) (h .places) old (h .program .progress .size))) (h .places))) noProgram
 unfolding commit parent settingOf
-commit-places z disk h stage = refl
+commit-places disk h stage = refl
 
-idle-order : (z : ℕ) (h : Host) (ps : List Place) → inOrder z h ≡ true → placesInOrder z (h .disk) ps ≡ true → inOrder z (withProgram (withPlaces h ps) noProgram) ≡ true
+idle-order : (h : Host) (ps : List Place) → inOrder h ≡ true → placesInOrder (h .sector) (h .disk) ps ≡ true → inOrder (withProgram (withPlaces h ps) noProgram) ≡ true
 unfolding inOrder withProgram withPlaces noProgram
-idle-order z h ps o q =
+idle-order h ps o q =
     let b = both-right _ _ o in
-    both-join _ _ (both-left _ _ o) (both-join _ _ (both-left _ _ b) (both-join _ _ q (picks (not false) true _ refl)))
+    let c = both-right _ _ b in
+    both-join _ _ (both-left _ _ o) (both-join _ _ (both-left _ _ b) (both-join _ _ (both-left _ _ c) (both-join _ _ q (picks (not false) true _ refl))))
 
-pub order-places : (z : ℕ) (h : Host) → inOrder z h ≡ true → (placesInOrder z (h .disk) (h .places) ≡ true) × (h .disk ≤ 64)
-unfolding inOrder lent
-order-places z h o = (both-left _ _ (both-right _ _ (both-right _ _ o)), leb-true _ _ (both-right _ _ (both-left _ _ o)))
+pub order-places : (h : Host) → inOrder h ≡ true → (placesInOrder (h .sector) (h .disk) (h .places) ≡ true) × (h .disk ≤ 64)
+order-places h o = let f = order-facts h o in (facts-contracts _ _ _ (f .contracts), f .diskMost)
+
+-- there are bytes in a sector
+pub order-some : (h : Host) → inOrder h ≡ true → 0 < h .sector
+order-some h o = Slots.some (h .sector) (order-facts h o .size)
 
 pub place-twins : (z disk : ℕ) (ps : List Place) → placesInOrder z disk ps ≡ true → apart twins ps ≡ true
 unfolding placesInOrder
@@ -224,18 +230,18 @@ pub final-place : (z disk size : ℕ) (id : List ℕ) (ps : List Place) (it : Pl
 final-place z disk size id ps it l e f =
     ap (λ (x : Place). finalPlace x size (finalSlots z disk ps x size)) e ∙ ap (λ (m : List ℕ). finalPlace it size m) f
 
-pub commit-order : (z : ℕ) (disk : List ℕ) (h : Host) (stage : List ℕ) → Declared z h → inOrder z h ≡ true → h .program .active ≡ true → inOrder z (commit z disk h stage .host) ≡ true
+pub commit-order : (disk : List ℕ) (h : Host) (stage : List ℕ) → Declared h → inOrder h ≡ true → h .program .active ≡ true → inOrder (commit disk h stage .host) ≡ true
 unfolding settingOf place old
-commit-order z disk h stage sound o live =
+commit-order disk h stage sound o live =
     let id = h .program .terms .head .contract in
     let size = h .program .progress .size in
-    let q = order-places z h o in
-    let g = order-good z h disk o live (sound .staged) .orderly in
-    ap (inOrder z) (commit-places z disk h stage)
-    ∙ idle-order z h _ o
+    let q = order-places h o in
+    let g = order-good h disk o live (sound .staged) .orderly in
+    ap inOrder (commit-places disk h stage)
+    ∙ idle-order h _ o
     (by (whose id (h .places) .held)
-    (λ e. let s = split id (h .places) (place-twins z (h .disk) (h .places) (q .0)) e in
-    ap (λ (x : Place). placesInOrder z (h .disk) (replaced id x (h .places)))
-    (final-place z (h .disk) size id (h .places) (s .it) _ (s .whose-is) (final-is z (h .disk) size id (h .places) s (sound .some) (q .1) (q .0) (sound .places) (g .whole) (g .within)))
-    ∙ committed-order z (h .disk) size id (h .places) s (sound .some) (q .1) (q .0) (sound .places) (g .whole) (g .within))
-    (λ e. ap (placesInOrder z (h .disk)) (replaced-none id _ (h .places) (none-of id (h .places) e)) ∙ q .0))
+    (λ e. let s = split id (h .places) (place-twins (h .sector) (h .disk) (h .places) (q .0)) e in
+    ap (λ (x : Place). placesInOrder (h .sector) (h .disk) (replaced id x (h .places)))
+    (final-place (h .sector) (h .disk) size id (h .places) (s .it) _ (s .whose-is) (final-is (h .sector) (h .disk) size id (h .places) s (order-some h o) (q .1) (q .0) (sound .places) (g .whole) (g .within)))
+    ∙ committed-order (h .sector) (h .disk) size id (h .places) s (order-some h o) (q .1) (q .0) (sound .places) (g .whole) (g .within))
+    (λ e. ap (placesInOrder (h .sector) (h .disk)) (replaced-none id _ (h .places) (none-of id (h .places) e)) ∙ q .0))

@@ -21,6 +21,7 @@ use Rattle.rules.proofs.Commits.{agreements}
 use Rattle.rules.proofs.Visits.{cut, ran, alike, closing-visits}
 use Rattle.rules.proofs.Padded.{short-ids}
 use Rattle.rules.proofs.Unchanged.{nothing-to-agree}
+use Rattle.rules.proofs.Sectors.{full-sectors}
 use Rattle.rules.specs.declared.Spot.{Spot}
 
 -- the sector that a root finds has that root
@@ -60,4 +61,5 @@ demands = record {
   three = record { cut = cut; alike = alike };
   ids = short-ids;
   unchanged = nothing-to-agree;
+  sectors = full-sectors;
 }

@@ -16,12 +16,14 @@ use Rattle.area.proofs.Laws.Same.{same-eq, same-refl}
 use Rattle.sia.specs.Names.{readOnly}
 use Rattle.sia.specs.Encode.{joined, every}
 use Rattle.host.specs.Lists.{some, apart}
+use Rattle.host.specs.Sizes.{isSize}
 use Rattle.host.specs.Empty.{noPlace, noProgram, newPlace, bare}
 use Rattle.host.specs.With.{withPlaces}
 use Rattle.host.specs.Places.{hasId, whose, committed, taken}
 use Rattle.host.specs.Order.{lent, placeInOrder, twins, placesInOrder, inOrder}
 use Rattle.host.specs.Calls.{lengthRight, freshed, padded, formedAt, formed, replaced, dropped}
 use Rattle.host.proofs.Laws.Order.{contracts-facts, facts-contracts}
+use Rattle.host.proofs.Theorems.{no-slots-refused}
 use Rattle.rules.proofs.Laws.Pigeons.{tail-apart}
 use Rattle.rules.proofs.Laws.Slots.{every-and, every-fore, every-aft, some-and, some-fore, some-aft, join-apart, apart-out}
 use Rattle.rules.proofs.Laws.Split.{split, every-rest, every-cons, replaced-split, taken-split, none-of}
@@ -148,15 +150,17 @@ free id (p ∷ ps) h =
 -- ---- the calls
 
 -- a host in order without a program, with other places in order
-idle : (z : ℕ) (h : Host) (ps : List Place) → inOrder z h ≡ true → h .program .active ≡ false → placesInOrder z (h .disk) ps ≡ true → inOrder z (withPlaces h ps) ≡ true
+idle : (h : Host) (ps : List Place) → inOrder h ≡ true → h .program .active ≡ false → placesInOrder (h .sector) (h .disk) ps ≡ true → inOrder (withPlaces h ps) ≡ true
 unfolding inOrder withPlaces
-idle z h ps o a q =
+idle h ps o a q =
     let b = both-right _ _ o in
-    both-join _ _ (both-left _ _ o) (both-join _ _ (both-left _ _ b) (both-join _ _ q (picks (not (h .program .active)) true _ (ap not a))))
+    let c = both-right _ _ b in
+    both-join _ _ (both-left _ _ o) (both-join _ _ (both-left _ _ b) (both-join _ _ (both-left _ _ c)
+    (both-join _ _ q (picks (not (h .program .active)) true _ (ap not a)))))
 
-in-places : (z : ℕ) (h : Host) → inOrder z h ≡ true → placesInOrder z (h .disk) (h .places) ≡ true
+in-places : (h : Host) → inOrder h ≡ true → placesInOrder (h .sector) (h .disk) (h .places) ≡ true
 unfolding inOrder
-in-places z h o = both-left _ _ (both-right _ _ (both-right _ _ o))
+in-places h o = both-left _ _ (both-right _ _ (both-right _ _ (both-right _ _ o)))
 
 formed-places : (z disk : ℕ) (id : List ℕ) (ps : List Place) → same id readOnly ≡ false → whose id ps .held ≡ false → some (λ p. not (p .held)) ps ≡ true
     → placesInOrder z disk ps ≡ true → placesInOrder z disk (formedAt id ps) ≡ true
@@ -179,28 +183,28 @@ dropped-places z disk id ps there o =
     ap (placesInOrder z disk) (replaced-split id noPlace ps s)
     ∙ stand z disk (s .before) (s .it) noPlace (s .behind) (none-stands z (s .before) (s .behind)) (ap (placesInOrder z disk) (sym (s .is)) ∙ o)
 
-abbrev Fine : ℕ → Answer → Type 0
-Fine z r = inOrder z (r .host) ≡ true
+abbrev Fine : Answer → Type 0
+Fine r = inOrder (r .host) ≡ true
 
-pub forming : (z : ℕ) (h : Host) (id : List ℕ) → inOrder z h ≡ true → Fine z (formed z h id)
+pub forming : (h : Host) (id : List ℕ) → inOrder h ≡ true → Fine (formed h id)
 unfolding formed
-forming z h id o =
-    either-way (Fine z) (not (inOrder z h)) _ _ (λ e. o) (λ e.
-    either-way (Fine z) (h .program .active) _ _ (λ e. o) (λ idling.
-    either-way (Fine z) (same id readOnly) _ _ (λ e. o) (λ word.
-    either-way (Fine z) (padded id) _ _ (λ e. o) (λ e.
-    either-way (Fine z) (whose id (h .places) .held) _ _ (λ e. o) (λ absent.
-    either-way (Fine z) (not (some (λ p. not (p .held)) (h .places))) _ _ (λ e. o) (λ room.
-    idle z h _ o idling (formed-places z (h .disk) id (h .places) word absent (not-false _ room) (in-places z h o))))))))
+forming h id o =
+    either-way Fine (not (inOrder h)) _ _ (λ e. o) (λ e.
+    either-way Fine (h .program .active) _ _ (λ e. o) (λ idling.
+    either-way Fine (same id readOnly) _ _ (λ e. o) (λ word.
+    either-way Fine (padded id) _ _ (λ e. o) (λ e.
+    either-way Fine (whose id (h .places) .held) _ _ (λ e. o) (λ absent.
+    either-way Fine (not (some (λ p. not (p .held)) (h .places))) _ _ (λ e. o) (λ room.
+    idle h _ o idling (formed-places (h .sector) (h .disk) id (h .places) word absent (not-false _ room) (in-places h o))))))))
 
-pub dropping : (z : ℕ) (h : Host) (id : List ℕ) → inOrder z h ≡ true → Fine z (dropped z h id)
+pub dropping : (h : Host) (id : List ℕ) → inOrder h ≡ true → Fine (dropped h id)
 unfolding dropped
-dropping z h id o =
-    either-way (Fine z) (not (inOrder z h)) _ _ (λ e. o) (λ e.
-    either-way (Fine z) (h .program .active) _ _ (λ e. o) (λ idling.
-    either-way (Fine z) (same id readOnly) _ _ (λ e. o) (λ word.
-    either-way (Fine z) (not (whose id (h .places) .held)) _ _ (λ e. o) (λ there.
-    idle z h _ o idling (dropped-places z (h .disk) id (h .places) (not-false _ there) (in-places z h o))))))
+dropping h id o =
+    either-way Fine (not (inOrder h)) _ _ (λ e. o) (λ e.
+    either-way Fine (h .program .active) _ _ (λ e. o) (λ idling.
+    either-way Fine (same id readOnly) _ _ (λ e. o) (λ word.
+    either-way Fine (not (whose id (h .places) .held)) _ _ (λ e. o) (λ there.
+    idle h _ o idling (dropped-places (h .sector) (h .disk) id (h .places) (not-false _ there) (in-places h o))))))
 
 -- ---- making
 
@@ -208,30 +212,28 @@ none-places : (z disk : ℕ) → placesInOrder z disk (replicate 8 noPlace) ≡ 
 unfolding placesInOrder placeInOrder every apart some twins taken joined committed noPlace pick
 none-places z disk = refl
 
-bare-order : (z disk stage : ℕ) → lent 64 disk ≡ true → lent 16 stage ≡ true → inOrder z (bare disk stage) ≡ true
+bare-order : (z disk stage : ℕ) → isSize z ≡ true → lent 64 disk ≡ true → lent 16 stage ≡ true → inOrder (bare z disk stage) ≡ true
 unfolding inOrder bare noProgram
-bare-order z disk stage d s = both-join _ _ d (both-join _ _ s (both-join _ _ (none-places z disk) (picks (not false) true _ refl)))
+bare-order z disk stage e d s =
+    both-join _ _ e (both-join _ _ d (both-join _ _ s (both-join _ _ (none-places z disk) (picks (not false) true _ refl))))
 
--- no slots: not in order
-bare-not : (z : ℕ) → inOrder z (bare 0 0) ≡ false
-unfolding inOrder bare lent pick
-bare-not z = refl
+abbrev Made : Answer → Type 0
+Made r = r .number ≡ 0 → Fine r
 
-abbrev Made : ℕ → Answer → Type 0
-Made z r = r .number ≡ 0 → Fine z r
+abbrev Unmade : Answer → Type 0
+Unmade r = (r .number ≡ 0 → ⊥) → (r .number ≡ 2) × (inOrder (r .host) ≡ false)
 
-abbrev Unmade : ℕ → Answer → Type 0
-Unmade z r = (r .number ≡ 0 → ⊥) → (r .number ≡ 2) × (inOrder z (r .host) ≡ false)
-
-pub making : (z disk stage : ℕ) → freshed z disk stage .number ≡ 0 → Fine z (freshed z disk stage)
+pub making : (z disk stage : ℕ) → freshed z disk stage .number ≡ 0 → Fine (freshed z disk stage)
 unfolding freshed lengthRight
 making z disk stage =
-    either-way (Made z) (not (lengthRight z 64 disk)) _ _ (λ e n. absurd (omega arith)) (λ d.
-    either-way (Made z) (not (lengthRight z 16 stage)) _ _ (λ e n. absurd (omega arith)) (λ s n.
-    bare-order z (disk / z) (stage / z) (both-right _ _ (not-false _ d)) (both-right _ _ (not-false _ s))))
+    either-way Made (not (isSize z)) _ _ (λ _ n. absurd (omega arith)) (λ e.
+    either-way Made (not (lengthRight z 64 disk)) _ _ (λ _ n. absurd (omega arith)) (λ d.
+    either-way Made (not (lengthRight z 16 stage)) _ _ (λ _ n. absurd (omega arith)) (λ s n.
+    bare-order z (disk / z) (stage / z) (not-false _ e) (both-right _ _ (not-false _ d)) (both-right _ _ (not-false _ s)))))
 
-pub unmade : (z disk stage : ℕ) → (freshed z disk stage .number ≡ 0 → ⊥) → (freshed z disk stage .number ≡ 2) × (inOrder z (freshed z disk stage .host) ≡ false)
+pub unmade : (z disk stage : ℕ) → (freshed z disk stage .number ≡ 0 → ⊥) → (freshed z disk stage .number ≡ 2) × (inOrder (freshed z disk stage .host) ≡ false)
 unfolding freshed
 unmade z disk stage =
-    either-way (Unmade z) (not (lengthRight z 64 disk)) _ _ (λ e n. (refl, bare-not z)) (λ d.
-    either-way (Unmade z) (not (lengthRight z 16 stage)) _ _ (λ e n. (refl, bare-not z)) (λ s n. absurd (n refl)))
+    either-way Unmade (not (isSize z)) _ _ (λ _ _. (refl, no-slots-refused)) (λ _.
+    either-way Unmade (not (lengthRight z 64 disk)) _ _ (λ _ _. (refl, no-slots-refused)) (λ _.
+    either-way Unmade (not (lengthRight z 16 stage)) _ _ (λ _ _. (refl, no-slots-refused)) (λ _ n. absurd (n refl))))

@@ -11,6 +11,7 @@ pub mod Opening
 pub mod Committing
 pub mod Nothing
 pub mod Unchanged
+pub mod Sectors
 pub mod Commits
 pub mod Showing
 pub mod Arrays

@@ -29,22 +29,22 @@ shut : (h : Host) → Shut (withProgram h noProgram)
 unfolding withProgram noProgram stageTaken pick
 shut h = record { program = refl; active = refl; slots = refl }
 
-module _ (z : ℕ) (h : Host) (a : Areas) where
-  opening : (o : Opening) → opens z h o .host .places ≡ h .places
+module _ (h : Host) (a : Areas) where
+  opening : (o : Opening) → opens h o .host .places ≡ h .places
   unfolding opened openedHead withProgram
   opening o =
       let way = either-way (λ (r : Answer). r .host .places ≡ h .places) in
       way _ _ _ (λ _. refl) (λ _. way _ _ _ (λ _. refl) (λ _. way _ _ _ (λ _. refl) (λ _.
       way _ _ _ (λ _. refl) (λ _. way _ _ _ (λ _. refl) (λ _. way _ _ _ (λ _. refl) (λ _. refl))))))
 
-  pieces : (bytes : List ℕ) → gives z h a bytes .host .places ≡ h .places
+  pieces : (bytes : List ℕ) → gives h a bytes .host .places ≡ h .places
   unfolding piece accepted withRun withProgram
   pieces bytes =
       let way = either-way (λ (r : Pieced). r .host .places ≡ h .places) in
       way _ _ _ (λ _. refl) (λ _. way _ _ _ (λ _. refl) (λ _. way _ _ _ (λ _. refl) (λ _. way _ _ _ (λ _. refl) (λ _.
       way _ _ _ (λ _. refl) (λ _. refl)))))
 
-  interrupts : stops z h a .host .places ≡ h .places
+  interrupts : stops h a .host .places ≡ h .places
   unfolding interrupt stopped withRun withProgram
   interrupts =
       let way = either-way (λ (r : Interrupted). r .host .places ≡ h .places) in
@@ -60,10 +60,10 @@ module _ (z : ℕ) (h : Host) (a : Areas) where
   module _ (g : Agreement) (K : Closed → Type 0)
       (refusal : (n : ℕ) → 0 < n → n < 14 → (n ≡ 13 → unfinished (h .program) ≡ true) → K (closed n 0 (pos 0) h (a .disk)))
       (up : g .agree ≡ false → K (givenUp 0 (a .disk) h))
-      (same : g .agree ≡ true → Finished z h a → Unchanged z h a → K (givenUp 0 (a .disk) h))
-      (wrong : g .agree ≡ true → Finished z h a → (Unchanged z h a → ⊥) → K (givenUp 14 (a .disk) h))
-      (done : g .agree ≡ true → Finished z h a → (Unchanged z h a → ⊥) → named g ≡ running z h a → K (commit z (a .disk) h (a .stage))) where
-    pub close-ways : K (closes z h a g)
+      (same : g .agree ≡ true → Finished h a → Unchanged h a → K (givenUp 0 (a .disk) h))
+      (wrong : g .agree ≡ true → Finished h a → (Unchanged h a → ⊥) → K (givenUp 14 (a .disk) h))
+      (done : g .agree ≡ true → Finished h a → (Unchanged h a → ⊥) → named g ≡ running h a → K (commit (a .disk) h (a .stage))) where
+    pub close-ways : K (closes h a g)
     unfolding close agreed unfinished
     close-ways =
         either-way K _ _ _ (λ _. refusal 1 (omega arith) (omega arith) (λ n. absurd (omega arith))) (λ order.
@@ -72,7 +72,7 @@ module _ (z : ℕ) (h : Host) (a : Areas) where
         either-way K _ _ _ (λ e. up (not-true _ e)) (λ e.
         either-way K _ _ _ (λ t. refusal 13 (omega arith) (omega arith) (λ _. t)) (λ ended.
         let agrees = not-false _ e in
-        let finished : Finished z h a = record {
+        let finished : Finished h a = record {
           order = not-false _ order;
           areas = not-false _ areas;
           live = not-false _ live;
@@ -85,13 +85,13 @@ module _ (z : ℕ) (h : Host) (a : Areas) where
 
   module _ (g : Agreement) where
     -- what is committed, is committed by a close that goes all the way down
-    untouched-but : (g .agree ≡ true → Finished z h a → (Unchanged z h a → ⊥) → Untouched a h (commit z (a .disk) h (a .stage)))
-        → Untouched a h (closes z h a g)
+    untouched-but : (g .agree ≡ true → Finished h a → (Unchanged h a → ⊥) → Untouched a h (commit (a .disk) h (a .stage)))
+        → Untouched a h (closes h a g)
     untouched-but done =
         close-ways g (Untouched a h) (λ n _ _ _. record { bytes = refl; places = refl }) (λ _. given-up 0 .untouched)
         (λ _ _ _. given-up 0 .untouched) (λ _ _ _. given-up 14 .untouched) (λ agrees finished changed _. done agrees finished changed)
 
-    uncommitted : (closes z h a g .number ≡ 0 → g .agree ≡ true → ⊥) → Untouched a h (closes z h a g)
+    uncommitted : (closes h a g .number ≡ 0 → g .agree ≡ true → ⊥) → Untouched a h (closes h a g)
     unfolding commit
     uncommitted =
         close-ways g (λ r. (r .number ≡ 0 → g .agree ≡ true → ⊥) → Untouched a h r) (λ n _ _ _ _. record { bytes = refl; places = refl })
@@ -99,42 +99,42 @@ module _ (z : ℕ) (h : Host) (a : Areas) where
         (λ agrees _ _ _ not. absurd (not refl agrees))
 
     -- 13: "agreement to a program not ended, or failed"
-    failed : h .program .progress .failed ≡ true → Untouched a h (closes z h a g)
+    failed : h .program .progress .failed ≡ true → Untouched a h (closes h a g)
     failed f = untouched-but (λ _ finished _. never (sym f ∙ finished .good))
 
-    unended : going (h .program .terms) (h .program .progress) ≡ true → Untouched a h (closes z h a g)
+    unended : going (h .program .terms) (h .program .progress) ≡ true → Untouched a h (closes h a g)
     unended e = untouched-but (λ _ finished _. never (sym e ∙ finished .ended))
 
     -- a program whose running pair is its starting pair
-    pub unchanged : Unchanged z h a → Untouched a h (closes z h a g)
+    pub unchanged : Unchanged h a → Untouched a h (closes h a g)
     unchanged u = untouched-but (λ _ _ changed. absurd (changed u))
 
-    done : closes z h a g .number ≡ 0 → Shut (closes z h a g .host)
+    done : closes h a g .number ≡ 0 → Shut (closes h a g .host)
     unfolding givenUp commit
     done =
         close-ways g (λ r. r .number ≡ 0 → Shut (r .host)) (λ n lo _ _ e. absurd (omega arith)) (λ _ _. shut h) (λ _ _ _ _. shut h)
         (λ _ _ _ _. shut h) (λ _ _ _ _ _. shut _)
 
-    dropped : closes z h a g .number ≡ 14 → Shut (closes z h a g .host)
+    dropped : closes h a g .number ≡ 14 → Shut (closes h a g .host)
     unfolding givenUp commit
     dropped =
         close-ways g (λ r. r .number ≡ 14 → Shut (r .host)) (λ n _ hi _ e. absurd (omega arith)) (λ _ _. shut h) (λ _ _ _ _. shut h)
         (λ _ _ _ _. shut h) (λ _ _ _ _ _. shut _)
 
-    gives-up : inOrder z h ≡ true → areasRight z h (a .disk) (a .stage) ≡ true → h .program .active ≡ true → g .agree ≡ false
-        → closes z h a g ≡ givenUp 0 (a .disk) h
+    gives-up : inOrder h ≡ true → areasRight h (a .disk) (a .stage) ≡ true → h .program .active ≡ true → g .agree ≡ false
+        → closes h a g ≡ givenUp 0 (a .disk) h
     unfolding close
     gives-up order areas live against =
-        skips (not (inOrder z h)) _ _ (ap not order) ∙ skips (not (areasRight z h (a .disk) (a .stage))) _ _ (ap not areas)
+        skips (not (inOrder h)) _ _ (ap not order) ∙ skips (not (areasRight h (a .disk) (a .stage))) _ _ (ap not areas)
         ∙ skips (not (h .program .active)) _ _ (ap not live) ∙ picks (not (g .agree)) _ _ (ap not against)
 
-    wrong : closes z h a g .number ≡ 14 → closes z h a g ≡ givenUp 14 (a .disk) h
+    wrong : closes h a g .number ≡ 14 → closes h a g ≡ givenUp 14 (a .disk) h
     unfolding givenUp commit
     wrong =
         close-ways g (λ r. r .number ≡ 14 → r ≡ givenUp 14 (a .disk) h) (λ n _ hi _ e. absurd (omega arith))
         (λ _ e. absurd (omega arith)) (λ _ _ _ e. absurd (omega arith)) (λ _ _ _ _. refl) (λ _ _ _ _ e. absurd (omega arith))
 
-  pub nothing : Nothing z h a
+  pub nothing : Nothing h a
   nothing = record {
     opening = opening;
     piece = pieces;
@@ -144,5 +144,5 @@ module _ (z : ℕ) (h : Host) (a : Areas) where
     unended = unended;
   }
 
-  pub closing : (g : Agreement) → Closing z h a g
+  pub closing : (g : Agreement) → Closing h a g
   closing g = record { done = done g; dropped = dropped g; up = gives-up g; wrong = wrong g }

@@ -33,10 +33,10 @@ fault-passes fault h r e =
     (λ u. absurd (eqb-false fault 0 u (ap (λ (x : Answer). x .number) (sym (picks (not (eqb fault 0)) (answered fault 0 h) r (ap not u))) ∙ e)))
 
 -- what an opening that is answered with 0 answers
-pub opens : (z : ℕ) (h : Host) (fault : ℕ) (hd : Head) (budget : ℕ) (p : Prices) (room : ℕ) → openedHead z h fault hd budget p room .number ≡ 0
-    → (inOrder z h ≡ true) × (openedHead z h fault hd budget p room ≡ answered 0 (p .init) (withProgram h (begun h hd budget p room))) × (p .init ≤ budget)
+pub opens : (h : Host) (fault : ℕ) (hd : Head) (budget : ℕ) (p : Prices) (room : ℕ) → openedHead h fault hd budget p room .number ≡ 0
+    → (inOrder h ≡ true) × (openedHead h fault hd budget p room ≡ answered 0 (p .init) (withProgram h (begun h hd budget p room))) × (p .init ≤ budget)
 unfolding openedHead
-opens z h fault hd budget p room a =
+opens h fault hd budget p room a =
     let c1 = passes (λ r. r .number) _ (answered 1 0 h) _ (λ n. absurd (omega arith)) a in
     let c2 = passes (λ r. r .number) _ (answered 2 0 h) _ (λ n. absurd (omega arith)) (c1 .1) in
     let c3 = passes (λ r. r .number) _ (answered 3 0 h) _ (λ n. absurd (omega arith)) (c2 .1) in
@@ -46,44 +46,44 @@ opens z h fault hd budget p room a =
     (not-false _ (c1 .0), c1 .2 ∙ c2 .2 ∙ c3 .2 ∙ c9 .1 ∙ c7 .2 ∙ c11 .2, ltb-false budget (p .init) (c11 .0))
 
 -- a program as it is opened: with areas as stated its host takes pieces, and nothing has come, was written or ran
-pub record Opened (z : ℕ) (h : Host) (a : Areas) : Type 0 where
-  pub takes : Taking z (a .disk) (lentTo h a)
+pub record Opened (h : Host) (a : Areas) : Type 0 where
+  pub takes : Taking (a .disk) (lentTo h a)
   pub came : h .program .came ≡ 0
   pub written : h .program .progress .written ≡ 0
   pub ran : h .program .progress .ran ≡ 0
   pub failed : h .program .progress .failed ≡ false
 
-begun-opened : (z : ℕ) (h : Host) (hd : Head) (o : Opening) (a : Areas) → Declared z h
-    → inOrder z (withProgram h (begun h hd (o .budget) (o .prices) (o .room))) ≡ true → areasRight z h (a .disk) (a .stage) ≡ true
+begun-opened : (h : Host) (hd : Head) (o : Opening) (a : Areas) → Declared h
+    → inOrder (withProgram h (begun h hd (o .budget) (o .prices) (o .room))) ≡ true → areasRight h (a .disk) (a .stage) ≡ true
     → length (a .input) ≡ hd .length → length (a .output) ≡ o .room
-    → Opened z (withProgram h (begun h hd (o .budget) (o .prices) (o .room))) a
+    → Opened (withProgram h (begun h hd (o .budget) (o .prices) (o .room))) a
 unfolding withProgram begun started areasRight diskRight
-begun-opened z h hd o a declared order areas input output = record {
-  takes = record { some = declared .some; order = order; areas = areas; live = refl; input = input; output = output; entries = refl };
+begun-opened h hd o a declared order areas input output = record {
+  takes = record { order = order; areas = areas; live = refl; input = input; output = output; entries = refl };
   came = refl;
   written = refl;
   ran = refl;
   failed = refl;
 }
 
-pub opening-takes : (z : ℕ) (h : Host) (o : Opening) (a : Areas) (all : List ℕ) → Visit z h o a all
-    → Opened z (opened z h (o .bytes) (o .budget) (o .prices) (o .room) .host) a
+pub opening-takes : (h : Host) (o : Opening) (a : Areas) (all : List ℕ) → Visit h o a all
+    → Opened (opened h (o .bytes) (o .budget) (o .prices) (o .room) .host) a
 unfolding opened
-opening-takes z h o a all v =
-    let q = opens z h (decode (o .bytes) .number) (decode (o .bytes) .head) (o .budget) (o .prices) (o .room) (v .opening) in
-    let order = opening z h (o .bytes) (o .budget) (o .prices) (o .room) (v .declared) (v .head) (q .0) in
-    subst (λ (x : Answer). Opened z (x .host) a) (sym (q .1))
-    (begun-opened z h (decode (o .bytes) .head) o a (v .declared)
-    (subst (λ (x : Answer). inOrder z (x .host) ≡ true) (q .1) order) (v .areas) (v .input) (v .output))
+opening-takes h o a all v =
+    let q = opens h (decode (o .bytes) .number) (decode (o .bytes) .head) (o .budget) (o .prices) (o .room) (v .opening) in
+    let order = opening h (o .bytes) (o .budget) (o .prices) (o .room) (v .declared) (v .head) (q .0) in
+    subst (λ (x : Answer). Opened (x .host) a) (sym (q .1))
+    (begun-opened h (decode (o .bytes) .head) o a (v .declared)
+    (subst (λ (x : Answer). inOrder (x .host) ≡ true) (q .1) order) (v .areas) (v .input) (v .output))
 
 -- what the opened program has of the opening
-pub opening-begins : (z : ℕ) (h : Host) (o : Opening) → opened z h (o .bytes) (o .budget) (o .prices) (o .room) .number ≡ 0
-    → let g = opened z h (o .bytes) (o .budget) (o .prices) (o .room) .host in
+pub opening-begins : (h : Host) (o : Opening) → opened h (o .bytes) (o .budget) (o .prices) (o .room) .number ≡ 0
+    → let g = opened h (o .bytes) (o .budget) (o .prices) (o .room) .host in
     (g .program .progress .tally ≡ o .prices .init) × (g .program .terms .budget ≡ o .budget) × (o .prices .init ≤ o .budget)
     × (g .program .terms .head .length ≡ decode (o .bytes) .head .length)
 unfolding opened withProgram begun started
-opening-begins z h o n =
-    let q = opens z h (decode (o .bytes) .number) (decode (o .bytes) .head) (o .budget) (o .prices) (o .room) n in (
+opening-begins h o n =
+    let q = opens h (decode (o .bytes) .number) (decode (o .bytes) .head) (o .budget) (o .prices) (o .room) n in (
       ap (λ (r : Answer). r .host .program .progress .tally) (q .1),
       ap (λ (r : Answer). r .host .program .terms .budget) (q .1),
       q .2,

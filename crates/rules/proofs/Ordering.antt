@@ -21,9 +21,10 @@ use Rattle.host.specs.Lists.{some, apart}
 use Rattle.host.specs.Empty.{none, noProgram, started}
 use Rattle.host.specs.With.{withProgram}
 use Rattle.host.specs.Places.{whose, taken}
-use Rattle.host.specs.Order.{slotInOrder, clash, parentInOrder, termsInOrder, progressInOrder, programInOrder, placesInOrder, inOrder}
+use Rattle.host.specs.Order.{slotInOrder, clash, parentInOrder, termsInOrder, progressInOrder, programInOrder, inOrder}
 use Rattle.host.specs.Facts.{Staged}
 use Rattle.host.specs.Calls.{formed, dropped}
+use Rattle.host.proofs.Laws.Order.{order-facts}
 use Rattle.rules.specs.View.{settingOf, turnOf}
 use Rattle.rules.specs.Run.{failing, going, run}
 use Rattle.rules.specs.Calls.{roomRight, begun, openedHead, opened, Pieced, accepted, piece, Interrupted, stopped, interrupt, reached}
@@ -63,136 +64,135 @@ fresh-staged stage start =
 parent-held : (b c : Bool) → b ≡ false → both (not b) (not c) ≡ false → c ≡ true
 parent-held b c e f = not-false c (sym (picks (not b) (not c) false (ap not e)) ∙ f)
 
-begun-good : (z : ℕ) (h : Host) (hd : Head) (budget : ℕ) (p : Prices) (room : ℕ) → Declared z h → inOrder z h ≡ true → within hd ≡ true → roomRight room ≡ true
+begun-good : (h : Host) (hd : Head) (budget : ℕ) (p : Prices) (room : ℕ) → Declared h → inOrder h ≡ true → within hd ≡ true → roomRight room ≡ true
     → both (not (same (hd .contract) readOnly)) (not (whose (hd .contract) (h .places) .held)) ≡ false → p .init ≤ budget
-    → programInOrder z (h .disk) (h .stage) (h .places) (begun h hd budget p room) ≡ true
-unfolding programInOrder termsInOrder parentInOrder roomRight begun started inOrder placesInOrder progressInOrder
-begun-good z h hd budget p room sound o hh right held paid =
+    → programInOrder (h .sector) (h .disk) (h .stage) (h .places) (begun h hd budget p room) ≡ true
+unfolding programInOrder termsInOrder parentInOrder roomRight begun started progressInOrder
+begun-good h hd budget p room sound o hh right held paid =
     let id = hd .contract in
-    let b = both-right _ _ o in
-    let ps = both-left _ _ (both-right _ _ b) in
-    let each-place = both-left _ _ ps in
-    let slots = both-right _ _ (both-right _ _ ps) in
-    let few = pigeons (h .disk) (taken z (h .places)) (both-left _ _ slots) (both-right _ _ slots) in
-    let fits = sizes z id (h .places) each-place (sound .places) in
+    let ps = order-facts h o .contracts in
+    let each-place = ps .each in
+    let few = pigeons (h .disk) (taken (h .sector) (h .places)) (ps .own) (ps .below) in
+    let fits = sizes (h .sector) id (h .places) each-place (sound .places) in
     both-join _ _
     (both-join _ _
     (by (same id readOnly)
-    (λ e. picks (same id readOnly) _ _ e ∙ eq-eqb _ 0 (read-only-size z id (h .places) each-place e))
+    (λ e. picks (same id readOnly) _ _ e ∙ eq-eqb _ 0 (read-only-size (h .sector) id (h .places) each-place e))
     (λ e. skips (same id readOnly) _ _ e ∙ parent-held (same id readOnly) _ e held))
     (both-join _ _ hh right))
     (both-join _ _ (le-leb 0 (hd .length) (omega arith))
     (both-join _ _ (le-leb 0 (hd .count) (omega arith)) (both-join _ _ (le-leb _ _ paid) (both-join _ _ (le-leb (0 + pick false 0 72) room (omega (arith, leb-true 72 room (both-left _ _ right), skips {A = ℕ} false 0 72 refl)))
-    (both-join _ _ (eq-eqb _ _ (whose-whole z id (h .places) each-place)) (both-join _ _ (le-leb _ _ (le-trans fits (mul-le-mul-right {m = length (taken z (h .places))} {n = h .disk} z few)))
-    (facts-staged _ _ _ _ (fresh-staged (h .stage) (whose id (h .places) .size / z)))))))))
+    (both-join _ _ (eq-eqb _ _ (whose-whole (h .sector) id (h .places) each-place)) (both-join _ _ (le-leb _ _ (le-trans fits (mul-le-mul-right {m = length (taken (h .sector) (h .places))} {n = h .disk} (h .sector) few)))
+    (facts-staged _ _ _ _ (fresh-staged (h .stage) (whose id (h .places) .size / h .sector)))))))))
 
 -- a host in order with another program that is in order, or none
-with-program : (z : ℕ) (h : Host) (g : Program) → inOrder z h ≡ true → either (not (g .active)) (programInOrder z (h .disk) (h .stage) (h .places) g) ≡ true
-    → inOrder z (withProgram h g) ≡ true
+with-program : (h : Host) (g : Program) → inOrder h ≡ true → either (not (g .active)) (programInOrder (h .sector) (h .disk) (h .stage) (h .places) g) ≡ true
+    → inOrder (withProgram h g) ≡ true
 unfolding inOrder withProgram
-with-program z h g o e =
+with-program h g o e =
     let b = both-right _ _ o in
-    both-join _ _ (both-left _ _ o) (both-join _ _ (both-left _ _ b) (both-join _ _ (both-left _ _ (both-right _ _ b)) e))
+    let c = both-right _ _ b in
+    both-join _ _ (both-left _ _ o) (both-join _ _ (both-left _ _ b) (both-join _ _ (both-left _ _ c) (both-join _ _ (both-left _ _ (both-right _ _ c)) e)))
 
 read-head : (bytes : List ℕ) → Bytes bytes → decode bytes .number ≡ 0 → within (decode bytes .head) ≡ true
 read-head bytes b e = read-within bytes b (decode bytes .head) (ap (λ (n : ℕ). told n (decode bytes .head)) e)
 
-begun-order : (z : ℕ) (h : Host) (hd : Head) (budget : ℕ) (p : Prices) (room : ℕ) → inOrder z h ≡ true
-    → programInOrder z (h .disk) (h .stage) (h .places) (begun h hd budget p room) ≡ true → inOrder z (withProgram h (begun h hd budget p room)) ≡ true
+begun-order : (h : Host) (hd : Head) (budget : ℕ) (p : Prices) (room : ℕ) → inOrder h ≡ true
+    → programInOrder (h .sector) (h .disk) (h .stage) (h .places) (begun h hd budget p room) ≡ true → inOrder (withProgram h (begun h hd budget p room)) ≡ true
 unfolding begun
-begun-order z h hd budget p room o g = with-program z h (begun h hd budget p room) o (skips (not true) true _ refl ∙ g)
+begun-order h hd budget p room o g = with-program h (begun h hd budget p room) o (skips (not true) true _ refl ∙ g)
 
-pub opening : (z : ℕ) (h : Host) (bytes : List ℕ) (budget : ℕ) (p : Prices) (room : ℕ) → Declared z h → Bytes bytes → inOrder z h ≡ true
-    → inOrder z (opened z h bytes budget p room .host) ≡ true
+pub opening : (h : Host) (bytes : List ℕ) (budget : ℕ) (p : Prices) (room : ℕ) → Declared h → Bytes bytes → inOrder h ≡ true
+    → inOrder (opened h bytes budget p room .host) ≡ true
 unfolding opened openedHead
-opening z h bytes budget p room sound bs o =
-    let way = either-way (λ (r : Answer). inOrder z (r .host) ≡ true) in
+opening h bytes budget p room sound bs o =
+    let way = either-way (λ (r : Answer). inOrder (r .host) ≡ true) in
     way _ _ _ (λ _. o) (λ _. way _ _ _ (λ _. o) (λ right. way _ _ _ (λ _. o) (λ _. way _ _ _ (λ _. o) (λ fault. way _ _ _ (λ _. o) (λ held. way _ _ _ (λ _. o) (λ paid.
-    begun-order z h (decode bytes .head) budget p room o
-    (begun-good z h (decode bytes .head) budget p room sound o (read-head bytes bs (eqb-true _ _ (not-false _ fault))) (not-false _ right) held (ltb-false _ _ paid))))))))
+    begun-order h (decode bytes .head) budget p room o
+    (begun-good h (decode bytes .head) budget p room sound o (read-head bytes bs (eqb-true _ _ (not-false _ fault))) (not-false _ right) held (ltb-false _ _ paid))))))))
 
 -- ---- pieces
 
-accepted-order : (z : ℕ) (disk : List ℕ) (h : Host) (stage input output bytes : List ℕ) → Declared z h → inOrder z h ≡ true → h .program .active ≡ true
-    → h .program .came + length bytes ≤ h .program .terms .head .length → inOrder z (accepted z disk h stage input output bytes .host) ≡ true
+accepted-order : (disk : List ℕ) (h : Host) (stage input output bytes : List ℕ) → Declared h → inOrder h ≡ true → h .program .active ≡ true
+    → h .program .came + length bytes ≤ h .program .terms .head .length → inOrder (accepted disk h stage input output bytes .host) ≡ true
 unfolding accepted run turnOf
-accepted-order z disk h stage input output bytes sound o live fit =
-    good-order z h disk (h .program .came + length bytes) _ o fit
-    (runs-good z (settingOf h disk) (put input (h .program .came) bytes) (h .program .came + length bytes) (settingOf h disk .terms .head .count) (turnOf h stage output)
-    (order-lent z h disk (sound .some) o) (order-good z h disk o live (sound .staged)))
+accepted-order disk h stage input output bytes sound o live fit =
+    good-order h disk (h .program .came + length bytes) _ o fit
+    (runs-good (h .sector) (settingOf h disk) (put input (h .program .came) bytes) (h .program .came + length bytes) (settingOf h disk .terms .head .count) (turnOf h stage output)
+    (order-lent h disk o) (order-good h disk o live (sound .staged)))
 
-pieces : (z : ℕ) (disk : List ℕ) (h : Host) (stage input output bytes : List ℕ) → Declared z h → inOrder z h ≡ true
-    → inOrder z (piece z disk h stage input output bytes .host) ≡ true
+pieces : (disk : List ℕ) (h : Host) (stage input output bytes : List ℕ) → Declared h → inOrder h ≡ true
+    → inOrder (piece disk h stage input output bytes .host) ≡ true
 unfolding piece
-pieces z disk h stage input output bytes sound o =
-    let way = either-way (λ (r : Pieced). inOrder z (r .host) ≡ true) in
+pieces disk h stage input output bytes sound o =
+    let way = either-way (λ (r : Pieced). inOrder (r .host) ≡ true) in
     way _ _ _ (λ _. o) (λ _. way _ _ _ (λ _. o) (λ _. way _ _ _ (λ _. o) (λ _. way _ _ _ (λ _. o) (λ live. way _ _ _ (λ _. o) (λ fit.
-    accepted-order z disk h stage input output bytes sound o (not-false _ live) (ltb-false _ _ fit))))))
+    accepted-order disk h stage input output bytes sound o (not-false _ live) (ltb-false _ _ fit))))))
 
 -- ---- interrupts
 
-came-within : (z : ℕ) (h : Host) → inOrder z h ≡ true → h .program .active ≡ true → h .program .came ≤ h .program .terms .head .length
+came-within : (h : Host) → inOrder h ≡ true → h .program .active ≡ true → h .program .came ≤ h .program .terms .head .length
 unfolding programInOrder
-came-within z h o live = leb-true _ _ (both-left _ _ (both-right _ _ (order-program z h o live)))
+came-within h o live = leb-true _ _ (both-left _ _ (both-right _ _ (order-program h o live)))
 
-stopped-order : (z : ℕ) (disk : List ℕ) (h : Host) (output : List ℕ) → Declared z h → inOrder z h ≡ true → h .program .active ≡ true
-    → going (h .program .terms) (h .program .progress) ≡ true → inOrder z (stopped z disk h output .host) ≡ true
+stopped-order : (disk : List ℕ) (h : Host) (output : List ℕ) → Declared h → inOrder h ≡ true → h .program .active ≡ true
+    → going (h .program .terms) (h .program .progress) ≡ true → inOrder (stopped disk h output .host) ≡ true
 unfolding stopped failing turnOf settingOf
-stopped-order z disk h output sound o live g =
-    good-order z h disk (h .program .came) _ o (came-within z h o live)
-    (failed-good z (settingOf h disk) (h .program .progress) (not-failed (settingOf h disk) (turnOf h [] output) g) (order-good z h disk o live (sound .staged)))
+stopped-order disk h output sound o live g =
+    good-order h disk (h .program .came) _ o (came-within h o live)
+    (failed-good (h .sector) (settingOf h disk) (h .program .progress) (not-failed (settingOf h disk) (turnOf h [] output) g) (order-good h disk o live (sound .staged)))
 
-interrupts : (z : ℕ) (disk : List ℕ) (h : Host) (output : List ℕ) → Declared z h → inOrder z h ≡ true → inOrder z (interrupt z disk h output .host) ≡ true
+interrupts : (disk : List ℕ) (h : Host) (output : List ℕ) → Declared h → inOrder h ≡ true → inOrder (interrupt disk h output .host) ≡ true
 unfolding interrupt
-interrupts z disk h output sound o =
-    let way = either-way (λ (r : Interrupted). inOrder z (r .host) ≡ true) in
+interrupts disk h output sound o =
+    let way = either-way (λ (r : Interrupted). inOrder (r .host) ≡ true) in
     way _ _ _ (λ _. o) (λ _. way _ _ _ (λ _. o) (λ _. way _ _ _ (λ _. o) (λ _. way _ _ _ (λ _. o) (λ live.
-    way _ _ _ (λ g. stopped-order z disk h output sound o (not-false _ live) g) (λ _. o)))))
+    way _ _ _ (λ g. stopped-order disk h output sound o (not-false _ live) g) (λ _. o)))))
 
 -- ---- closing
 
-given-up : (z n : ℕ) (disk : List ℕ) (h : Host) → inOrder z h ≡ true → inOrder z (givenUp n disk h .host) ≡ true
+given-up : (n : ℕ) (disk : List ℕ) (h : Host) → inOrder h ≡ true → inOrder (givenUp n disk h .host) ≡ true
 unfolding givenUp noProgram
-given-up z n disk h o = with-program z h noProgram o (picks (not false) true _ refl)
+given-up n disk h o = with-program h noProgram o (picks (not false) true _ refl)
 
-closing : (z : ℕ) (disk : List ℕ) (h : Host) (stage : List ℕ) (agree : Bool) (size : ℕ) (root : List ℕ) → Declared z h → inOrder z h ≡ true
-    → inOrder z (close z disk h stage agree size root .host) ≡ true
+closing : (disk : List ℕ) (h : Host) (stage : List ℕ) (agree : Bool) (size : ℕ) (root : List ℕ) → Declared h → inOrder h ≡ true
+    → inOrder (close disk h stage agree size root .host) ≡ true
 unfolding close agreed
-closing z disk h stage agree size root sound o =
-    let way = either-way (λ (r : Closed). inOrder z (r .host) ≡ true) in
-    way _ _ _ (λ _. o) (λ _. way _ _ _ (λ _. o) (λ _. way _ _ _ (λ _. o) (λ live. way _ _ _ (λ _. given-up z 0 disk h o) (λ _. way _ _ _ (λ _. o) (λ _.
-    way _ _ _ (λ _. given-up z 0 disk h o) (λ _.
-    way _ _ _ (λ _. commit-order z disk h stage sound o (not-false _ live)) (λ _. given-up z 14 disk h o)))))))
+closing disk h stage agree size root sound o =
+    let way = either-way (λ (r : Closed). inOrder (r .host) ≡ true) in
+    way _ _ _ (λ _. o) (λ _. way _ _ _ (λ _. o) (λ _. way _ _ _ (λ _. o) (λ live. way _ _ _ (λ _. given-up 0 disk h o) (λ _. way _ _ _ (λ _. o) (λ _.
+    way _ _ _ (λ _. given-up 0 disk h o) (λ _.
+    way _ _ _ (λ _. commit-order disk h stage sound o (not-false _ live)) (λ _. given-up 14 disk h o)))))))
 
 -- ---- a host that is not in order
 
-pub damaged : (z : ℕ) (h : Host) (a : Areas) → inOrder z h ≡ false → Refused z h a
+pub damaged : (h : Host) (a : Areas) → inOrder h ≡ false → Refused h a
 unfolding formed dropped opened openedHead piece interrupt reached close
-damaged z h a e = record {
-  forming = λ id. ap (λ (r : Contract). r .number) (picks (not (inOrder z h)) _ _ (ap not e));
-  dropping = λ id. ap (λ (r : Contract). r .number) (picks (not (inOrder z h)) _ _ (ap not e));
-  opening = λ o. ap (λ (r : Answer). r .number) (picks (not (inOrder z h)) _ _ (ap not e));
-  piece = λ bytes. ap (λ (r : Pieced). r .number) (picks (not (inOrder z h)) _ _ (ap not e));
-  interrupt = ap (λ (r : Interrupted). r .number) (picks (not (inOrder z h)) _ _ (ap not e));
-  reached = ap (λ (r : Reached). r .number) (picks (not (inOrder z h)) _ _ (ap not e));
-  closing = λ g. ap (λ (r : Closed). r .number) (picks (not (inOrder z h)) _ _ (ap not e));
+damaged h a e = record {
+  forming = λ id. ap (λ (r : Contract). r .number) (picks (not (inOrder h)) _ _ (ap not e));
+  dropping = λ id. ap (λ (r : Contract). r .number) (picks (not (inOrder h)) _ _ (ap not e));
+  opening = λ o. ap (λ (r : Answer). r .number) (picks (not (inOrder h)) _ _ (ap not e));
+  piece = λ bytes. ap (λ (r : Pieced). r .number) (picks (not (inOrder h)) _ _ (ap not e));
+  interrupt = ap (λ (r : Interrupted). r .number) (picks (not (inOrder h)) _ _ (ap not e));
+  reached = ap (λ (r : Reached). r .number) (picks (not (inOrder h)) _ _ (ap not e));
+  closing = λ g. ap (λ (r : Closed). r .number) (picks (not (inOrder h)) _ _ (ap not e));
 }
 
 -- every call leaves a host in order that is in order
-pub record Orders (z : ℕ) (h : Host) (a : Areas) : Type 0 where
-  pub forming : (id : List ℕ) → inOrder z (formed z h id .host) ≡ true
-  pub dropping : (id : List ℕ) → inOrder z (dropped z h id .host) ≡ true
-  pub opening : (o : Opening) → Bytes (o .bytes) → inOrder z (opens z h o .host) ≡ true
-  pub piece : (bytes : List ℕ) → inOrder z (gives z h a bytes .host) ≡ true
-  pub interrupt : inOrder z (stops z h a .host) ≡ true
-  pub closing : (g : Agreement) → inOrder z (closes z h a g .host) ≡ true
+pub record Orders (h : Host) (a : Areas) : Type 0 where
+  pub forming : (id : List ℕ) → inOrder (formed h id .host) ≡ true
+  pub dropping : (id : List ℕ) → inOrder (dropped h id .host) ≡ true
+  pub opening : (o : Opening) → Bytes (o .bytes) → inOrder (opens h o .host) ≡ true
+  pub piece : (bytes : List ℕ) → inOrder (gives h a bytes .host) ≡ true
+  pub interrupt : inOrder (stops h a .host) ≡ true
+  pub closing : (g : Agreement) → inOrder (closes h a g .host) ≡ true
 
-pub orders : (z : ℕ) (h : Host) (a : Areas) → Declared z h → inOrder z h ≡ true → Orders z h a
-orders z h a d order = record {
-  forming = λ id. forming z h id order;
-  dropping = λ id. dropping z h id order;
-  opening = λ o bytes. opening z h (o .bytes) (o .budget) (o .prices) (o .room) d bytes order;
-  piece = λ bytes. pieces z (a .disk) h (a .stage) (a .input) (a .output) bytes d order;
-  interrupt = interrupts z (a .disk) h (a .output) d order;
-  closing = λ g. closing z (a .disk) h (a .stage) (g .agree) (g .size) (g .root) d order;
+pub orders : (h : Host) (a : Areas) → Declared h → inOrder h ≡ true → Orders h a
+orders h a d order = record {
+  forming = λ id. forming h id order;
+  dropping = λ id. dropping h id order;
+  opening = λ o bytes. opening h (o .bytes) (o .budget) (o .prices) (o .room) d bytes order;
+  piece = λ bytes. pieces (a .disk) h (a .stage) (a .input) (a .output) bytes d order;
+  interrupt = interrupts (a .disk) h (a .output) d order;
+  closing = λ g. closing (a .disk) h (a .stage) (g .agree) (g .size) (g .root) d order;
 }

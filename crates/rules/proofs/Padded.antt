@@ -78,18 +78,18 @@ some-replaced id c x (p ∷ ps) f h =
 abbrev Before : Host → List ℕ → Host → Type 0
 Before h id after = holds after id ≡ true → holds h id ≡ true
 
-formed-before : (z : ℕ) (h : Host) (id other : List ℕ) → padded id ≡ true → Before h id (formed z h other .host)
+formed-before : (h : Host) (id other : List ℕ) → padded id ≡ true → Before h id (formed h other .host)
 unfolding formed withPlaces
-formed-before z h id other e =
+formed-before h id other e =
     let way = either-way (λ (r : Answer). Before h id (r .host)) in
     way _ _ _ (λ _ k. k) (λ _. way _ _ _ (λ _ k. k) (λ _. way _ _ _ (λ _ k. k) (λ _. way _ _ _ (λ _ k. k) (λ short.
     way _ _ _ (λ _ k. k) (λ _. way _ _ _ (λ _ k. k) (λ _ k.
     let apart = by (same other id) (λ w. never (sym e ∙ ap padded (sym (same-eq other id w)) ∙ short)) (λ w. w) in
     held-some id (h .places) ∙ sym (some-formed id other (h .places) apart) ∙ sym (held-some id (formedAt other (h .places))) ∙ k))))))
 
-dropped-before : (z : ℕ) (h : Host) (id other : List ℕ) → Before h id (dropped z h other .host)
+dropped-before : (h : Host) (id other : List ℕ) → Before h id (dropped h other .host)
 unfolding dropped withPlaces
-dropped-before z h id other =
+dropped-before h id other =
     let way = either-way (λ (r : Answer). Before h id (r .host)) in
     way _ _ _ (λ _ k. k) (λ _. way _ _ _ (λ _ k. k) (λ _. way _ _ _ (λ _ k. k) (λ _. way _ _ _ (λ _ k. k) (λ _ k.
     held-some id (h .places)
@@ -121,42 +121,43 @@ own id c old q size slots f g e =
     both-join _ _ (both-left (q .held) _ g) (ap (λ (l : List ℕ). same l id) (is ∙ sym was) ∙ both-right (old .held) _ e)
 
 -- a commit leaves its contract under its id
-committed-before : (z : ℕ) (h : Host) (a : Areas) (id : List ℕ) → Before h id (commit z (a .disk) h (a .stage) .host)
+committed-before : (h : Host) (a : Areas) (id : List ℕ) → Before h id (commit (a .disk) h (a .stage) .host)
 unfolding commit withProgram withPlaces parent settingOf
-committed-before z h a id k =
+committed-before h a id k =
     let c = h .program .terms .head .contract in
     let old = whose c (h .places) in
     held-some id (h .places)
     ∙ some-replaced id c _ (h .places) (λ q g e. own id c old q _ _ (whose-has c (h .places)) g e) (sym (held-some id _) ∙ k)
 
-closed-before : (z : ℕ) (h : Host) (a : Areas) (id : List ℕ) (g : Agreement) → Before h id (closes z h a g .host)
+closed-before : (h : Host) (a : Areas) (id : List ℕ) (g : Agreement) → Before h id (closes h a g .host)
 unfolding givenUp withProgram
-closed-before z h a id g =
-    close-ways z h a g (λ r. Before h id (r .host)) (λ n _ _ _ k. k) (λ _ k. k) (λ _ _ _ k. k) (λ _ _ _ k. k)
-    (λ _ _ _ _. committed-before z h a id)
+closed-before h a id g =
+    close-ways h a g (λ r. Before h id (r .host)) (λ n _ _ _ k. k) (λ _ k. k) (λ _ _ _ k. k) (λ _ _ _ k. k)
+    (λ _ _ _ _. committed-before h a id)
 
 held-as : (id : List ℕ) (ps after : List Place) → after ≡ ps → whose id after .held ≡ true → whose id ps .held ≡ true
 held-as id ps after e k = ap (λ (l : List Place). whose id l .held) (sym e) ∙ k
 
-none-formed : (z : ℕ) (h : Host) (a : Areas) (id : List ℕ) → padded id ≡ true → NoneFormed z h a id
-none-formed z h a id e = record {
-  forming = λ other. formed-before z h id other e;
-  dropping = λ other. dropped-before z h id other;
-  opening = λ o. held-as id (h .places) _ (nothing z h a .opening o);
-  piece = λ bytes. held-as id (h .places) _ (nothing z h a .piece bytes);
-  interrupt = held-as id (h .places) _ (nothing z h a .interrupt);
-  closing = λ g. closed-before z h a id g;
+none-formed : (h : Host) (a : Areas) (id : List ℕ) → padded id ≡ true → NoneFormed h a id
+none-formed h a id e = record {
+  forming = λ other. formed-before h id other e;
+  dropping = λ other. dropped-before h id other;
+  opening = λ o. held-as id (h .places) _ (nothing h a .opening o);
+  piece = λ bytes. held-as id (h .places) _ (nothing h a .piece bytes);
+  interrupt = held-as id (h .places) _ (nothing h a .interrupt);
+  closing = λ g. closed-before h a id g;
 }
 
-bare-none : (disk stage : ℕ) (id : List ℕ) → holds (bare disk stage) id ≡ false
+bare-none : (z disk stage : ℕ) (id : List ℕ) → holds (bare z disk stage) id ≡ false
 unfolding bare whose hasId noPlace pick
-bare-none disk stage id = refl
+bare-none z disk stage id = refl
 
 fresh-none : (z disk stage : ℕ) (id : List ℕ) → holds (freshed z disk stage .host) id ≡ false
 unfolding freshed
 fresh-none z disk stage id =
     let way = either-way (λ (r : Answer). holds (r .host) id ≡ false) in
-    way _ _ _ (λ _. bare-none 0 0 id) (λ _. way _ _ _ (λ _. bare-none 0 0 id) (λ _. bare-none _ _ id))
+    way _ _ _ (λ _. bare-none 0 0 0 id) (λ _. way _ _ _ (λ _. bare-none 0 0 0 id) (λ _.
+    way _ _ _ (λ _. bare-none 0 0 0 id) (λ _. bare-none _ _ _ id)))
 
 pub short-ids : ShortIds
 short-ids = record {

@@ -16,7 +16,7 @@ use Rattle.rules.specs.View.{Setting, Turn, settingOf, turnOf, withRun}
 use Rattle.rules.specs.Inputs.{inputsOf}
 use Rattle.rules.specs.Plan.{judged}
 use Rattle.rules.specs.Run.{failedProgress, failing, ranProgress, succeeding, stepped, current, step, going, ready, runs, run}
-use Rattle.rules.specs.Visit.{Areas, Sectors}
+use Rattle.rules.specs.Visit.{Areas}
 use Rattle.rules.specs.Trace.{together, lentTo, made, after, recorded, trail, wholeRun, met, firstRecords, recordsIn}
 use Rattle.rules.specs.Facts.{Good, Lent, Solid}
 use Rattle.rules.proofs.Laws.Steps.{runs-zero, runs-go, runs-stop, ready-going, not-failed}
@@ -29,10 +29,10 @@ use Rattle.sia.specs.declared.Instruction.{Instruction}
 use Rattle.host.specs.declared.Progress.{Progress}
 use Rattle.host.specs.declared.Host.{Host}
 
-step-written : (z : ℕ) (s : Setting) (a : List ℕ) (t : Turn) → Sectors z → Solid z s → Good z s (t .progress)
+step-written : (z : ℕ) (s : Setting) (a : List ℕ) (t : Turn) → Solid z s → Good z s (t .progress)
     → length (t .stage) ≡ s .copies * z → step z s a t .progress .written ≡ t .progress .written + length (recorded z s a t)
 unfolding step recorded
-step-written z s a t sectors solid g e = stepped-written z s (current s t) (inputsOf (current s t) a) t sectors solid g e
+step-written z s a t solid g e = stepped-written z s (current s t) (inputsOf (current s t) a) t solid g e
 
 step-output : (z : ℕ) (s : Setting) (a : List ℕ) (t : Turn)
     → step z s a t .output ≡ put (t .output) (t .progress .written) (recorded z s a t)
@@ -53,20 +53,20 @@ abbrev counts : Progress → ℕ
 counts p = p .ran + pick (p .failed) 1 0
 
 -- "Records are written from the first free byte of the output area onward."
-pub runs-bytes : (z : ℕ) (s : Setting) (a : List ℕ) (k n : ℕ) (t : Turn) → Sectors z → Solid z s → Good z s (t .progress)
+pub runs-bytes : (z : ℕ) (s : Setting) (a : List ℕ) (k n : ℕ) (t : Turn) → Solid z s → Good z s (t .progress)
     → length (t .stage) ≡ s .copies * z → runs z s a k n t .output ≡ put (t .output) (t .progress .written) (together (trail z s a k n t))
 unfolding together
-runs-bytes z s a k zero t sectors solid g e =
+runs-bytes z s a k zero t solid g e =
     ap (λ (x : Turn). x .output) (runs-zero z s a k t)
     ∙ sym (ap (λ (l : List (List ℕ)). put (t .output) (t .progress .written) (together l)) (trail-zero z s a k t)
     ∙ put-nil (t .output) (t .progress .written))
-runs-bytes z s a k (suc n) t sectors solid g e =
+runs-bytes z s a k (suc n) t solid g e =
     by (ready s k t)
     (λ r.
     let rest = together (trail z s a k n (step z s a t)) in
     ap (λ (x : Turn). x .output) (runs-go z s a k n t r)
-    ∙ runs-bytes z s a k n (step z s a t) sectors solid (step-good z s a t (solid .lent) (ready-going s k t r) g) (step-stage z s a t ∙ e)
-    ∙ ap₂ (λ (d : List ℕ) (m : ℕ). put d m rest) (step-output z s a t) (step-written z s a t sectors solid g e)
+    ∙ runs-bytes z s a k n (step z s a t) solid (step-good z s a t (solid .lent) (ready-going s k t r) g) (step-stage z s a t ∙ e)
+    ∙ ap₂ (λ (d : List ℕ) (m : ℕ). put d m rest) (step-output z s a t) (step-written z s a t solid g e)
     ∙ put-append (t .output) (t .progress .written) (recorded z s a t) rest _ refl
     ∙ ap (λ (l : List (List ℕ)). put (t .output) (t .progress .written) (together l)) (sym (trail-go z s a k n t r)))
     (λ r.
@@ -75,22 +75,22 @@ runs-bytes z s a k (suc n) t sectors solid g e =
     ∙ put-nil (t .output) (t .progress .written)))
 
 -- and as many bytes are written as they have
-runs-length : (z : ℕ) (s : Setting) (a : List ℕ) (k n : ℕ) (t : Turn) → Sectors z → Solid z s → Good z s (t .progress)
+runs-length : (z : ℕ) (s : Setting) (a : List ℕ) (k n : ℕ) (t : Turn) → Solid z s → Good z s (t .progress)
     → length (t .stage) ≡ s .copies * z
     → runs z s a k n t .progress .written ≡ t .progress .written + length (together (trail z s a k n t))
 unfolding together
-runs-length z s a k zero t sectors solid g e =
+runs-length z s a k zero t solid g e =
     let none = ap (λ (l : List (List ℕ)). length (together l)) (trail-zero z s a k t) in
     omega (arith, ap (λ (x : Turn). x .progress .written) (runs-zero z s a k t), none)
-runs-length z s a k (suc n) t sectors solid g e =
+runs-length z s a k (suc n) t solid g e =
     by (ready s k t)
     (λ r.
     let rest = together (trail z s a k n (step z s a t)) in
     let next = step-good z s a t (solid .lent) (ready-going s k t r) g in
-    let on = runs-length z s a k n (step z s a t) sectors solid next (step-stage z s a t ∙ e) in
+    let on = runs-length z s a k n (step z s a t) solid next (step-stage z s a t ∙ e) in
     let all = ap (λ (l : List (List ℕ)). length (together l)) (trail-go z s a k n t r) in
     let go = ap (λ (x : Turn). x .progress .written) (runs-go z s a k n t r) in
-    omega (arith, go, on, step-written z s a t sectors solid g e, all, length-append (recorded z s a t) rest))
+    omega (arith, go, on, step-written z s a t solid g e, all, length-append (recorded z s a t) rest))
     (λ r.
     let none = ap (λ (l : List (List ℕ)). length (together l)) (trail-stop z s a k (suc n) t r) in
     omega (arith, ap (λ (x : Turn). x .progress .written) (runs-stop z s a k (suc n) t r), none))
@@ -127,41 +127,41 @@ runs-counts z s a k (suc n) t =
     let stop = ap (λ (x : Turn). counts (x .progress)) (runs-stop z s a k (suc n) t r) in
     omega (arith, stop, ap length (trail-stop z s a k (suc n) t r)))
 
-module _ (z : ℕ) (h : Host) (a : Areas) (all : List ℕ) (k : ℕ) (le : k ≤ h .program .terms .head .length) where
+module _ (h : Host) (a : Areas) (all : List ℕ) (k : ℕ) (le : k ≤ h .program .terms .head .length) where
   -- the records with k bytes come are the first m
-  pub first-records : firstRecords z h a all k
-      ≡ trail z (settingOf h (a .disk)) all k (h .program .terms .head .count) (turnOf h (a .stage) (a .output))
+  pub first-records : firstRecords h a all k
+      ≡ trail (h .sector) (settingOf h (a .disk)) all k (h .program .terms .head .count) (turnOf h (a .stage) (a .output))
   unfolding met wholeRun settingOf turnOf
   first-records =
       let s = settingOf h (a .disk) in
       let u = turnOf h (a .stage) (a .output) in
       let n = h .program .terms .head .count in
-      ap (λ (m : ℕ). take m (trail z s all (h .program .terms .head .length) n u)) (sym (counted z s all k n u))
-      ∙ firsts z s all k (h .program .terms .head .length) u le
+      ap (λ (m : ℕ). take m (trail (h .sector) s all (h .program .terms .head .length) n u)) (sym (counted (h .sector) s all k n u))
+      ∙ firsts (h .sector) s all k (h .program .terms .head .length) u le
 
   pub after-count : h .program .progress .ran ≡ 0 → h .program .progress .failed ≡ false
-      → recordsIn (after z h a all k .host) ≡ met z h a all k
+      → recordsIn (after h a all k .host) ≡ met h a all k
   unfolding after made run settingOf turnOf withRun withProgram withProgress withCame met wholeRun pick
   after-count none good =
       let s = settingOf h (a .disk) in
       let u = turnOf h (a .stage) (a .output) in
       let n = h .program .terms .head .count in
       let bit = ap {B = ℕ} (λ (b : Bool). pick b 1 0) good in
-      omega (arith, none, bit, runs-counts z s all k n u, counted z s all k n u)
+      omega (arith, none, bit, runs-counts (h .sector) s all k n u, counted (h .sector) s all k n u)
 
-  module _ (sectors : Sectors z) (t : Taking z (a .disk) (lentTo h a)) (none-written : h .program .progress .written ≡ 0) where
-    pub after-output : after z h a all k .output ≡ put (a .output) 0 (together (firstRecords z h a all k))
+  module _ (t : Taking (a .disk) (lentTo h a)) (none-written : h .program .progress .written ≡ 0) where
+    pub after-output : after h a all k .output ≡ put (a .output) 0 (together (firstRecords h a all k))
     unfolding after made run settingOf turnOf
     after-output =
-        let b = runs-bytes z (settingOf h (a .disk)) all k (h .program .terms .head .count) (turnOf h (a .stage) (a .output)) sectors
-        (order-solid z h (a .disk) (a .stage) (t .some) (t .order) (t .areas)) (order-good z h (a .disk) (t .order) (t .live) (t .entries))
-        (areas-stage z h (a .disk) (a .stage) (t .areas)) in
+        let b = runs-bytes (h .sector) (settingOf h (a .disk)) all k (h .program .terms .head .count) (turnOf h (a .stage) (a .output))
+        (order-solid h (a .disk) (a .stage) (t .order) (t .areas)) (order-good h (a .disk) (t .order) (t .live) (t .entries))
+        (areas-stage h (a .disk) (a .stage) (t .areas)) in
         b ∙ ap₂ (λ (m : ℕ) (l : List (List ℕ)). put (a .output) m (together l)) none-written (sym first-records)
 
-    pub after-written : after z h a all k .host .program .progress .written ≡ length (together (firstRecords z h a all k))
+    pub after-written : after h a all k .host .program .progress .written ≡ length (together (firstRecords h a all k))
     unfolding after made run settingOf turnOf withRun withProgram withProgress withCame
     after-written =
-        let b = runs-length z (settingOf h (a .disk)) all k (h .program .terms .head .count) (turnOf h (a .stage) (a .output)) sectors
-        (order-solid z h (a .disk) (a .stage) (t .some) (t .order) (t .areas)) (order-good z h (a .disk) (t .order) (t .live) (t .entries))
-        (areas-stage z h (a .disk) (a .stage) (t .areas)) in
+        let b = runs-length (h .sector) (settingOf h (a .disk)) all k (h .program .terms .head .count) (turnOf h (a .stage) (a .output))
+        (order-solid h (a .disk) (a .stage) (t .order) (t .areas)) (order-good h (a .disk) (t .order) (t .live) (t .entries))
+        (areas-stage h (a .disk) (a .stage) (t .areas)) in
         omega (arith, b, none-written, ap (λ (l : List (List ℕ)). length (together l)) first-records)

@@ -28,9 +28,9 @@ module _ {R : Type 0} (number : R → ℕ) (refusal : ℕ → R) (right : (n : �
   refused-or : (n : ℕ) (b : Bool) (y : R) → Says y → Says (pick b (refusal n) y)
   refused-or n b y q = either-way b (refusal n) y (refused n) q
 
-pub refusals : (z : ℕ) (h : Host) (a : Areas) → Refusals z h a
+pub refusals : (h : Host) (a : Areas) → Refusals h a
 unfolding formed dropped opened openedHead piece accepted interrupt stopped reached close agreed commit givenUp
-refusals z h a = record {
+refusals h a = record {
   forming = λ id.
       let or = refused-or (λ r. r .number) (λ n. Contract.answered n h) (λ n. refl) (λ r. r .number ≡ 0 → ⊥) in
       or _ _ _ (or _ _ _ (or _ _ _ (or _ _ _ (or _ _ _ (or _ _ _ (λ n. absurd (n refl)))))));

@@ -92,23 +92,23 @@ module _ (z : ℕ) (s : Setting) where
         ∙ ap shows (sym go))
         (λ e. absurd (omega (arith, ap length (trail-stop z s a k (suc n) t e))))
 
-module _ (z : ℕ) (h : Host) (a : Areas) (all : List ℕ) (k : ℕ) (le : k ≤ h .program .terms .head .length) where
+module _ (h : Host) (a : Areas) (all : List ℕ) (k : ℕ) (le : k ≤ h .program .terms .head .length) where
   -- at least one instruction ran, and none failed
-  pub after-shows : 0 < length (firstRecords z h a all k) → let w = after z h a all k in w .host .program .progress .failed ≡ false
-      → part (lastOf [] (firstRecords z h a all k)) 16 40 ≡ shown (running z (w .host) (leftBy a w))
+  pub after-shows : 0 < length (firstRecords h a all k) → let w = after h a all k in w .host .program .progress .failed ≡ false
+      → part (lastOf [] (firstRecords h a all k)) 16 40 ≡ shown (running (w .host) (leftBy a w))
   unfolding after made run settingOf turnOf withRun withProgram withProgress withCame
   after-shows some f =
       let s = settingOf h (a .disk) in
       let u = turnOf h (a .stage) (a .output) in
-      let q = first-records z h a all k le in
+      let q = first-records h a all k le in
       ap (λ (l : List (List ℕ)). part (lastOf [] l) 16 40) q
-      ∙ runs-shows z s all k (h .program .terms .head .count) u (omega (arith, some, ap length q)) f
+      ∙ runs-shows (h .sector) s all k (h .program .terms .head .count) u (omega (arith, some, ap length q)) f
 
 -- ---- the call that tells it
 
-pub tells : (z : ℕ) (h : Host) (a : Areas) → Tells z h a
+pub tells : (h : Host) (a : Areas) → Tells h a
 unfolding reached reachedPair
-tells z h a =
-    let way = either-way (λ (r : Reached). r .number ≡ 0 → h .program .progress .failed ≡ false → pairing (r .size) (r .root) ≡ running z h a) in
+tells h a =
+    let way = either-way (λ (r : Reached). r .number ≡ 0 → h .program .progress .failed ≡ false → pairing (r .size) (r .root) ≡ running h a) in
     way _ _ _ (λ _ e. absurd (omega arith)) (λ _. way _ _ _ (λ _ e. absurd (omega arith)) (λ _. way _ _ _ (λ _ e. absurd (omega arith))
     (λ _ _ good. skips _ _ _ good)))

@@ -1,7 +1,6 @@
 -- "Nothing changed, nothing to agree.": down the chain of a close to its pairs. Assumes nothing.
 use mathlib.Core.Path.{_≡_, sym, ap, _∙_, subst}
 use mathlib.Core.Bool.{true, not}
-use Prim.Native.Nat.{ℕ}
 use native.Mathlib.Omega.{arith}
 use lib.IntN.{pos}
 use Rattle.area.specs.Pick.{pick}
@@ -21,76 +20,76 @@ use Rattle.rules.proofs.Laws.Pairs.{same-pairs, pairs-same, differ-pair
 use Rattle.rules.proofs.Nothing.{given-up, close-ways, unchanged}
 use Rattle.host.specs.declared.Host.{Host}
 
-module _ (z : ℕ) (h : Host) (a : Areas) where
+module _ (h : Host) (a : Areas) where
   -- ---- an agreement
 
   module _ (g : Agreement) (agrees : g .agree ≡ true) where
     -- past 1, 2 and 4
-    asked : inOrder z h ≡ true → areasRight z h (a .disk) (a .stage) ≡ true → h .program .active ≡ true
-        → closes z h a g ≡ pick (unfinished (h .program)) (closed 13 0 (pos 0) h (a .disk)) (agreed z (a .disk) h (a .stage) (named g))
+    asked : inOrder h ≡ true → areasRight h (a .disk) (a .stage) ≡ true → h .program .active ≡ true
+        → closes h a g ≡ pick (unfinished (h .program)) (closed 13 0 (pos 0) h (a .disk)) (agreed (a .disk) h (a .stage) (named g))
     unfolding close
     asked order areas live =
-        skips (not (inOrder z h)) _ _ (ap not order) ∙ skips (not (areasRight z h (a .disk) (a .stage))) _ _ (ap not areas)
+        skips (not (inOrder h)) _ _ (ap not order) ∙ skips (not (areasRight h (a .disk) (a .stage))) _ _ (ap not areas)
         ∙ skips (not (h .program .active)) _ _ (ap not live) ∙ skips (not (g .agree)) _ _ (ap not agrees)
 
     -- 13 comes before the pairs
-    thirteen : Thirteen z h a g
+    thirteen : Thirteen h a g
     unfolding givenUp commit
     thirteen = record {
       first = λ order areas live t. asked order areas live ∙ picks (unfinished (h .program)) _ _ t;
-      only = close-ways z h a g (λ r. r .number ≡ 13 → unfinished (h .program) ≡ true) (λ n _ _ t e. t e) (λ _ e. absurd (omega arith))
+      only = close-ways h a g (λ r. r .number ≡ 13 → unfinished (h .program) ≡ true) (λ n _ _ t e. t e) (λ _ e. absurd (omega arith))
           (λ _ _ _ e. absurd (omega arith)) (λ _ _ _ e. absurd (omega arith)) (λ _ _ _ _ e. absurd (omega arith));
     }
 
-    module _ (f : Finished z h a) where
-      paired : closes z h a g ≡ agreed z (a .disk) h (a .stage) (named g)
+    module _ (f : Finished h a) where
+      paired : closes h a g ≡ agreed (a .disk) h (a .stage) (named g)
       unfolding unfinished
       paired = asked (f .order) (f .areas) (f .live) ∙ skips (unfinished (h .program)) _ _ (either-join _ _ (f .good) (f .ended))
 
-      pub same-closes : Unchanged z h a → closes z h a g ≡ givenUp 0 (a .disk) h
+      pub same-closes : Unchanged h a → closes h a g ≡ givenUp 0 (a .disk) h
       unfolding agreed
-      same-closes u = paired ∙ picks _ _ _ (pairs-same (running z h a) (starting z h a) u)
+      same-closes u = paired ∙ picks _ _ _ (pairs-same (running h a) (starting h a) u)
 
       -- otherwise the pair that is named decides
-      changed : (Unchanged z h a → ⊥) → closes z h a g
-          ≡ pick (samePair (named g) (running z h a)) (commit z (a .disk) h (a .stage)) (givenUp 14 (a .disk) h)
+      changed : (Unchanged h a → ⊥) → closes h a g
+          ≡ pick (samePair (named g) (running h a)) (commit (a .disk) h (a .stage)) (givenUp 14 (a .disk) h)
       unfolding agreed
-      changed c = paired ∙ skips _ _ _ (differ-pairs (running z h a) (starting z h a) c)
+      changed c = paired ∙ skips _ _ _ (differ-pairs (running h a) (starting h a) c)
 
-      pub right-closes : (Unchanged z h a → ⊥) → named g ≡ running z h a → closes z h a g ≡ commit z (a .disk) h (a .stage)
-      right-closes c e = changed c ∙ picks _ _ _ (pairs-same (named g) (running z h a) e)
+      pub right-closes : (Unchanged h a → ⊥) → named g ≡ running h a → closes h a g ≡ commit (a .disk) h (a .stage)
+      right-closes c e = changed c ∙ picks _ _ _ (pairs-same (named g) (running h a) e)
 
-      wrong-closes : (Unchanged z h a → ⊥) → (named g ≡ running z h a → ⊥) → closes z h a g ≡ givenUp 14 (a .disk) h
-      wrong-closes c e = changed c ∙ skips _ _ _ (differ-pairs (named g) (running z h a) e)
+      wrong-closes : (Unchanged h a → ⊥) → (named g ≡ running h a → ⊥) → closes h a g ≡ givenUp 14 (a .disk) h
+      wrong-closes c e = changed c ∙ skips _ _ _ (differ-pairs (named g) (running h a) e)
 
-      same-answers : Unchanged z h a → closes z h a g .number ≡ 0
+      same-answers : Unchanged h a → closes h a g .number ≡ 0
       unfolding givenUp
       same-answers u = ap (λ (r : Closed). r .number) (same-closes u)
 
-      same-drops : Unchanged z h a → Dropped a h (closes z h a g)
-      same-drops u = subst (Dropped a h) (sym (same-closes u)) (given-up z h a 0)
+      same-drops : Unchanged h a → Dropped a h (closes h a g)
+      same-drops u = subst (Dropped a h) (sym (same-closes u)) (given-up h a 0)
 
-      wrong-answers : (Unchanged z h a → ⊥) → (named g ≡ running z h a → ⊥) → closes z h a g .number ≡ 14
+      wrong-answers : (Unchanged h a → ⊥) → (named g ≡ running h a → ⊥) → closes h a g .number ≡ 14
       unfolding givenUp
       wrong-answers c e = ap (λ (r : Closed). r .number) (wrong-closes c e)
 
-    agreeing : Agreeing z h a g
+    agreeing : Agreeing h a g
     agreeing = record { thirteen = thirteen; up = same-closes; answered = same-answers; dropped = same-drops; fourteen = wrong-answers }
 
   -- ---- read-only mode
 
-  module _ (f : Finished z h a) (mode : readOnlyMode (h .program .terms) ≡ true) where
-    starts : starting z h a ≡ noPair
+  module _ (f : Finished h a) (mode : readOnlyMode (h .program .terms) ≡ true) where
+    starts : starting h a ≡ noPair
     unfolding readOnlyMode parent settingOf
-    starts = none-starts z (settingOf h (a .disk)) (read-only-free z _ (h .places) (order-facts z h (f .order) .contracts .each) mode)
+    starts = none-starts (h .sector) (settingOf h (a .disk)) (read-only-free (h .sector) _ (h .places) (order-facts h (f .order) .contracts .each) mode)
 
-    runs : running z h a ≡ noPair
+    runs : running h a ≡ noPair
     unfolding readOnlyMode
     runs =
-        none-runs z (settingOf h (a .disk)) (h .program .progress) (a .stage)
-        (read-only-reached (h .places) _ _ (order-facts z h (f .order) .running (f .live) .terms .parent) mode)
+        none-runs (h .sector) (settingOf h (a .disk)) (h .program .progress) (a .stage)
+        (read-only-reached (h .places) _ _ (order-facts h (f .order) .running (f .live) .terms .parent) mode)
 
-    reading : (g : Agreement) → g .agree ≡ true → Reading z h a g
+    reading : (g : Agreement) → g .agree ≡ true → Reading h a g
     reading g agrees = record {
       starts = starts;
       runs = runs;
@@ -103,6 +102,6 @@ nothing-to-agree = record {
   equal = same-pairs;
   yes = pairs-same;
   agreeing = agreeing;
-  reading = λ z h a g agrees f mode. reading z h a f mode g agrees;
+  reading = λ h a g agrees f mode. reading h a f mode g agrees;
   nothing = unchanged;
 }

@@ -54,7 +54,7 @@ program is n = record { contract = id; count = length is; instructions = filled 
 
 -- "disk 8 sectors, stage 4, .. parent empty at the start"
 unfoldable pub host : Host
-host = formed 4096 (freshed 4096 32768 16384 .host) id .host
+host = formed (freshed 4096 32768 16384 .host) id .host
 
 -- "One sector"
 unfoldable pub sectorHost : Host
@@ -64,10 +64,10 @@ sectorHost = withPlaces host (record { held = true; id = id; size = 4096; slots 
 unfoldable pub start : Host → ℕ → Head → Pieced
 start h budget hd =
     let others : ℕ → List ℕ = λ n. replicate n 170 in
-    pieced 0 0 (opened 4096 h (encode hd) budget prices 16384 .host) (others 16384) (others (hd .length)) (others 16384)
+    pieced 0 0 (opened h (encode hd) budget prices 16384 .host) (others 16384) (others (hd .length)) (others 16384)
 
 unfoldable pub given : Pieced → List ℕ → Pieced
-given w bytes = piece 4096 (zeros 32768) (w .host) (w .stage) (w .input) (w .output) bytes
+given w bytes = piece (zeros 32768) (w .host) (w .stage) (w .input) (w .output) bytes
 
 -- all data in one piece
 unfoldable pub ran : Host → ℕ → Head → List ℕ → Pieced
@@ -182,7 +182,7 @@ proofRow = row (λ _. count 64 0 1 ∷ count 64 0 64 ∷ count 128 63 65 ∷ cou
 
 -- "Ids equal but for byte 31 form two contracts."
 unfoldable pub idRow : Row
-idRow = row (λ _. formed 4096 host (set id 31 2) .number ∷ contracts (formed 4096 host (set id 31 2) .host) ∷ []) (0 ∷ 2 ∷ [])
+idRow = row (λ _. formed host (set id 31 2) .number ∷ contracts (formed host (set id 31 2) .host) ∷ []) (0 ∷ 2 ∷ [])
 
 unfoldable pub table : List Row
 table = aloneRow ∷ budgetRow ∷ needRow ∷ lateRow ∷ copyRow ∷ swapRow ∷ spanRow ∷ sizeRow ∷ proofRow ∷ idRow ∷ []

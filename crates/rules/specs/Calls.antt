@@ -1,5 +1,5 @@
 -- Opening a program, giving it a piece, interrupting it, and what it has reached: what each call answers and leaves. A refusal leaves all
--- as it was, and its other numbers are 0. z is the sector size. Assumes nothing.
+-- as it was, and its other numbers are 0. The sector size is the one that the host holds. Assumes nothing.
 use mathlib.Core.Bool.{Bool, true, not}
 use mathlib.Core.List.{List, []}
 use Prim.Native.Nat.{ℕ, _+_}
@@ -43,9 +43,9 @@ begun h head budget prices room = record {
 }
 
 -- a head with the number that its reader answered: 1, 2, 3, "but opening checks 9 and 10 before 7", 11
-unfoldable pub openedHead : ℕ → Host → ℕ → Head → ℕ → Prices → ℕ → Answer
-openedHead z h fault head budget prices room =
-    pick (not (inOrder z h)) (answered 1 0 h)
+unfoldable pub openedHead : Host → ℕ → Head → ℕ → Prices → ℕ → Answer
+openedHead h fault head budget prices room =
+    pick (not (inOrder h)) (answered 1 0 h)
     (pick (not (roomRight room)) (answered 2 0 h)
     (pick (h .program .active) (answered 3 0 h)
     (pick (not (eqb fault 0)) (answered fault 0 h)
@@ -54,8 +54,8 @@ openedHead z h fault head budget prices room =
     (answered 0 (prices .init) (withProgram h (begun h head budget prices room))))))))
 
 -- the head comes in its bytes
-unfoldable pub opened : ℕ → Host → List ℕ → ℕ → Prices → ℕ → Answer
-opened z h bytes budget prices room = openedHead z h (decode bytes .number) (decode bytes .head) budget prices room
+unfoldable pub opened : Host → List ℕ → ℕ → Prices → ℕ → Answer
+opened h bytes budget prices room = openedHead h (decode bytes .number) (decode bytes .head) budget prices room
 
 -- ---- pieces
 
@@ -72,11 +72,11 @@ abbrev pub pieced : ℕ → ℕ → Host → List ℕ → List ℕ → List ℕ 
 pieced n tally h stage input output = record { number = n; tally = tally; host = h; stage = stage; input = input; output = output }
 
 -- "A piece is copied into the input area after the bytes already come. Then instructions run in turn while their need has come."
-unfoldable pub accepted : ℕ → List ℕ → Host → List ℕ → List ℕ → List ℕ → List ℕ → Pieced
-accepted z disk h stage input output bytes =
+unfoldable pub accepted : List ℕ → Host → List ℕ → List ℕ → List ℕ → List ℕ → Pieced
+accepted disk h stage input output bytes =
     let k = h .program .came + length bytes in
     let area = put input (h .program .came) bytes in
-    let t = run z (settingOf h disk) area k (turnOf h stage output) in
+    let t = run (h .sector) (settingOf h disk) area k (turnOf h stage output) in
     pieced 0 (t .progress .tally) (withRun h k (t .progress)) (t .stage) area (t .output)
 
 -- "Pieces lend an input area of exactly the declared data length; pieces and interrupts lend an output area of the output length."
@@ -87,11 +87,11 @@ unfoldable pub outputRight : Host → List ℕ → Bool
 outputRight h output = eqb (length output) (h .program .terms .room)
 
 -- 1, 2 ("2 tests input and output areas only if a program is open"), 4, 12
-unfoldable pub piece : ℕ → List ℕ → Host → List ℕ → List ℕ → List ℕ → List ℕ → Pieced
-piece z disk h stage input output bytes =
-    let done = accepted z disk h stage input output bytes in
-    pick (not (inOrder z h)) (pieced 1 0 h stage input output)
-    (pick (not (areasRight z h disk stage)) (pieced 2 0 h stage input output)
+unfoldable pub piece : List ℕ → Host → List ℕ → List ℕ → List ℕ → List ℕ → Pieced
+piece disk h stage input output bytes =
+    let done = accepted disk h stage input output bytes in
+    pick (not (inOrder h)) (pieced 1 0 h stage input output)
+    (pick (not (areasRight h disk stage)) (pieced 2 0 h stage input output)
     (pick (both (h .program .active) (not (both (inputRight h input) (outputRight h output)))) (pieced 2 0 h stage input output)
     (pick (not (h .program .active)) (pieced 4 0 h stage input output)
     (pick (ltb (h .program .terms .head .length) (h .program .came + length bytes)) (pieced 12 0 h stage input output)
@@ -109,17 +109,17 @@ abbrev pub interrupted : ℕ → ℕ → Host → List ℕ → Interrupted
 interrupted n tally h output = record { number = n; tally = tally; host = h; output = output }
 
 -- "An interrupt writes record 20 .. for the first instruction not run"
-unfoldable pub stopped : ℕ → List ℕ → Host → List ℕ → Interrupted
-stopped z disk h output =
-    let t = failing z (settingOf h disk) 20 (turnOf h [] output) in
+unfoldable pub stopped : List ℕ → Host → List ℕ → Interrupted
+stopped disk h output =
+    let t = failing (h .sector) (settingOf h disk) 20 (turnOf h [] output) in
     interrupted 0 (t .progress .tally) (withRun h (h .program .came) (t .progress)) (t .output)
 
 -- 1, 2, 4; "if the program has ended or failed it answers 0 and changes nothing"
-unfoldable pub interrupt : ℕ → List ℕ → Host → List ℕ → Interrupted
-interrupt z disk h output =
-    let done = stopped z disk h output in
-    pick (not (inOrder z h)) (interrupted 1 0 h output)
-    (pick (not (diskRight z h disk)) (interrupted 2 0 h output)
+unfoldable pub interrupt : List ℕ → Host → List ℕ → Interrupted
+interrupt disk h output =
+    let done = stopped disk h output in
+    pick (not (inOrder h)) (interrupted 1 0 h output)
+    (pick (not (diskRight h disk)) (interrupted 2 0 h output)
     (pick (both (h .program .active) (not (outputRight h output))) (interrupted 2 0 h output)
     (pick (not (h .program .active)) (interrupted 4 0 h output)
     (pick (going (h .program .terms) (h .program .progress)) done (interrupted 0 (h .program .progress .tally) h output)))))
@@ -127,11 +127,11 @@ interrupt z disk h output =
 -- ---- what a program has reached
 
 -- the pair that an agreement would name; after a failure the starting pair
-unfoldable pub reachedPair : ℕ → List ℕ → Host → List ℕ → Pair
-reachedPair z disk h stage =
+unfoldable pub reachedPair : List ℕ → Host → List ℕ → Pair
+reachedPair disk h stage =
     let p = h .program .progress in
-    let starting = startingPair z (settingOf h disk) in
-    let running = runningPair z (settingOf h disk) p stage in
+    let starting = startingPair (h .sector) (settingOf h disk) in
+    let running = runningPair (h .sector) (settingOf h disk) p stage in
     pick (p .failed) starting running
 
 abbrev pub reachedAt : ℕ → Pair → Reached
@@ -141,10 +141,10 @@ unfoldable pub noPair : Pair
 noPair = record { size = 0; root = zeros 32 }
 
 -- 1, 2, 4, as a piece
-unfoldable pub reached : ℕ → List ℕ → Host → List ℕ → Reached
-reached z disk h stage =
-    let pair = reachedPair z disk h stage in
-    pick (not (inOrder z h)) (reachedAt 1 noPair)
-    (pick (not (areasRight z h disk stage)) (reachedAt 2 noPair)
+unfoldable pub reached : List ℕ → Host → List ℕ → Reached
+reached disk h stage =
+    let pair = reachedPair disk h stage in
+    pick (not (inOrder h)) (reachedAt 1 noPair)
+    (pick (not (areasRight h disk stage)) (reachedAt 2 noPair)
     (pick (not (h .program .active)) (reachedAt 4 noPair)
     (reachedAt 0 pair)))

@@ -1,4 +1,4 @@
--- Closing: what it answers and leaves, and the commit. z is the sector size. Assumes nothing.
+-- Closing: what it answers and leaves, and the commit. z is the sector size; the calls take the one that the host holds. Assumes nothing.
 use mathlib.Core.Bool.{Bool, not}
 use mathlib.Core.List.{List, [], _∷_, _++_}
 use Prim.Native.Nat.{ℕ, zero, suc, _-_, _*_, _/_, min}
@@ -68,22 +68,22 @@ unfoldable pub finalPlace : Place → ℕ → List ℕ → Place
 finalPlace p size slots = withSlots (withSize p size) (slots ++ zeros (64 - length slots))
 
 -- "final less starting size"
-unfoldable pub commit : ℕ → List ℕ → Host → List ℕ → Closed
-commit z disk h stage =
+unfoldable pub commit : List ℕ → Host → List ℕ → Closed
+commit disk h stage =
     let p = h .program .progress in
     let old = parent (settingOf h disk) in
-    let slots = finalSlots z (h .disk) (h .places) old (p .size) in
+    let slots = finalSlots (h .sector) (h .disk) (h .places) old (p .size) in
     let places = replaced (h .program .terms .head .contract) (finalPlace old (p .size) slots) (h .places) in
     closed 0 (p .tally) (pos (p .size) -ℤ pos (old .size)) (withProgram (withPlaces h places) noProgram)
-    (copiedBack z stage (p .staged) slots 0 (p .size / z) disk)
+    (copiedBack (h .sector) stage (p .staged) slots 0 (p .size / h .sector) disk)
 
 -- "when final size and root equal the starting ones .. closes with 0 whatever pair is given, and nothing is committed"; else "Agreement
 -- names final size and root", all 32 bytes; 14: "agreed size or root differs: changes dropped, program closed"
-unfoldable pub agreed : ℕ → List ℕ → Host → List ℕ → Pair → Closed
-agreed z disk h stage named =
-    let starting = startingPair z (settingOf h disk) in
-    let running = runningPair z (settingOf h disk) (h .program .progress) stage in
-    let done = commit z disk h stage in
+unfoldable pub agreed : List ℕ → Host → List ℕ → Pair → Closed
+agreed disk h stage named =
+    let starting = startingPair (h .sector) (settingOf h disk) in
+    let running = runningPair (h .sector) (settingOf h disk) (h .program .progress) stage in
+    let done = commit disk h stage in
     pick (samePair running starting) (givenUp 0 disk h)
     (pick (samePair named running) done
     (givenUp 14 disk h))
@@ -93,11 +93,11 @@ unfoldable pub unfinished : Program → Bool
 unfinished g = either (g .progress .failed) (going (g .terms) (g .progress))
 
 -- "Closing gives up or agrees." 1, 2, 4; 13: "agreement to a program not ended, or failed"
-unfoldable pub close : ℕ → List ℕ → Host → List ℕ → Bool → ℕ → List ℕ → Closed
-close z disk h stage agree size root =
-    let done = agreed z disk h stage (pairing size root) in
-    pick (not (inOrder z h)) (closed 1 0 (pos 0) h disk)
-    (pick (not (areasRight z h disk stage)) (closed 2 0 (pos 0) h disk)
+unfoldable pub close : List ℕ → Host → List ℕ → Bool → ℕ → List ℕ → Closed
+close disk h stage agree size root =
+    let done = agreed disk h stage (pairing size root) in
+    pick (not (inOrder h)) (closed 1 0 (pos 0) h disk)
+    (pick (not (areasRight h disk stage)) (closed 2 0 (pos 0) h disk)
     (pick (not (h .program .active)) (closed 4 0 (pos 0) h disk)
     (pick (not agree) (givenUp 0 disk h)
     (pick (unfinished (h .program)) (closed 13 0 (pos 0) h disk)

@@ -6,6 +6,7 @@ use Rattle.rules.specs.Demand2.{Demand2}
 use Rattle.rules.specs.Demand3.{Demand3}
 use Rattle.rules.specs.Padded.{ShortIds}
 use Rattle.rules.specs.Unchanged.{NothingToAgree}
+use Rattle.rules.specs.Sectors.{FullSectors}
 
 pub record Demands : Type 0 where
   -- "No input breaks it."
@@ -18,3 +19,5 @@ pub record Demands : Type 0 where
   pub ids : ShortIds
   -- "Nothing changed, nothing to agree."
   pub unchanged : NothingToAgree
+  -- "Full sectors."
+  pub sectors : FullSectors

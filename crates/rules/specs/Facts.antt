@@ -5,6 +5,7 @@ use Prim.Native.Nat.{ℕ, _*_, _/_, _≤_, _<_}
 use lib.ListN.{length}
 use lib.Dec.{ltb}
 use Rattle.sia.specs.Encode.{every}
+use Rattle.area.specs.Slots.{Size}
 use Rattle.host.specs.Places.{whose, taken}
 use Rattle.host.specs.Order.{placeInOrder, termsInOrder}
 use Rattle.host.specs.Facts.{Orderly}
@@ -28,7 +29,7 @@ InOrder z s p = Orderly z (s .sectors) (s .copies) (s .places) (s .terms) p
 
 -- the areas' numbers that a host in order has
 pub record Lent (z : ℕ) (s : Setting) : Type 0 where
-  pub some : 0 < z
+  pub size : Size z
   pub few : s .copies ≤ 16
   pub most : s .sectors ≤ 64
 

@@ -17,6 +17,7 @@ pub mod Outcome
 pub mod Renaming
 pub mod Padded
 pub mod Unchanged
+pub mod Sectors
 pub mod Demand1
 pub mod Demand2
 pub mod Demand3

@@ -28,23 +28,23 @@ use Rattle.sia.specs.declared.Instruction.{Instruction}
 use Rattle.host.specs.declared.Host.{Host}
 
 -- every call answers 1
-pub record Refused (z : ℕ) (h : Host) (a : Areas) : Type 0 where
-  pub forming : (id : List ℕ) → formed z h id .number ≡ 1
-  pub dropping : (id : List ℕ) → dropped z h id .number ≡ 1
-  pub opening : (o : Opening) → opens z h o .number ≡ 1
-  pub piece : (bytes : List ℕ) → gives z h a bytes .number ≡ 1
-  pub interrupt : stops z h a .number ≡ 1
-  pub reached : reaches z h a .number ≡ 1
-  pub closing : (g : Agreement) → closes z h a g .number ≡ 1
+pub record Refused (h : Host) (a : Areas) : Type 0 where
+  pub forming : (id : List ℕ) → formed h id .number ≡ 1
+  pub dropping : (id : List ℕ) → dropped h id .number ≡ 1
+  pub opening : (o : Opening) → opens h o .number ≡ 1
+  pub piece : (bytes : List ℕ) → gives h a bytes .number ≡ 1
+  pub interrupt : stops h a .number ≡ 1
+  pub reached : reaches h a .number ≡ 1
+  pub closing : (g : Agreement) → closes h a g .number ≡ 1
 
 -- a host in order stays in order, its arrays as declared, whatever the call; the bytes of a head are bytes
-pub record Kept (z : ℕ) (h : Host) (a : Areas) : Type 0 where
-  pub forming : (id : List ℕ) → Ready z (formed z h id .host)
-  pub dropping : (id : List ℕ) → Ready z (dropped z h id .host)
-  pub opening : (o : Opening) → Bytes (o .bytes) → Ready z (opens z h o .host)
-  pub piece : (bytes : List ℕ) → Ready z (gives z h a bytes .host)
-  pub interrupt : Ready z (stops z h a .host)
-  pub closing : (g : Agreement) → Ready z (closes z h a g .host)
+pub record Kept (h : Host) (a : Areas) : Type 0 where
+  pub forming : (id : List ℕ) → Ready (formed h id .host)
+  pub dropping : (id : List ℕ) → Ready (dropped h id .host)
+  pub opening : (o : Opening) → Bytes (o .bytes) → Ready (opens h o .host)
+  pub piece : (bytes : List ℕ) → Ready (gives h a bytes .host)
+  pub interrupt : Ready (stops h a .host)
+  pub closing : (g : Agreement) → Ready (closes h a g .host)
 
 -- "A failure ends the program and otherwise only writes its record.": its number, cost 0, the starting pair, both counts 0
 pub record Failed (z : ℕ) (s : Setting) (number : ℕ) (t after : Turn) : Type 0 where
@@ -90,16 +90,16 @@ pub record Dropped (a : Areas) (h : Host) (after : Closed) : Type 0 where
 
 -- a close commits: the parent has the size, root and bytes that it was read with; every other contract is as it was, and so is each slot
 -- into which no staged position goes ("No other byte changes."); the tally, and the growth, "final less starting size"
-pub record Committed (z : ℕ) (h : Host) (a : Areas) (after : Closed) : Type 0 where
-  pub parent : pairOf z (after .disk) (parentIn h (after .host .places)) ≡ running z h a
-  pub sectors : sectorsOf z (after .disk) (parentIn h (after .host .places)) ≡ runningSectors z h a
+pub record Committed (h : Host) (a : Areas) (after : Closed) : Type 0 where
+  pub parent : pairOf (h .sector) (after .disk) (parentIn h (after .host .places)) ≡ running h a
+  pub sectors : sectorsOf (h .sector) (after .disk) (parentIn h (after .host .places)) ≡ runningSectors h a
   pub others : (id : List ℕ) → same (h .program .terms .head .contract) id ≡ false
       → (whose id (after .host .places) ≡ whose id (h .places))
-      × (sectorsOf z (after .disk) (whose id (h .places)) ≡ sectorsOf z (a .disk) (whose id (h .places)))
+      × (sectorsOf (h .sector) (after .disk) (whose id (h .places)) ≡ sectorsOf (h .sector) (a .disk) (whose id (h .places)))
   pub slots : (n : ℕ)
-      → ((at : ℕ) → at < h .program .progress .size / z → eqb (getD (h .program .progress .staged) at none) none ≡ false
+      → ((at : ℕ) → at < h .program .progress .size / h .sector → eqb (getD (h .program .progress .staged) at none) none ≡ false
       → getD (parentIn h (after .host .places) .slots) at 0 ≡ n → ⊥)
-      → part (after .disk) (n * z) z ≡ part (a .disk) (n * z) z
+      → part (after .disk) (n * h .sector) (h .sector) ≡ part (a .disk) (n * h .sector) (h .sector)
   pub long : length (after .disk) ≡ length (a .disk)
   pub tally : after .tally ≡ h .program .progress .tally
   pub growth : after .growth ≡ pos (h .program .progress .size) -ℤ pos (parentIn h (h .places) .size)

@@ -1,5 +1,5 @@
 -- "No padded short ids.": forming refuses an identifier of the old service, four bytes filled with zeros, and "Contracts already held stay
--- usable." z is the sector size. Assumes nothing.
+-- usable." Assumes nothing.
 use mathlib.Core.Path.{_≡_}
 use mathlib.Core.Bool.{Bool, true, false}
 use mathlib.Core.List.{List}
@@ -20,24 +20,24 @@ abbrev pub holds : Host → List ℕ → Bool
 holds h id = whose id (h .places) .held
 
 -- no call forms a contract of that id: one that is held afterwards was held before
-pub record NoneFormed (z : ℕ) (h : Host) (a : Areas) (id : List ℕ) : Type 0 where
-  pub forming : (other : List ℕ) → holds (formed z h other .host) id ≡ true → holds h id ≡ true
-  pub dropping : (other : List ℕ) → holds (dropped z h other .host) id ≡ true → holds h id ≡ true
-  pub opening : (o : Opening) → holds (opens z h o .host) id ≡ true → holds h id ≡ true
-  pub piece : (bytes : List ℕ) → holds (gives z h a bytes .host) id ≡ true → holds h id ≡ true
-  pub interrupt : holds (stops z h a .host) id ≡ true → holds h id ≡ true
-  pub closing : (g : Agreement) → holds (closes z h a g .host) id ≡ true → holds h id ≡ true
+pub record NoneFormed (h : Host) (a : Areas) (id : List ℕ) : Type 0 where
+  pub forming : (other : List ℕ) → holds (formed h other .host) id ≡ true → holds h id ≡ true
+  pub dropping : (other : List ℕ) → holds (dropped h other .host) id ≡ true → holds h id ≡ true
+  pub opening : (o : Opening) → holds (opens h o .host) id ≡ true → holds h id ≡ true
+  pub piece : (bytes : List ℕ) → holds (gives h a bytes .host) id ≡ true → holds h id ≡ true
+  pub interrupt : holds (stops h a .host) id ≡ true → holds h id ≡ true
+  pub closing : (g : Agreement) → holds (closes h a g .host) id ≡ true → holds h id ≡ true
 
 pub record ShortIds : Type 0 where
   pub padding : (id : List ℕ) → Padding id
   -- the ReadOnly word is not one: 5 is its answer
   pub word : padded readOnly ≡ false
-  pub fifteen : (z : ℕ) (h : Host) (id : List ℕ) → Fifteen z h id
+  pub fifteen : (h : Host) (id : List ℕ) → Fifteen h id
   -- no call forms a contract with a padded id, and a host that is made holds none
   pub fresh : (z disk stage : ℕ) (id : List ℕ) → holds (freshed z disk stage .host) id ≡ false
-  pub none : (z : ℕ) (h : Host) (a : Areas) (id : List ℕ) → padded id ≡ true → NoneFormed z h a id
+  pub none : (h : Host) (a : Areas) (id : List ℕ) → padded id ≡ true → NoneFormed h a id
   -- a contract that is held under a padded id is found, opened, changed, closed and dropped as under any other: exchange the two, and every
   -- call answers and leaves the same
-  pub alike : (r : List ℕ → List ℕ) → Renaming r → (z : ℕ) (h : Host) (a : Areas) → Alike z r h a
+  pub alike : (r : List ℕ → List ℕ) → Renaming r → (h : Host) (a : Areas) → Alike r h a
   pub exchange : (one two : List ℕ) → length one ≡ length two → same readOnly one ≡ false → same readOnly two ≡ false
       → Renaming (exchanged one two)

@@ -78,7 +78,7 @@ sourceOf z s p Unknown key = seen []
 unfoldable pub badSpan : ℕ → ℕ → ℕ → ℕ → Bool
 badSpan z end at n = either (eqb n 0) (either (ltb end (at + n)) (ltb z (at % z + n)))
 
--- "Truncate to no multiple of 4,096 or by more than one sector"
+-- "Truncate to no multiple of 4,096 or by more than one sector", where "4,096" is read "as the host's size"
 unfoldable pub badSize : ℕ → ℕ → ℕ → Bool
 badSize z size new = either (not (eqb (new % z) 0)) (either (ltb (size + z) new) (ltb (new + z) size))
 

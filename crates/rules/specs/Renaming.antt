@@ -1,5 +1,5 @@
--- Every call under new ids: it may look at which ids are equal and which is the ReadOnly word, and at nothing else of an id. z is the sector
--- size. Assumes nothing.
+-- Every call under new ids: it may look at which ids are equal and which is the ReadOnly word, and at nothing else of an id. Assumes
+-- nothing.
 use mathlib.Core.Path.{_≡_}
 use mathlib.Core.List.{List, [], _∷_, _++_}
 use Prim.Native.Nat.{ℕ}
@@ -47,23 +47,23 @@ module _ (r : List ℕ → List ℕ) where
 -- ---- what is promised
 
 -- each call, made under the new ids, answers and leaves the same, under the new ids
-pub record Alike (z : ℕ) (r : List ℕ → List ℕ) (h : Host) (a : Areas) : Type 0 where
-  pub order : inOrder z (hostAs r h) ≡ inOrder z h
+pub record Alike (r : List ℕ → List ℕ) (h : Host) (a : Areas) : Type 0 where
+  pub order : inOrder (hostAs r h) ≡ inOrder h
   -- forming asks how an id looks, and nothing else does
-  pub forming : (id : List ℕ) → padded (r id) ≡ padded id → let x = formed z h id in
-      formed z (hostAs r h) (r id) ≡ Contract.answered (x .number) (hostAs r (x .host))
-  pub dropping : (id : List ℕ) → let x = dropped z h id in
-      dropped z (hostAs r h) (r id) ≡ Contract.answered (x .number) (hostAs r (x .host))
-  pub opening : (o : Opening) → let x = opens z h o in
-      opens z (hostAs r h) (openingAs r o) ≡ answered (x .number) (x .tally) (hostAs r (x .host))
+  pub forming : (id : List ℕ) → padded (r id) ≡ padded id → let x = formed h id in
+      formed (hostAs r h) (r id) ≡ Contract.answered (x .number) (hostAs r (x .host))
+  pub dropping : (id : List ℕ) → let x = dropped h id in
+      dropped (hostAs r h) (r id) ≡ Contract.answered (x .number) (hostAs r (x .host))
+  pub opening : (o : Opening) → let x = opens h o in
+      opens (hostAs r h) (openingAs r o) ≡ answered (x .number) (x .tally) (hostAs r (x .host))
   -- the input areas aside, which hold what they were given
   pub piece : (input bytes bytes′ : List ℕ) → length input ≡ length (a .input) → length bytes′ ≡ length bytes
       → AsksAs r (h .program .terms .head) (put (a .input) (h .program .came) bytes) (put input (h .program .came) bytes′)
-      → let x = gives z h a bytes in
-      let y = gives z (hostAs r h) (record { disk = a .disk; stage = a .stage; input = input; output = a .output }) bytes′ in
+      → let x = gives h a bytes in
+      let y = gives (hostAs r h) (record { disk = a .disk; stage = a .stage; input = input; output = a .output }) bytes′ in
       y ≡ pieced (x .number) (x .tally) (hostAs r (x .host)) (x .stage) (y .input) (x .output)
-  pub interrupt : let x = stops z h a in
-      stops z (hostAs r h) a ≡ interrupted (x .number) (x .tally) (hostAs r (x .host)) (x .output)
-  pub reached : reaches z (hostAs r h) a ≡ reaches z h a
-  pub closing : (g : Agreement) → let x = closes z h a g in
-      closes z (hostAs r h) a g ≡ closed (x .number) (x .tally) (x .growth) (hostAs r (x .host)) (x .disk)
+  pub interrupt : let x = stops h a in
+      stops (hostAs r h) a ≡ interrupted (x .number) (x .tally) (hostAs r (x .host)) (x .output)
+  pub reached : reaches (hostAs r h) a ≡ reaches h a
+  pub closing : (g : Agreement) → let x = closes h a g in
+      closes (hostAs r h) a g ≡ closed (x .number) (x .tally) (x .growth) (hostAs r (x .host)) (x .disk)

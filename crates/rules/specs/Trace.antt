@@ -36,36 +36,36 @@ abbrev pub lentTo : Host → Areas → Pieced
 lentTo h a = pieced 0 (h .program .progress .tally) h (a .stage) (a .input) (a .output)
 
 -- what pieces leave that are given in turn: "Areas are lent back as they were left, with no interrupt and no other call between."
-unfoldable pub fed : ℕ → List ℕ → Pieced → List (List ℕ) → Pieced
-fed z disk w [] = w
-fed z disk w (b ∷ bs) = fed z disk (piece z disk (w .host) (w .stage) (w .input) (w .output) b) bs
+unfoldable pub fed : List ℕ → Pieced → List (List ℕ) → Pieced
+fed disk w [] = w
+fed disk w (b ∷ bs) = fed disk (piece disk (w .host) (w .stage) (w .input) (w .output) b) bs
 
 -- each of them is answered with 0
-abbrev pub AllAccepted : ℕ → List ℕ → Pieced → List (List ℕ) → Type 0
-AllAccepted z disk w [] = Unit {0}
-AllAccepted z disk w (b ∷ bs) =
-    (piece z disk (w .host) (w .stage) (w .input) (w .output) b .number ≡ 0)
-    × AllAccepted z disk (piece z disk (w .host) (w .stage) (w .input) (w .output) b) bs
+abbrev pub AllAccepted : List ℕ → Pieced → List (List ℕ) → Type 0
+AllAccepted disk w [] = Unit {0}
+AllAccepted disk w (b ∷ bs) =
+    (piece disk (w .host) (w .stage) (w .input) (w .output) b .number ≡ 0)
+    × AllAccepted disk (piece disk (w .host) (w .stage) (w .input) (w .output) b) bs
 
 -- a head is opened and then pieces are given
-abbrev pub visited : ℕ → Host → Opening → Areas → List (List ℕ) → Pieced
-visited z h o a bs = fed z (a .disk) (lentTo (opens z h o .host) a) bs
+abbrev pub visited : Host → Opening → Areas → List (List ℕ) → Pieced
+visited h o a bs = fed (a .disk) (lentTo (opens h o .host) a) bs
 
 -- the areas as pieces left them
 abbrev pub leftBy : Areas → Pieced → Areas
 leftBy a w = record { disk = a .disk; stage = w .stage; input = w .input; output = w .output }
 
 -- a close after pieces
-abbrev pub closesAfter : ℕ → Areas → Pieced → Agreement → Closed
-closesAfter z a w g = closes z (w .host) (leftBy a w) g
+abbrev pub closesAfter : Areas → Pieced → Agreement → Closed
+closesAfter a w g = closes (w .host) (leftBy a w) g
 
 -- what k bytes leave
 unfoldable pub made : Host → ℕ → Turn → List ℕ → Pieced
 made h k t area = pieced 0 (t .progress .tally) (withRun h k (t .progress)) (t .stage) area (t .output)
 
 -- the state once k bytes have come: the run on the whole data, stopped at the first need that has not come
-unfoldable pub after : ℕ → Host → Areas → List ℕ → ℕ → Pieced
-after z h a all k = made h k (run z (settingOf h (a .disk)) all k (turnOf h (a .stage) (a .output))) (put (a .input) 0 (take k all))
+unfoldable pub after : Host → Areas → List ℕ → ℕ → Pieced
+after h a all k = made h k (run (h .sector) (settingOf h (a .disk)) all k (turnOf h (a .stage) (a .output))) (put (a .input) 0 (take k all))
 
 -- ---- records
 
@@ -100,20 +100,20 @@ ripe s k i (suc n) =
     pick (leb (need (s .terms .head .length) (getD (s .terms .head .instructions) i noInstruction)) k) more 0
 
 -- the records of the whole run: what the data gives when all of it has come
-unfoldable pub wholeRun : ℕ → Host → Areas → List ℕ → List (List ℕ)
-wholeRun z h a all =
+unfoldable pub wholeRun : Host → Areas → List ℕ → List (List ℕ)
+wholeRun h a all =
     let d = h .program .terms .head in
-    trail z (settingOf h (a .disk)) all (d .length) (d .count) (turnOf h (a .stage) (a .output))
+    trail (h .sector) (settingOf h (a .disk)) all (d .length) (d .count) (turnOf h (a .stage) (a .output))
 
 -- m "counts, from the front up to and including the first failure, the instructions which, with all before them, need only bytes already
 -- come"
-unfoldable pub met : ℕ → Host → Areas → List ℕ → ℕ → ℕ
-met z h a all k =
-    min (ripe (settingOf h (a .disk)) k (h .program .progress .ran) (h .program .terms .head .count)) (length (wholeRun z h a all))
+unfoldable pub met : Host → Areas → List ℕ → ℕ → ℕ
+met h a all k =
+    min (ripe (settingOf h (a .disk)) k (h .program .progress .ran) (h .program .terms .head .count)) (length (wholeRun h a all))
 
 -- "the first m": the records once k bytes have come
-abbrev pub firstRecords : ℕ → Host → Areas → List ℕ → ℕ → List (List ℕ)
-firstRecords z h a all k = take (met z h a all k) (wholeRun z h a all)
+abbrev pub firstRecords : Host → Areas → List ℕ → ℕ → List (List ℕ)
+firstRecords h a all k = take (met h a all k) (wholeRun h a all)
 
 -- how many instructions of an open program have left a record
 abbrev pub recordsIn : Host → ℕ
@@ -138,8 +138,8 @@ charges z s input k (suc n) t =
     pick (ready s k t) more 0
 
 -- of a program with k bytes come, from its opening
-abbrev pub charged : ℕ → Host → Areas → List ℕ → ℕ → ℕ
-charged z h a all k = charges z (settingOf h (a .disk)) all k (h .program .terms .head .count) (turnOf h (a .stage) (a .output))
+abbrev pub charged : Host → Areas → List ℕ → ℕ → ℕ
+charged h a all k = charges (h .sector) (settingOf h (a .disk)) all k (h .program .terms .head .count) (turnOf h (a .stage) (a .output))
 
 -- ---- contracts
 
@@ -152,16 +152,16 @@ abbrev pub parentIn : Host → List Place → Place
 parentIn h ps = whose (h .program .terms .head .contract) ps
 
 -- the parent as committed, and so as it was when the program was opened: its size and root
-abbrev pub starting : ℕ → Host → Areas → Pair
-starting z h a = startingPair z (settingOf h (a .disk))
+abbrev pub starting : Host → Areas → Pair
+starting h a = startingPair (h .sector) (settingOf h (a .disk))
 
 -- the parent as it is read now: its size and root, and its sectors
-abbrev pub running : ℕ → Host → Areas → Pair
-running z h a = runningPair z (settingOf h (a .disk)) (h .program .progress) (a .stage)
+abbrev pub running : Host → Areas → Pair
+running h a = runningPair (h .sector) (settingOf h (a .disk)) (h .program .progress) (a .stage)
 
-abbrev pub runningSectors : ℕ → Host → Areas → List ℕ
-runningSectors z h a = whole z (a .disk) (a .stage) (parentSpots z (settingOf h (a .disk)) (h .program .progress))
+abbrev pub runningSectors : Host → Areas → List ℕ
+runningSectors h a = whole (h .sector) (a .disk) (a .stage) (parentSpots (h .sector) (settingOf h (a .disk)) (h .program .progress))
 
 -- "final size and root equal the starting ones": a matter of the two pairs, not of which instructions ran
-abbrev pub Unchanged : ℕ → Host → Areas → Type 0
-Unchanged z h a = running z h a ≡ starting z h a
+abbrev pub Unchanged : Host → Areas → Type 0
+Unchanged h a = running h a ≡ starting h a

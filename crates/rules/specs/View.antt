@@ -52,11 +52,11 @@ unfoldable pub withRun : Host → ℕ → Progress → Host
 withRun h k p = withProgram h (withProgress (withCame (h .program) k) p)
 
 -- "a call that lends them must lend the same lengths"
-unfoldable pub diskRight : ℕ → Host → List ℕ → Bool
-diskRight z h disk = eqb (length disk) (h .disk * z)
+unfoldable pub diskRight : Host → List ℕ → Bool
+diskRight h disk = eqb (length disk) (h .disk * h .sector)
 
-unfoldable pub areasRight : ℕ → Host → List ℕ → List ℕ → Bool
-areasRight z h disk stage = both (diskRight z h disk) (eqb (length stage) (h .stage * z))
+unfoldable pub areasRight : Host → List ℕ → List ℕ → Bool
+areasRight h disk stage = both (diskRight h disk) (eqb (length stage) (h .stage * h .sector))
 
 -- ---- the parent
 

@@ -1,9 +1,9 @@
--- What a caller lends and says, and the calls with it; hosts that code can hold; and the visits that the demands speak of. z is the sector
--- size. Assumes nothing.
+-- What a caller lends and says, and the calls with it; hosts that code can hold; and the visits that the demands speak of. Assumes
+-- nothing.
 use mathlib.Core.Path.{_≡_}
 use mathlib.Core.Bool.{Bool, true, false}
 use mathlib.Core.List.{List, [], _∷_}
-use Prim.Native.Nat.{ℕ, _%_, _≤_, _<_}
+use Prim.Native.Nat.{ℕ}
 use lib.ListN.{length}
 use Rattle.area.specs.Little.{Bytes}
 use Rattle.sia.specs.Decode.{decode}
@@ -48,20 +48,20 @@ named g = pairing (g .size) (g .root)
 
 -- ---- the calls with these
 
-abbrev pub opens : ℕ → Host → Opening → Answer
-opens z h o = opened z h (o .bytes) (o .budget) (o .prices) (o .room)
+abbrev pub opens : Host → Opening → Answer
+opens h o = opened h (o .bytes) (o .budget) (o .prices) (o .room)
 
-abbrev pub gives : ℕ → Host → Areas → List ℕ → Pieced
-gives z h a bytes = piece z (a .disk) h (a .stage) (a .input) (a .output) bytes
+abbrev pub gives : Host → Areas → List ℕ → Pieced
+gives h a bytes = piece (a .disk) h (a .stage) (a .input) (a .output) bytes
 
-abbrev pub stops : ℕ → Host → Areas → Interrupted
-stops z h a = interrupt z (a .disk) h (a .output)
+abbrev pub stops : Host → Areas → Interrupted
+stops h a = interrupt (a .disk) h (a .output)
 
-abbrev pub reaches : ℕ → Host → Areas → Reached
-reaches z h a = reached z (a .disk) h (a .stage)
+abbrev pub reaches : Host → Areas → Reached
+reaches h a = reached (a .disk) h (a .stage)
 
-abbrev pub closes : ℕ → Host → Areas → Agreement → Closed
-closes z h a g = close z (a .disk) h (a .stage) (g .agree) (g .size) (g .root)
+abbrev pub closes : Host → Areas → Agreement → Closed
+closes h a g = close (a .disk) h (a .stage) (g .agree) (g .size) (g .root)
 
 -- ---- hosts that code can hold
 
@@ -70,26 +70,20 @@ abbrev pub Shaped : List Place → Type 0
 Shaped [] = Unit {0}
 Shaped (p ∷ ps) = (length (p .slots) ≡ 64) × Shaped ps
 
--- a host whose arrays are as declared; there are bytes in a sector
-pub record Declared (z : ℕ) (h : Host) : Type 0 where
-  pub some : 0 < z
+-- a host whose arrays are as declared
+pub record Declared (h : Host) : Type 0 where
   pub places : Shaped (h .places)
   pub staged : length (h .program .progress .staged) ≡ 64
 
 -- a host that can be called: in order, its arrays as declared
-pub record Ready (z : ℕ) (h : Host) : Type 0 where
-  pub order : inOrder z h ≡ true
-  pub declared : Declared z h
-
--- a sector is whole segments, and no larger than this
-pub record Sectors (z : ℕ) : Type 0 where
-  pub segments : z % 64 ≡ 0
-  pub most : z ≤ 4294967296
+pub record Ready (h : Host) : Type 0 where
+  pub order : inOrder h ≡ true
+  pub declared : Declared h
 
 -- a host with a program that an agreement can close, and its areas: in order, the lengths right, a program open that has ended and not failed
-pub record Finished (z : ℕ) (h : Host) (a : Areas) : Type 0 where
-  pub order : inOrder z h ≡ true
-  pub areas : areasRight z h (a .disk) (a .stage) ≡ true
+pub record Finished (h : Host) (a : Areas) : Type 0 where
+  pub order : inOrder h ≡ true
+  pub areas : areasRight h (a .disk) (a .stage) ≡ true
   pub live : h .program .active ≡ true
   pub good : h .program .progress .failed ≡ false
   pub ended : going (h .program .terms) (h .program .progress) ≡ false
@@ -97,12 +91,11 @@ pub record Finished (z : ℕ) (h : Host) (a : Areas) : Type 0 where
 -- ---- visits
 
 -- "Take any host in order, any head it opens and data of the declared length": a host that is not in order opens none
-pub record Visit (z : ℕ) (h : Host) (o : Opening) (a : Areas) (all : List ℕ) : Type 0 where
-  pub sectors : Sectors z
-  pub declared : Declared z h
+pub record Visit (h : Host) (o : Opening) (a : Areas) (all : List ℕ) : Type 0 where
+  pub declared : Declared h
   pub head : Bytes (o .bytes)
-  pub opening : opens z h o .number ≡ 0
-  pub areas : areasRight z h (a .disk) (a .stage) ≡ true
+  pub opening : opens h o .number ≡ 0
+  pub areas : areasRight h (a .disk) (a .stage) ≡ true
   pub input : length (a .input) ≡ decode (o .bytes) .head .length
   pub output : length (a .output) ≡ o .room
   pub long : length all ≡ decode (o .bytes) .head .length

@@ -11,6 +11,7 @@ use borrow.Author.Tests.{leb-true, eqb-true, le-leb, eq-eqb}
 use Rattle.area.specs.Pick.{pick, both}
 use Rattle.area.proofs.Laws.Pick.{by, picks, skips, never, both-left, both-right, both-join}
 use Rattle.sia.specs.Names.{opOf}
+use Rattle.area.proofs.Laws.Slots as Slots
 use Rattle.host.specs.Places.{whose}
 use Rattle.host.specs.Order.{stagedInOrder, parentInOrder, termsInOrder, progressInOrder}
 use Rattle.host.specs.Facts.{Staged}
@@ -92,7 +93,7 @@ ran-good z s p op a n bytes L e lt q g =
     let o = g .orderly in
     let c : s .sectors * z ≤ 64 * z = mul-le-mul-right {m = s .sectors} {n = 64} z (L .most) in
     let w = whole-sectors z (p .size) (o .whole) in
-    let u : p .size / z ≤ 64 = le-of-mul-le-mul-right {m = p .size / z} {n = 64} {k = z} (omega (arith, w, o .within, c)) (L .some) in
+    let u : p .size / z ≤ 64 = le-of-mul-le-mul-right {m = p .size / z} {n = 64} {k = z} (omega (arith, w, o .within, c)) (Slots.some z (L .size)) in
     record {
       orderly = record {
         ran = omega arith;
@@ -100,7 +101,7 @@ ran-good z s p op a n bytes L e lt q g =
         fits = omega (arith, q .room, skips {A = ℕ} (p .failed) 0 72 e);
         whole = size-whole z s p op a n q (o .whole);
         within = q .fits;
-        staged = effect-kept z s p (startOf z s) (L .some) (L .few) (omega (arith, L .most, g .entries)) (o .whole) (omega (arith, u, g .entries)) (o .staged) bytes op a n q;
+        staged = effect-kept z s p (startOf z s) (Slots.some z (L .size)) (L .few) (omega (arith, L .most, g .entries)) (o .whole) (omega (arith, u, g .entries)) (o .staged) bytes op a n q;
       };
       terms = terms-size (s .places) (s .terms) (p .size) _ (λ r. size-read op (p .size) a (not-both (changes op) (q .allowed) r)) (g .terms);
       entries = effect-length z (groundOf s) (p .size) op a _ ∙ g .entries;

@@ -24,7 +24,6 @@ use Rattle.rules.specs.Plan.{Source, spots, sourceOf, reads, badSpan, ba
 use Rattle.rules.specs.Effect.{groundOf, effect}
 use Rattle.rules.specs.Record.{pairOf, startingPair, runningPair, recordBytes, failureBytes, outputOf, successBytes}
 use Rattle.rules.specs.Run.{failedProgress, failing, ranProgress, succeeding, stepped}
-use Rattle.rules.specs.Visit.{Sectors}
 use Rattle.rules.specs.Trace.{recordOf}
 use Rattle.rules.specs.Facts.{Good, Solid, valid}
 use Rattle.rules.proofs.Laws.Effects.{passes, neither, Passed, passed, whole-sectors}
@@ -33,6 +32,7 @@ use Rattle.rules.proofs.Laws.Spots.{every-at, source-valid, few-spots}
 use Rattle.sia.specs.declared.Op.{Op}
 use Rattle.sia.specs.declared.Op.the-variants.{Read, ReadSector, Write, Copy, Swap, Truncate, Unknown}
 use Rattle.sia.specs.declared.Instruction.{Instruction}
+use Rattle.area.proofs.Laws.Slots as Slots
 use Rattle.host.specs.declared.Progress.{Progress}
 use Rattle.rules.specs.declared.Spot.{Spot}
 use Rattle.rules.specs.declared.Pair.{Pair}
@@ -127,26 +127,24 @@ some-spots z zero at len b =
     never (sym (eq-eqb len 0 none) ∙ x .0)
 some-spots z (suc n) at len b = omega arith
 
-pub length-proof : (z : ℕ) (s : Setting) (stage : List ℕ) (from : Source) (a : Args) (asked : Bool) → Sectors z → Solid z s → length stage ≡ s .copies * z
+pub length-proof : (z : ℕ) (s : Setting) (stage : List ℕ) (from : Source) (a : Args) (asked : Bool) → Solid z s → length stage ≡ s .copies * z
     → every (valid s) (spots from) ≡ true → length (spots from) ≤ 64 → (asked ≡ true → 0 < length (spots from))
     → length (pick asked (rangeProof z (s .disk) stage (spots from) (a .first) (a .len)) []) ≡ 32 * proofCount z asked from a
 unfolding rangeProof rangeCount proofCount pick
-length-proof z s stage from a true sectors solid e v few some =
+length-proof z s stage from a true solid e v few some =
     let n = length (spots from) in
     let q = z / 64 in
-    let m = sectors .segments in
-    let most = sectors .most in
-    let pos = solid .lent .some in
-    let whole-z : z ≡ 64 * (z / 64) = omega arith in
+    let size = solid .lent .size in
+    let whole-z : z ≡ 64 * (z / 64) = omega (arith, size .segments) in
     let w : length (whole z (s .disk) stage (spots from)) ≡ 64 * (length (spots from) * (z / 64)) =
     length-whole z s stage (spots from) (solid .disk) e v ∙ ap (λ (x : ℕ). length (spots from) * x) whole-z ∙ mul-left-comm (length (spots from)) 64 (z / 64) in
     let k : length (whole z (s .disk) stage (spots from)) / 64 ≡ segments z (length (spots from)) = omega (arith, w) in
-    let one : 0 < z / 64 = omega arith in
+    let one : 0 < z / 64 = omega (arith, size .least) in
     let lo = mul-le-mul-right {m = 1} {n = length (spots from)} (z / 64) (some refl) in
     let hi = mul-le-mul-right {m = length (spots from)} {n = 64} (z / 64) few in
-    proofs .proof-long (whole z (s .disk) stage (spots from)) (a .first / 64) ((a .first + a .len) / 64) (omega (arith, k, lo, one-mul (z / 64))) (omega (arith, k, hi))
+    proofs .proof-long (whole z (s .disk) stage (spots from)) (a .first / 64) ((a .first + a .len) / 64) (omega (arith, k, lo, one-mul (z / 64))) (omega (arith, k, hi, size .most))
     ∙ ap (λ (x : ℕ). 32 * count x (a .first / 64) ((a .first + a .len) / 64)) k
-length-proof z s stage from a false sectors solid e v few some = refl
+length-proof z s stage from a false solid e v few some = refl
 
 length-record : (number cost : ℕ) (pair : Pair) (hashes : ℕ) (proof : List ℕ) (count : ℕ) (output : List ℕ) → length (pair .root) ≡ 32 → length proof ≡ 32 * hashes
     → length output ≡ count → length (recordBytes number cost pair hashes proof count output) ≡ 72 + 32 * hashes + count
@@ -185,32 +183,32 @@ well-formed z s p i l e =
 
 -- ---- a record is as long as its numbers say
 
-success-length : (z : ℕ) (s : Setting) (p : Progress) (asked : Bool) (op : Op) (a : Args) (n count : ℕ) (bytes : List ℕ) → Sectors z → Solid z s → Good z s p
+success-length : (z : ℕ) (s : Setting) (p : Progress) (asked : Bool) (op : Op) (a : Args) (n count : ℕ) (bytes : List ℕ) → Solid z s → Good z s p
     → length bytes ≡ s .copies * z → Passed z s p op a count → (asked ≡ true → reads op ≡ true)
     → length (successBytes z s p asked (sourceOf z s p op (a .key)) op a n (newSize (p .size) op a) (effect z (groundOf s) (p .size) op a (record { staged = p .staged; bytes = bytes })))
     ≡ recordCount z asked (sourceOf z s p op (a .key)) op a
 unfolding successBytes recordCount runningPair
-success-length z s p asked op a n count bytes sectors solid g e q asks =
+success-length z s p asked op a n count bytes solid g e q asks =
     let from = sourceOf z s p op (a .key) in
     let w = whole-sectors z (p .size) (g .orderly .whole) in
     let c : s .sectors * z ≤ 64 * z = mul-le-mul-right {m = s .sectors} {n = 64} z (solid .lent .most) in
-    let u : p .size / z ≤ 64 = le-of-mul-le-mul-right {m = p .size / z} {n = 64} {k = z} (omega (arith, w, g .orderly .within, c)) (solid .lent .some) in
+    let u : p .size / z ≤ 64 = le-of-mul-le-mul-right {m = p .size / z} {n = 64} {k = z} (omega (arith, w, g .orderly .within, c)) (Slots.some z (solid .lent .size)) in
     let valid = source-valid z s p solid (g .orderly .staged) (omega (arith, u, g .entries)) op (a .key) in
     let stage = effect-bytes z (groundOf s) (p .size) op a (record { staged = p .staged; bytes = bytes }) ∙ e in
     length-record 0 n _ (proofCount z asked from a) _ (outputCount op a) _
     (length-root z (s .disk) _ _)
-    (length-proof z s _ from a asked sectors solid stage valid (few-spots z s p op (a .key) (solid .small) u)
+    (length-proof z s _ from a asked solid stage valid (few-spots z s p op (a .key) (solid .small) u)
     (λ h. some-spots z (length (spots from)) (a .first) (a .len) (read-span z (p .size) from op a (asks h) (q .spans))))
     (shown-length z s (p .size) from _ op a (solid .disk) stage valid (q .spans))
 
 -- written bytes grow by the record's length
-pub stepped-written : (z : ℕ) (s : Setting) (i : Instruction) (l : List (List ℕ)) (t : Turn) → Sectors z → Solid z s → Good z s (t .progress) → length (t .stage) ≡ s .copies * z
+pub stepped-written : (z : ℕ) (s : Setting) (i : Instruction) (l : List (List ℕ)) (t : Turn) → Solid z s → Good z s (t .progress) → length (t .stage) ≡ s .copies * z
     → stepped z s i l t .progress .written ≡ t .progress .written + length (recordOf z s i l t)
 unfolding stepped recordOf succeeding failing ranProgress failedProgress
-stepped-written z s i l t sectors solid g e =
+stepped-written z s i l t solid g e =
     by (eqb (judged z s (t .progress) i l) 0)
     (λ u. ap (λ (x : Turn). x .progress .written) (picks (eqb (judged z s (t .progress) i l) 0) _ _ u)
-    ∙ ap (λ (n : ℕ). t .progress .written + n) (sym (success-length z s (t .progress) (i .proof) (opOf (i .name)) (argsOf (opOf (i .name)) l) _ _ (t .stage) sectors solid g e (passed z s (t .progress) i l (eqb-true _ _ u)) (asked-reads z s (t .progress) i l (eqb-true _ _ u))))
+    ∙ ap (λ (n : ℕ). t .progress .written + n) (sym (success-length z s (t .progress) (i .proof) (opOf (i .name)) (argsOf (opOf (i .name)) l) _ _ (t .stage) solid g e (passed z s (t .progress) i l (eqb-true _ _ u)) (asked-reads z s (t .progress) i l (eqb-true _ _ u))))
     ∙ ap (λ (x : List ℕ). t .progress .written + length x) (sym (picks (eqb (judged z s (t .progress) i l) 0) _ _ u)))
     (λ u. ap (λ (x : Turn). x .progress .written) (skips (eqb (judged z s (t .progress) i l) 0) _ _ u)
     ∙ ap (λ (n : ℕ). t .progress .written + n) (sym (failure-length z s _))

@@ -12,15 +12,15 @@ use Rattle.rules.proofs.Renaming.Opening.{openedAs, opening-as}
 use Rattle.rules.proofs.Renaming.Programs.{interruptedAs, interrupt-as, reached-as, piece-as}
 use Rattle.rules.proofs.Renaming.Closing.{closedAs, close-as}
 
-pub alike : (r : List ℕ → List ℕ) → Renaming r → (z : ℕ) (h : Host) (a : Areas) → Alike z r h a
+pub alike : (r : List ℕ → List ℕ) → Renaming r → (h : Host) (a : Areas) → Alike r h a
 unfolding formedAs openedAs interruptedAs closedAs
-alike r new z h a = record {
-  order = in-order-as r new z h;
-  forming = forming-as r new z h;
-  dropping = dropping-as r new z h;
-  opening = opening-as r new z h;
-  piece = λ input bytes bytes′ long long′ asks. piece-as r new z h a input bytes bytes′ long long′ asks .is;
-  interrupt = interrupt-as r new z (a .disk) h (a .output);
-  reached = reached-as r new z (a .disk) h (a .stage);
-  closing = λ g. close-as r new z (a .disk) h (a .stage) (g .agree) (g .size) (g .root);
+alike r new h a = record {
+  order = in-order-as r new h;
+  forming = forming-as r new h;
+  dropping = dropping-as r new h;
+  opening = opening-as r new h;
+  piece = λ input bytes bytes′ long long′ asks. piece-as r new h a input bytes bytes′ long long′ asks .is;
+  interrupt = interrupt-as r new (a .disk) h (a .output);
+  reached = reached-as r new (a .disk) h (a .stage);
+  closing = λ g. close-as r new (a .disk) h (a .stage) (g .agree) (g .size) (g .root);
 }

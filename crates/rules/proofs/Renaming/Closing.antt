@@ -43,15 +43,17 @@ no-slots disk used e = ap (newSlots disk used) e
 module _ (r : List ℕ → List ℕ) (new : Renaming r) where
   -- ---- closing
 
-  start-as : (z : ℕ) (disk : List ℕ) (h : Host) → h .program .active ≡ true
-      → startingPair z (settingOf (hostAs r h) disk) ≡ startingPair z (settingOf h disk)
-  start-as z disk h e = rw (setting-as r new h disk e, starting-as r new z (settingOf h disk))
-
-  pair-as : (z : ℕ) (disk : List ℕ) (h : Host) (stage : List ℕ) → h .program .active ≡ true
-      → runningPair z (settingOf (hostAs r h) disk) (hostAs r h .program .progress) stage
-      ≡ runningPair z (settingOf h disk) (h .program .progress) stage
+  start-as : (disk : List ℕ) (h : Host) → h .program .active ≡ true
+      → startingPair (hostAs r h .sector) (settingOf (hostAs r h) disk) ≡ startingPair (h .sector) (settingOf h disk)
   unfolding hostAs
-  pair-as z disk h stage e = rw (setting-as r new h disk e, running-as r new z (settingOf h disk) (h .program .progress) stage)
+  start-as disk h e =
+      ap (startingPair (h .sector)) (setting-as r new h disk e) ∙ starting-as r new (h .sector) (settingOf h disk)
+
+  pair-as : (disk : List ℕ) (h : Host) (stage : List ℕ) → h .program .active ≡ true
+      → runningPair (hostAs r h .sector) (settingOf (hostAs r h) disk) (hostAs r h .program .progress) stage
+      ≡ runningPair (h .sector) (settingOf h disk) (h .program .progress) stage
+  unfolding hostAs
+  pair-as disk h stage e = rw (setting-as r new h disk e, running-as r new (h .sector) (settingOf h disk) (h .program .progress) stage)
 
   ended-same : (h : Host) → unfinished (hostAs r h .program) ≡ unfinished (h .program)
   unfolding unfinished hostAs
@@ -96,39 +98,39 @@ module _ (r : List ℕ → List ℕ) (new : Renaming r) where
       (withProgram (withPlaces h (replaced c (finalPlace old (p .size) slots) (h .places))) noProgram)
       (copiedBack z stage (p .staged) slots 0 (p .size / z) disk)
 
-  body-as : (z : ℕ) (disk : List ℕ) (h : Host) (stage c : List ℕ) → parentInOrder (h .places) c (h .program .progress .size) ≡ true
-      → body z disk (hostAs r h) stage (r c) (placeAs r (whose c (h .places))) ≡ closedAs (body z disk h stage c (whose c (h .places)))
+  body-as : (disk : List ℕ) (h : Host) (stage c : List ℕ) → parentInOrder (h .places) c (h .program .progress .size) ≡ true
+      → body (hostAs r h .sector) disk (hostAs r h) stage (r c) (placeAs r (whose c (h .places))) ≡ closedAs (body (h .sector) disk h stage c (whose c (h .places)))
   unfolding closedAs hostAs withProgram withPlaces noProgram pick finalPlace withSize withSlots
-  body-as z disk h stage c e =
+  body-as disk h stage c e =
       let size = h .program .progress .size in
       let old = whose c (h .places) in
-      let slots = finalSlots z (h .disk) (h .places) old size in
-      rw (slots-as z (h .disk) (h .places) c size e, replaced-as r new c (finalPlace old size slots) (h .places))
+      let slots = finalSlots (h .sector) (h .disk) (h .places) old size in
+      rw (slots-as (h .sector) (h .disk) (h .places) c size e, replaced-as r new c (finalPlace old size slots) (h .places))
 
-  commit-as : (z : ℕ) (disk : List ℕ) (h : Host) (stage : List ℕ) → h .program .active ≡ true → inOrder z h ≡ true
-      → commit z disk (hostAs r h) stage ≡ closedAs (commit z disk h stage)
+  commit-as : (disk : List ℕ) (h : Host) (stage : List ℕ) → h .program .active ≡ true → inOrder h ≡ true
+      → commit disk (hostAs r h) stage ≡ closedAs (commit disk h stage)
   unfolding commit parent settingOf
-  commit-as z disk h stage live o =
+  commit-as disk h stage live o =
       let c = h .program .terms .head .contract in
-      ap₂ (body z disk (hostAs r h) stage) (ap (λ (t : Terms). t .head .contract) (terms-of r new h live))
+      ap₂ (body (hostAs r h .sector) disk (hostAs r h) stage) (ap (λ (t : Terms). t .head .contract) (terms-of r new h live))
       (ap (λ (t : Terms). whose (t .head .contract) (hostAs r h .places)) (terms-of r new h live) ∙ whose-places r new h c)
-      ∙ body-as z disk h stage c (order-facts z h o .running live .terms .parent)
+      ∙ body-as disk h stage c (order-facts h o .running live .terms .parent)
 
-  agreed-as : (z : ℕ) (disk : List ℕ) (h : Host) (stage : List ℕ) (named : Pair) → h .program .active ≡ true → inOrder z h ≡ true
-      → agreed z disk (hostAs r h) stage named ≡ closedAs (agreed z disk h stage named)
+  agreed-as : (disk : List ℕ) (h : Host) (stage : List ℕ) (named : Pair) → h .program .active ≡ true → inOrder h ≡ true
+      → agreed disk (hostAs r h) stage named ≡ closedAs (agreed disk h stage named)
   unfolding agreed
-  agreed-as z disk h stage named live o =
-      down closedAs _ _ _ _ _ _ (ap₂ samePair (pair-as z disk h stage live) (start-as z disk h live)) (λ _. given-up-as 0 disk h) (λ _.
-      down closedAs _ _ _ _ _ _ (ap (samePair named) (pair-as z disk h stage live)) (λ _. commit-as z disk h stage live o)
+  agreed-as disk h stage named live o =
+      down closedAs _ _ _ _ _ _ (ap₂ samePair (pair-as disk h stage live) (start-as disk h live)) (λ _. given-up-as 0 disk h) (λ _.
+      down closedAs _ _ _ _ _ _ (ap (samePair named) (pair-as disk h stage live)) (λ _. commit-as disk h stage live o)
       (λ _. given-up-as 14 disk h))
 
-  pub close-as : (z : ℕ) (disk : List ℕ) (h : Host) (stage : List ℕ) (agree : Bool) (size : ℕ) (root : List ℕ)
-      → close z disk (hostAs r h) stage agree size root ≡ closedAs (close z disk h stage agree size root)
+  pub close-as : (disk : List ℕ) (h : Host) (stage : List ℕ) (agree : Bool) (size : ℕ) (root : List ℕ)
+      → close disk (hostAs r h) stage agree size root ≡ closedAs (close disk h stage agree size root)
   unfolding close
-  close-as z disk h stage agree size root =
-      down closedAs _ _ _ _ _ _ (ap not (in-order-as r new z h)) (λ _. closed-not 1 h disk) (λ o.
-      down closedAs _ _ _ _ _ _ (ap not (areas-as r new z h disk stage)) (λ _. closed-not 2 h disk) (λ _.
+  close-as disk h stage agree size root =
+      down closedAs _ _ _ _ _ _ (ap not (in-order-as r new h)) (λ _. closed-not 1 h disk) (λ o.
+      down closedAs _ _ _ _ _ _ (ap not (areas-as r new h disk stage)) (λ _. closed-not 2 h disk) (λ _.
       down closedAs _ _ _ _ _ _ (ap not (active-as r new h)) (λ _. closed-not 4 h disk) (λ live.
       down closedAs _ _ _ _ _ _ refl (λ _. given-up-as 0 disk h) (λ _.
       down closedAs _ _ _ _ _ _ (ended-same h) (λ _. closed-not 13 h disk) (λ _.
-      agreed-as z disk h stage _ (not-false _ live) (not-false _ o))))))
+      agreed-as disk h stage _ (not-false _ live) (not-false _ o))))))

@@ -47,12 +47,12 @@ module _ (r : List ℕ → List ℕ) (new : Renaming r) where
   begun-as h d budget prices room = rw (whose-as r new (d .contract) (h .places))
 
   -- the head counts where it has no fault
-  opened-head-as : (z : ℕ) (h : Host) (fault : ℕ) (d d′ : Head) (budget : ℕ) (prices : Prices) (room : ℕ) → (fault ≡ 0 → d′ ≡ headAs d)
-      → openedHead z (hostAs r h) fault d′ budget prices room ≡ openedAs (openedHead z h fault d budget prices room)
+  opened-head-as : (h : Host) (fault : ℕ) (d d′ : Head) (budget : ℕ) (prices : Prices) (room : ℕ) → (fault ≡ 0 → d′ ≡ headAs d)
+      → openedHead (hostAs r h) fault d′ budget prices room ≡ openedAs (openedHead h fault d budget prices room)
   unfolding openedHead
-  opened-head-as z h fault d d′ budget prices room e =
+  opened-head-as h fault d d′ budget prices room e =
       let is : not (eqb fault 0) ≡ false → d′ ≡ headAs d = λ n. e (eqb-true fault 0 (not-false _ n)) in
-      down openedAs _ _ _ _ _ _ (ap not (in-order-as r new z h)) (λ _. opened-not 1 h) (λ _.
+      down openedAs _ _ _ _ _ _ (ap not (in-order-as r new h)) (λ _. opened-not 1 h) (λ _.
       down openedAs _ _ _ _ _ _ refl (λ _. opened-not 2 h) (λ _.
       down openedAs _ _ _ _ _ _ (active-as r new h) (λ _. opened-not 3 h) (λ _.
       down openedAs _ _ _ _ _ _ refl (λ _. opened-not fault h) (λ n.
@@ -64,12 +64,12 @@ module _ (r : List ℕ → List ℕ) (new : Renaming r) where
       ap (λ (x : Head). answered 0 (prices .init) (withProgram (hostAs r h) (begun (hostAs r h) x budget prices room))) (is n)
       ∙ begun-as h d budget prices room))))))
 
-  pub opening-as : (z : ℕ) (h : Host) (o : Opening) → opens z (hostAs r h) (openingAs r o) ≡ openedAs (opens z h o)
+  pub opening-as : (h : Host) (o : Opening) → opens (hostAs r h) (openingAs r o) ≡ openedAs (opens h o)
   unfolding opened
-  opening-as z h o =
+  opening-as h o =
       let id = r (take 32 (o .bytes)) in
       let long = new .long (take 32 (o .bytes)) in
       let bs = o .bytes in
-      ap (λ (n : ℕ). openedHead z (hostAs r h) n (decode (id ++ drop 32 bs) .head) (o .budget) (o .prices) (o .room)) (number-as id bs long)
-      ∙ opened-head-as z h (decode bs .number) (decode bs .head) _ (o .budget) (o .prices) (o .room) (λ e.
+      ap (λ (n : ℕ). openedHead (hostAs r h) n (decode (id ++ drop 32 bs) .head) (o .budget) (o .prices) (o .room)) (number-as id bs long)
+      ∙ opened-head-as h (decode bs .number) (decode bs .head) _ (o .budget) (o .prices) (o .room) (λ e.
       decode-as id bs long e ∙ ap (λ (x : List ℕ). headOf (r x) (decode bs .head)) (sym (contract-is bs e)))

@@ -64,18 +64,18 @@ module _ (r : List ℕ → List ℕ) (new : Renaming r) where
   unfolding interruptedAs
   interrupted-not n h output = refl
 
-  stopped-as : (z : ℕ) (disk : List ℕ) (h : Host) (output : List ℕ) → h .program .active ≡ true
-      → stopped z disk (hostAs r h) output ≡ interruptedAs (stopped z disk h output)
+  stopped-as : (disk : List ℕ) (h : Host) (output : List ℕ) → h .program .active ≡ true
+      → stopped disk (hostAs r h) output ≡ interruptedAs (stopped disk h output)
   unfolding interruptedAs stopped turnOf withRun withProgram withProgress withCame hostAs
-  stopped-as z disk h output e = rw (setting-as h disk e, failing-as r new z (settingOf h disk) 20 (turnOf h [] output))
+  stopped-as disk h output e = rw (setting-as h disk e, failing-as r new (h .sector) (settingOf h disk) 20 (turnOf h [] output))
 
-  disk-as : (z : ℕ) (h : Host) (disk : List ℕ) → diskRight z (hostAs r h) disk ≡ diskRight z h disk
+  disk-as : (h : Host) (disk : List ℕ) → diskRight (hostAs r h) disk ≡ diskRight h disk
   unfolding diskRight hostAs
-  disk-as z h disk = refl
+  disk-as h disk = refl
 
-  pub areas-as : (z : ℕ) (h : Host) (disk stage : List ℕ) → areasRight z (hostAs r h) disk stage ≡ areasRight z h disk stage
+  pub areas-as : (h : Host) (disk stage : List ℕ) → areasRight (hostAs r h) disk stage ≡ areasRight h disk stage
   unfolding areasRight diskRight hostAs
-  areas-as z h disk stage = refl
+  areas-as h disk stage = refl
 
   output-as : (h : Host) (output : List ℕ) → outputRight (hostAs r h) output ≡ outputRight h output
   unfolding outputRight
@@ -87,32 +87,32 @@ module _ (r : List ℕ → List ℕ) (new : Renaming r) where
   unfolding interruptedAs hostAs
   ended-as h output = refl
 
-  pub interrupt-as : (z : ℕ) (disk : List ℕ) (h : Host) (output : List ℕ)
-      → interrupt z disk (hostAs r h) output ≡ interruptedAs (interrupt z disk h output)
+  pub interrupt-as : (disk : List ℕ) (h : Host) (output : List ℕ)
+      → interrupt disk (hostAs r h) output ≡ interruptedAs (interrupt disk h output)
   unfolding interrupt
-  interrupt-as z disk h output =
-      down interruptedAs _ _ _ _ _ _ (ap not (in-order-as r new z h)) (λ _. interrupted-not 1 h output) (λ _.
-      down interruptedAs _ _ _ _ _ _ (ap not (disk-as z h disk)) (λ _. interrupted-not 2 h output) (λ _.
+  interrupt-as disk h output =
+      down interruptedAs _ _ _ _ _ _ (ap not (in-order-as r new h)) (λ _. interrupted-not 1 h output) (λ _.
+      down interruptedAs _ _ _ _ _ _ (ap not (disk-as h disk)) (λ _. interrupted-not 2 h output) (λ _.
       down interruptedAs _ _ _ _ _ _ (ap₂ both (active-as r new h) (ap not (output-as h output))) (λ _. interrupted-not 2 h output) (λ _.
       down interruptedAs _ _ _ _ _ _ (ap not (active-as r new h)) (λ _. interrupted-not 4 h output) (λ live.
-      down interruptedAs _ _ _ _ _ _ (going-as h) (λ _. stopped-as z disk h output (not-false _ live))
+      down interruptedAs _ _ _ _ _ _ (going-as h) (λ _. stopped-as disk h output (not-false _ live))
       (λ _. ended-as h output)))))
 
   -- ---- what a program has reached
 
-  reached-pair-as : (z : ℕ) (disk : List ℕ) (h : Host) (stage : List ℕ) → h .program .active ≡ true
-      → reachedPair z disk (hostAs r h) stage ≡ reachedPair z disk h stage
+  reached-pair-as : (disk : List ℕ) (h : Host) (stage : List ℕ) → h .program .active ≡ true
+      → reachedPair disk (hostAs r h) stage ≡ reachedPair disk h stage
   unfolding reachedPair hostAs
-  reached-pair-as z disk h stage e =
-      rw (setting-as h disk e, starting-as r new z (settingOf h disk), running-as r new z (settingOf h disk) (h .program .progress) stage)
+  reached-pair-as disk h stage e =
+      rw (setting-as h disk e, starting-as r new (h .sector) (settingOf h disk), running-as r new (h .sector) (settingOf h disk) (h .program .progress) stage)
 
-  pub reached-as : (z : ℕ) (disk : List ℕ) (h : Host) (stage : List ℕ) → reached z disk (hostAs r h) stage ≡ reached z disk h stage
+  pub reached-as : (disk : List ℕ) (h : Host) (stage : List ℕ) → reached disk (hostAs r h) stage ≡ reached disk h stage
   unfolding reached
-  reached-as z disk h stage =
-      down still _ _ _ _ _ _ (ap not (in-order-as r new z h)) (λ _. refl) (λ _.
-      down still _ _ _ _ _ _ (ap not (areas-as z h disk stage)) (λ _. refl) (λ _.
+  reached-as disk h stage =
+      down still _ _ _ _ _ _ (ap not (in-order-as r new h)) (λ _. refl) (λ _.
+      down still _ _ _ _ _ _ (ap not (areas-as h disk stage)) (λ _. refl) (λ _.
       down still _ _ _ _ _ _ (ap not (active-as r new h)) (λ _. refl) (λ live.
-      ap (reachedAt 0) (reached-pair-as z disk h stage (not-false _ live)))))
+      ap (reachedAt 0) (reached-pair-as disk h stage (not-false _ live)))))
 
   -- ---- pieces
 
@@ -120,7 +120,7 @@ module _ (r : List ℕ → List ℕ) (new : Renaming r) where
   pub record PieceAs (y x : Pieced) : Type 0 where
     pub is : y ≡ pieced (x .number) (x .tally) (hostAs r (x .host)) (x .stage) (y .input) (x .output)
 
-  module _ (z : ℕ) (h : Host) (a : Areas) (input bytes bytes′ : List ℕ)
+  module _ (h : Host) (a : Areas) (input bytes bytes′ : List ℕ)
       (long : length input ≡ length (a .input)) (long′ : length bytes′ ≡ length bytes) where
     abbrev came : ℕ
     came = h .program .came
@@ -137,13 +137,13 @@ module _ (r : List ℕ → List ℕ) (new : Renaming r) where
       piece-not n = record { is = refl }
 
       run-same : h .program .active ≡ true
-          → run z (settingOf (hostAs r h) (a .disk)) other (came + length bytes′) (turnOf (hostAs r h) (a .stage) (a .output))
-          ≡ run z (settingOf h (a .disk)) one (came + length bytes) (turnOf h (a .stage) (a .output))
+          → run (h .sector) (settingOf (hostAs r h) (a .disk)) other (came + length bytes′) (turnOf (hostAs r h) (a .stage) (a .output))
+          ≡ run (h .sector) (settingOf h (a .disk)) one (came + length bytes) (turnOf h (a .stage) (a .output))
       unfolding turnOf hostAs settingOf
       run-same e =
           let t = turnOf h (a .stage) (a .output) in
-          ap₂ (λ (s : Setting) (n : ℕ). run z s other (came + n) t) (setting-as h (a .disk) e) long′
-          ∙ run-as r new z (settingOf h (a .disk)) one other asks (came + length bytes) t
+          ap₂ (λ (s : Setting) (n : ℕ). run (h .sector) s other (came + n) t) (setting-as h (a .disk) e) long′
+          ∙ run-as r new (h .sector) (settingOf h (a .disk)) one other asks (came + length bytes) t
 
       input-as : inputRight (hostAs r h) input ≡ inputRight h (a .input)
       unfolding inputRight
@@ -155,19 +155,19 @@ module _ (r : List ℕ → List ℕ) (new : Renaming r) where
       past-as = ap₂ ltb (still-as (λ (t : Terms). t .head .length) h refl) (ap (λ (n : ℕ). came + n) long′)
 
       accepted-as : h .program .active ≡ true
-          → PieceAs (accepted z (a .disk) (hostAs r h) (a .stage) input (a .output) bytes′)
-          (accepted z (a .disk) h (a .stage) (a .input) (a .output) bytes)
+          → PieceAs (accepted (a .disk) (hostAs r h) (a .stage) input (a .output) bytes′)
+          (accepted (a .disk) h (a .stage) (a .input) (a .output) bytes)
       unfolding accepted withRun withProgram withProgress withCame hostAs
       accepted-as e = record {
         is = ap₂ (λ (t : Turn) (n : ℕ).
             pieced 0 (t .progress .tally) (withRun (hostAs r h) (came + n) (t .progress)) (t .stage) other (t .output)) (run-same e) long′;
       }
 
-      pub piece-as : PieceAs (piece z (a .disk) (hostAs r h) (a .stage) input (a .output) bytes′) (gives z h a bytes)
+      pub piece-as : PieceAs (piece (a .disk) (hostAs r h) (a .stage) input (a .output) bytes′) (gives h a bytes)
       unfolding piece
       piece-as =
-          downs PieceAs _ _ _ _ _ _ (ap not (in-order-as r new z h)) (λ _. piece-not 1) (λ _.
-          downs PieceAs _ _ _ _ _ _ (ap not (areas-as z h (a .disk) (a .stage))) (λ _. piece-not 2) (λ _.
+          downs PieceAs _ _ _ _ _ _ (ap not (in-order-as r new h)) (λ _. piece-not 1) (λ _.
+          downs PieceAs _ _ _ _ _ _ (ap not (areas-as h (a .disk) (a .stage))) (λ _. piece-not 2) (λ _.
           downs PieceAs _ _ _ _ _ _ (ap₂ both (active-as r new h) (ap not (ap₂ both input-as (output-as h (a .output)))))
           (λ _. piece-not 2) (λ _.
           downs PieceAs _ _ _ _ _ _ (ap not (active-as r new h)) (λ _. piece-not 4) (λ live.

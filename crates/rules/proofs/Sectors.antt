@@ -1,0 +1,96 @@
+-- "Full sectors.": which sizes there are, that a host holds the one that it was made with, and that no call changes it. Assumes nothing.
+use mathlib.Core.Path.{_≡_, refl, ap}
+use mathlib.Core.Bool.{false, not}
+use mathlib.Core.List.{List}
+use Prim.Native.Nat.{ℕ}
+use native.Mathlib.Omega.{arith}
+use Rattle.area.proofs.Laws.Pick.{picks, skips}
+use Rattle.host.specs.Sizes.{isSize}
+use Rattle.host.specs.Empty.{bare}
+use Rattle.host.specs.With.{withPlaces, withProgram}
+use Rattle.host.specs.Order.{inOrder}
+use Rattle.host.specs.Calls.{freshed, formed, dropped}
+use Rattle.host.proofs.Laws.Sizes.{size-facts, power-size}
+use Rattle.rules.specs.View.{withRun}
+use Rattle.rules.specs.Calls.{Pieced, Interrupted, openedHead, opened, accepted, piece, stopped, interrupt}
+use Rattle.rules.specs.Commit.{Closed, givenUp, commit}
+use Rattle.rules.specs.Visit.{Areas, Opening, Agreement, opens, gives, stops, closes}
+use Rattle.rules.specs.Sectors.{Fixed, FullSectors}
+use Rattle.rules.proofs.Laws.Ways.{either-way}
+use Rattle.rules.proofs.Nothing.{close-ways}
+use Rattle.rules.proofs.Ordering.{damaged}
+use Rattle.host.specs.declared.Host.{Host}
+use Rattle.host.specs.declared.Answer as Contract
+use Rattle.rules.specs.declared.Answer.{Answer}
+
+-- ---- making
+
+made : (z disk stage : ℕ) → freshed z disk stage .number ≡ 0 → freshed z disk stage .host .sector ≡ z
+unfolding freshed bare
+made z disk stage =
+    let way = either-way (λ (r : Contract.Answer). r .number ≡ 0 → r .host .sector ≡ z) in
+    way _ _ _ (λ _ n. absurd (omega arith)) (λ _. way _ _ _ (λ _ n. absurd (omega arith)) (λ _.
+    way _ _ _ (λ _ n. absurd (omega arith)) (λ _ _. refl)))
+
+-- ---- a host holding another size
+
+not-in-order : (h : Host) → isSize (h .sector) ≡ false → inOrder h ≡ false
+unfolding inOrder
+not-in-order h e = skips (isSize (h .sector)) _ false e
+
+-- ---- the calls
+
+module _ (h : Host) (a : Areas) where
+  abbrev Still : Host → Type 0
+  Still x = x .sector ≡ h .sector
+
+  forming : (id : List ℕ) → Still (formed h id .host)
+  unfolding formed withPlaces
+  forming id =
+      let way = either-way (λ (r : Contract.Answer). Still (r .host)) in
+      way _ _ _ (λ _. refl) (λ _. way _ _ _ (λ _. refl) (λ _. way _ _ _ (λ _. refl) (λ _. way _ _ _ (λ _. refl) (λ _.
+      way _ _ _ (λ _. refl) (λ _. way _ _ _ (λ _. refl) (λ _. refl))))))
+
+  dropping : (id : List ℕ) → Still (dropped h id .host)
+  unfolding dropped withPlaces
+  dropping id =
+      let way = either-way (λ (r : Contract.Answer). Still (r .host)) in
+      way _ _ _ (λ _. refl) (λ _. way _ _ _ (λ _. refl) (λ _. way _ _ _ (λ _. refl) (λ _. way _ _ _ (λ _. refl) (λ _. refl))))
+
+  opening : (o : Opening) → Still (opens h o .host)
+  unfolding opened openedHead withProgram
+  opening o =
+      let way = either-way (λ (r : Answer). Still (r .host)) in
+      way _ _ _ (λ _. refl) (λ _. way _ _ _ (λ _. refl) (λ _. way _ _ _ (λ _. refl) (λ _.
+      way _ _ _ (λ _. refl) (λ _. way _ _ _ (λ _. refl) (λ _. way _ _ _ (λ _. refl) (λ _. refl))))))
+
+  pieces : (bytes : List ℕ) → Still (gives h a bytes .host)
+  unfolding piece accepted withRun withProgram
+  pieces bytes =
+      let way = either-way (λ (r : Pieced). Still (r .host)) in
+      way _ _ _ (λ _. refl) (λ _. way _ _ _ (λ _. refl) (λ _. way _ _ _ (λ _. refl) (λ _. way _ _ _ (λ _. refl) (λ _.
+      way _ _ _ (λ _. refl) (λ _. refl)))))
+
+  interrupts : Still (stops h a .host)
+  unfolding interrupt stopped withRun withProgram
+  interrupts =
+      let way = either-way (λ (r : Interrupted). Still (r .host)) in
+      way _ _ _ (λ _. refl) (λ _. way _ _ _ (λ _. refl) (λ _. way _ _ _ (λ _. refl) (λ _. way _ _ _ (λ _. refl) (λ _.
+      way _ _ _ (λ _. refl) (λ _. refl)))))
+
+  closing : (g : Agreement) → Still (closes h a g .host)
+  unfolding givenUp commit withProgram withPlaces
+  closing g = close-ways h a g (λ (r : Closed). Still (r .host)) (λ _ _ _ _. refl) (λ _. refl) (λ _ _ _. refl) (λ _ _ _. refl) (λ _ _ _ _. refl)
+
+  pub fixed : Fixed h a
+  fixed = record { forming = forming; dropping = dropping; opening = opening; piece = pieces; interrupt = interrupts; closing = closing }
+
+pub full-sectors : FullSectors
+unfolding freshed
+full-sectors = record {
+  sizes = λ z. record { power = power-size z; only = size-facts z };
+  other = λ z disk stage e. picks (not (isSize z)) _ _ (ap not e);
+  made = made;
+  holding = λ h a e. damaged h a (not-in-order h e);
+  fixed = fixed;
+}
