@@ -1,10 +1,10 @@
 -- What callers use: what a host in order with an open program gives the functions of this crate, and that what they make together is the
--- definition's commit. Assumes nothing.
+-- definition's commit. z is the sector size. Assumes nothing.
 use mathlib.Core.Path.{_≡_, refl, sym, ap, _∙_}
 use mathlib.Core.Bool.{true, false}
 use mathlib.Core.List.{List, [], _∷_, _++_}
 use Prim.Native.Nat.{ℕ, zero, suc, _+_, _-_, _*_, _/_, _≤_, _<_}
-use native.Mathlib.Nat.{zero-div, suc-mul, mul-le-mul-right}
+use native.Mathlib.Nat.{zero-div, mul-le-mul-right, div-le-of-le-mul}
 use native.Mathlib.Omega.{arith}
 use lib.ListN.{length, getD}
 use lib.IntN.{ℤ, pos, _-ℤ_}
@@ -13,6 +13,7 @@ use borrow.Author.Tests.{ltb-true, eqb-true}
 use Rattle.area.specs.Pick.{pick}
 use Rattle.area.specs.Area.{same, part, put, zeros}
 use Rattle.area.proofs.Laws.Pick.{by, picks, skips, never, both-left, both-right}
+use Rattle.area.proofs.Laws.Slots.{slot-ends}
 use Rattle.sia.specs.Names.{readOnly}
 use Rattle.sia.specs.Encode.{every}
 use Rattle.host.specs.Empty.{none, noPlace, noProgram}
@@ -24,7 +25,8 @@ use Rattle.rules.specs.View.{settingOf, parent, areasRight}
 use Rattle.rules.specs.Facts.{Good, Solid}
 use Rattle.rules.specs.Commit.{Closed, closed, finalSlots, copiedBack, finalPlace, commit}
 use Rattle.rules.specs.Visit.{Declared}
-use Rattle.rules.proofs.Committing.{final, order-places, place-twins}
+use Rattle.rules.proofs.Committing.{final, order-places, order-some, place-twins}
+use Rattle.rules.proofs.Laws.Effects.{whole-sectors}
 use Rattle.rules.proofs.Laws.Sizes.{place-size, whose-whole, whose-here, whose-on, has-held}
 use Rattle.rules.proofs.Laws.Slots.{every-fore, every-aft}
 use Rattle.rules.proofs.Laws.Split.{split}
@@ -82,12 +84,15 @@ whose-small z id (p ∷ ps) some h =
 
 -- slot n of an area of m whole sectors lies in it
 within : (z n m : ℕ) (a : List ℕ) → n < m → length a ≡ m * z → n * z + z ≤ length a
-within z n m a lt e = omega (arith, mul-le-mul-right {m = suc n} {n = m} z lt, suc-mul n z)
+within z n m a lt e = omega (arith, slot-ends z n m lt)
 
 -- ---- a host in order with an open program
 
-module _ (disk : List ℕ) (h : Host) (stage : List ℕ) (sound : Declared 4096 h) (o : inOrder 4096 h ≡ true)
-    (areas : areasRight 4096 h disk stage ≡ true) (live : h .program .active ≡ true) where
+module _ (disk : List ℕ) (h : Host) (stage : List ℕ) (sound : Declared h) (o : inOrder h ≡ true)
+    (areas : areasRight h disk stage ≡ true) (live : h .program .active ≡ true) where
+  abbrev z : ℕ
+  z = h .sector
+
   abbrev id : List ℕ
   id = h .program .terms .head .contract
 
@@ -97,30 +102,33 @@ module _ (disk : List ℕ) (h : Host) (stage : List ℕ) (sound : Declared 4096 
   abbrev staged : List ℕ
   staged = h .program .progress .staged
 
-  good : Good 4096 (settingOf h disk) (h .program .progress)
-  good = order-good 4096 h disk o live (sound .staged)
+  good : Good z (settingOf h disk) (h .program .progress)
+  good = order-good h disk o live (sound .staged)
 
-  solid : Solid 4096 (settingOf h disk)
-  solid = order-solid 4096 h disk stage (sound .some) o areas
+  solid : Solid z (settingOf h disk)
+  solid = order-solid h disk stage o areas
 
   -- what `final_slots` asks
   pub few-slots : h .disk ≤ 64
-  few-slots = order-places 4096 h o .1
+  few-slots = order-places h o .1
 
-  pub last-size : size ≤ 262144
+  in-slots : size ≤ 64 * z
   unfolding settingOf
-  last-size = omega (arith, good .orderly .within, few-slots)
+  in-slots = omega (arith, good .orderly .within, mul-le-mul-right z few-slots)
 
-  pub few-sectors : size / 4096 ≤ 64
-  few-sectors = omega (arith, last-size)
+  pub few-sectors : size / z ≤ 64
+  few-sectors = div-le-of-le-mul z (omega (arith, in-slots))
 
   -- what `growth` asks
-  pub first-size : {p : Place} → p ≡ whose id (h .places) → p .size ≤ 262144
+  pub last-size : size ≤ 268435456
+  last-size = omega (arith, in-slots, solid .lent .size .most)
+
+  pub first-size : {p : Place} → p ≡ whose id (h .places) → p .size ≤ 268435456
   unfolding settingOf
   first-size e =
-      let small = whose-small 4096 id (h .places) (omega arith) (solid .small) in
-      let whole = whose-whole 4096 id (h .places) (solid .small) in
-      omega (arith, ap (λ (p : Place). p .size) e, small, whole)
+      let small = whose-small z id (h .places) (order-some h o) (solid .small) in
+      let whole = whole-sectors z (whose id (h .places) .size) (whose-whole z id (h .places) (solid .small)) in
+      omega (arith, ap (λ (p : Place). p .size) e, mul-le-mul-right z small, whole, solid .lent .size .most)
 
   -- where there is no parent, nothing is committed
   nobody : whose id (h .places) .held ≡ false → size ≡ 0
@@ -138,33 +146,33 @@ module _ (disk : List ℕ) (h : Host) (stage : List ℕ) (sound : Declared 4096 
       ∙ every-at (slotInOrder (h .stage)) staged j none (good .orderly .staged .slots) (picks (eqb none none) true _ refl))
 
   -- the final slots are slots of the disk
-  pub final-below : (j : ℕ) → j < size / 4096 → getD (finalSlots 4096 (h .disk) (h .places) (whose id (h .places)) size) j 0 < h .disk
+  pub final-below : (j : ℕ) → j < size / z → getD (finalSlots z (h .disk) (h .places) (whose id (h .places)) size) j 0 < h .disk
   unfolding settingOf
   final-below j lt =
       by (whose id (h .places) .held)
-      (λ e. let q = order-places 4096 h o in
-      let s = split id (h .places) (place-twins 4096 (h .disk) (h .places) (q .0)) e in
-      let f = final 4096 (h .disk) size id (h .places) s (sound .some) (q .1) (q .0) (sound .places) (good .orderly .whole) (good .orderly .within) in
-      let is = ap (λ (x : Place). finalSlots 4096 (h .disk) (h .places) x size) (s .whose-is) ∙ f .is in
+      (λ e. let q = order-places h o in
+      let s = split id (h .places) (place-twins z (h .disk) (h .places) (q .0)) e in
+      let f = final z (h .disk) size id (h .places) s (order-some h o) (q .1) (q .0) (sound .places) (good .orderly .whole) (good .orderly .within) in
+      let is = ap (λ (x : Place). finalSlots z (h .disk) (h .places) x size) (s .whose-is) ∙ f .is in
       let all : every (λ n. ltb n (h .disk)) (f .slots) ≡ true =
-      every-fore _ (f .slots) (taken 4096 (s .behind)) (every-aft _ (taken 4096 (s .before)) _ (f .below)) in
+      every-fore _ (f .slots) (taken z (s .behind)) (every-aft _ (taken z (s .before)) _ (f .below)) in
       let b : getD (f .slots) j 0 < h .disk =
       ltb-true (getD (f .slots) j 0) (h .disk) (every-get (λ n. ltb n (h .disk)) (f .slots) j 0 (omega (arith, f .long)) all) in
       omega (arith, b, ap (λ (l : List ℕ). getD l j 0) is))
-      (λ e. absurd (omega (arith, nobody e)))
+      (λ e. absurd (omega (arith, ap (λ (n : ℕ). n / z) (nobody e) ∙ zero-div z)))
 
   -- what `copy_back` asks
-  pub backs : {p : Place} {slots : List ℕ} → p ≡ whose id (h .places) → slots ≡ filled (finalSlots 4096 (h .disk) (h .places) p size)
-      → Back 4096 stage staged slots (size / 4096) disk
+  pub backs : {p : Place} {slots : List ℕ} → p ≡ whose id (h .places) → slots ≡ filled (finalSlots z (h .disk) (h .places) p size)
+      → Back z stage staged slots (size / z) disk
   unfolding settingOf
   backs {p} {slots} e q =
-      let l = finalSlots 4096 (h .disk) (h .places) (whose id (h .places)) size in
-      let is : slots ≡ filled l = q ∙ ap (λ (x : Place). filled (finalSlots 4096 (h .disk) (h .places) x size)) e in
+      let l = finalSlots z (h .disk) (h .places) (whose id (h .places)) size in
+      let is : slots ≡ filled l = q ∙ ap (λ (x : Place). filled (finalSlots z (h .disk) (h .places) x size)) e in
       record {
         few = few-sectors;
         each = λ j lt. record {
-          source = λ u. within 4096 (getD staged j none) (h .stage) stage (staged-below j u) (areas-stage 4096 h disk stage areas);
-          target = λ u. within 4096 (getD slots j 0) (h .disk) disk
+          source = λ u. within z (getD staged j none) (h .stage) stage (staged-below j u) (areas-stage h disk stage areas);
+          target = λ u. within z (getD slots j 0) (h .disk) disk
               (omega (arith, final-below j lt, ap (λ (x : List ℕ). getD x j 0) is ∙ slot-filled l j)) (solid .disk);
         };
       }
@@ -173,20 +181,20 @@ module _ (disk : List ℕ) (h : Host) (stage : List ℕ) (sound : Declared 4096 
 
 pub commit-made : {p place : Place} {slots after : List ℕ} {places : List Place} {growth : ℤ} (disk : List ℕ) (h : Host) (stage : List ℕ)
     → let id = h .program .terms .head .contract in let size = h .program .progress .size in
-    p ≡ whose id (h .places) → slots ≡ filled (finalSlots 4096 (h .disk) (h .places) p size)
+    p ≡ whose id (h .places) → slots ≡ filled (finalSlots (h .sector) (h .disk) (h .places) p size)
     → place ≡ withSlots (withSize p size) slots → places ≡ replaced id place (h .places) → growth ≡ pos size -ℤ pos (p .size)
-    → after ≡ copiedBack 4096 stage (h .program .progress .staged) slots 0 (size / 4096) disk
-    → closed 0 (h .program .progress .tally) growth (withProgram (withPlaces h places) noProgram) after ≡ commit 4096 disk h stage
+    → after ≡ copiedBack (h .sector) stage (h .program .progress .staged) slots 0 (size / h .sector) disk
+    → closed 0 (h .program .progress .tally) growth (withProgram (withPlaces h places) noProgram) after ≡ commit disk h stage
 unfolding commit parent settingOf
 commit-made {p} {place} {slots} {after} {places} {growth} disk h stage e s q r g a =
     let id = h .program .terms .head .contract in
     let size = h .program .progress .size in
-    let l : Place → List ℕ = λ x. finalSlots 4096 (h .disk) (h .places) x size in
+    let l : Place → List ℕ = λ x. finalSlots (h .sector) (h .disk) (h .places) x size in
     let left : ℤ → List Place → List ℕ → Closed = λ n ps d. closed 0 (h .program .progress .tally) n (withProgram (withPlaces h ps) noProgram) d in
     let final : place ≡ finalPlace p size (l p) = q ∙ ap (withSlots (withSize p size)) s ∙ place-filled p size (l p) in
-    let back : after ≡ copiedBack 4096 stage (h .program .progress .staged) (l p) 0 (size / 4096) disk =
-    a ∙ ap (λ (x : List ℕ). copiedBack 4096 stage (h .program .progress .staged) x 0 (size / 4096) disk) s
-    ∙ back-filled 4096 stage (h .program .progress .staged) (l p) 0 (size / 4096) disk in
+    let back : after ≡ copiedBack (h .sector) stage (h .program .progress .staged) (l p) 0 (size / h .sector) disk =
+    a ∙ ap (λ (x : List ℕ). copiedBack (h .sector) stage (h .program .progress .staged) x 0 (size / h .sector) disk) s
+    ∙ back-filled (h .sector) stage (h .program .progress .staged) (l p) 0 (size / h .sector) disk in
     (λ i. left (g i) ((r ∙ ap (λ (x : Place). replaced id x (h .places)) final) i) (back i))
     ∙ ap (λ (x : Place). left (pos size -ℤ pos (x .size)) (replaced id (finalPlace x size (l x)) (h .places))
-    (copiedBack 4096 stage (h .program .progress .staged) (l x) 0 (size / 4096) disk)) e
+    (copiedBack (h .sector) stage (h .program .progress .staged) (l x) 0 (size / h .sector) disk)) e

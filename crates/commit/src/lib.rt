@@ -7,6 +7,7 @@ ghost use lib.ListN.{length, take, set};
 ghost use lib.IntN.{pos, _-ℤ_};
 ghost use Rattle.area.specs.Area.{put};
 ghost use Rattle.area.specs.Lowest.{lowest};
+ghost use Rattle.area.specs.Slots.{Size};
 ghost use Rattle.host.specs.With.{withSize, withSlots};
 ghost use Rattle.host.specs.Places.{committed};
 ghost use Rattle.host.specs.Listed.{listed};
@@ -14,7 +15,6 @@ ghost use Rattle.rules.specs.Commit as Says;
 ghost use Rattle.rules.specs.Commit.{finalSlots, copiedBack};
 ghost use Rattle.commit.specs.Marks.{marksOf, unmarked, newFrom, filled};
 ghost use Rattle.commit.specs.Asks.{laid, Lies, Back};
-use host::Host;
 use host::Place;
 use host::Progress;
 use host::Slots;
@@ -95,13 +95,14 @@ fn cut(place: Place, size: u64) -> Place
 }
 
 // How many positions of a place have slots.
-fn count(place: Place) -> usize
-    ensures { λ r. ⌜ (r ≡ length (committed 4096 place)) × (r ≤ 64) ⌝ }
+fn count(z: u64, place: Place) -> usize
+    requires { ⌜ Size z ⌝ }
+    ensures { λ r. ⌜ (r ≡ length (committed z place)) × (r ≤ 64) ⌝ }
 {
     if !place.held {
         return 0;
     }
-    let n = place.size / Host::SECTOR;
+    let n = place.size / z;
     if n < Place::SLOTS {
         return n as usize;
     }
@@ -123,47 +124,42 @@ fn first(slots: [u8; 64], n: usize) -> [u8; 64]
 }
 
 // The slots of a place at its final size: kept positions keep theirs, new ones, ascending, take the lowest free; zeros behind them.
-pub fn final_slots(disk: u64, places: [Place; 8], place: Place, size: u64) -> [u8; 64]
+pub fn final_slots(z: u64, disk: u64, places: [Place; 8], place: Place, size: u64) -> [u8; 64]
+    requires { ⌜ Size z ⌝ }
     requires { ⌜ disk ≤ 64 ⌝ }
-    requires { ⌜ size / 4096 ≤ 64 ⌝ }
-    ensures { λ r. ⌜ r ≡ filled (finalSlots 4096 disk places place size) ⌝ }
+    requires { ⌜ size / z ≤ 64 ⌝ }
+    ensures { λ r. ⌜ r ≡ filled (finalSlots z disk places place size) ⌝ }
 {
     let kept = cut(place, size);
     let id = place.id;
     let after = host::replaced_in(places, id, kept);
-    let all = host::slots_taken(after);
+    let all = host::slots_taken(z, after);
     let flags = marked(all);
-    let n = count(kept);
+    let n = count(z, kept);
     let own = kept.slots;
     let keep = first(own, n);
-    new_slots(disk, flags, keep, n, (size / Host::SECTOR) as usize)
+    new_slots(disk, flags, keep, n, (size / z) as usize)
 }
 
 // The sector in stage slot `from`, unless that is NONE, in disk slot `to`.
-fn one_back(stage: &[u8], from: u8, to: u8, disk: &mut [u8])
-    requires { ⌜ Lies 4096 (now stage) from to (now disk) ⌝ }
-    ensures { λ _. ⌜ now (disk .exit) ≡ laid 4096 (now (stage .entry)) from to (now (disk .entry)) ⌝ }
+fn one_back(z: usize, stage: &[u8], from: u8, to: u8, disk: &mut [u8])
+    requires { ⌜ Lies z (now stage) from to (now disk) ⌝ }
+    ensures { λ _. ⌜ now (disk .exit) ≡ laid z (now (stage .entry)) from to (now (disk .entry)) ⌝ }
 {
     if from == Progress::NONE {
         return;
     }
-    area::copy_between(
-        stage,
-        from as usize * Host::SECTOR_LEN,
-        disk,
-        to as usize * Host::SECTOR_LEN,
-        Host::SECTOR_LEN,
-    );
+    area::copy_between(stage, from as usize * z, disk, to as usize * z, z);
 }
 
 // The staged sectors of the first n positions copied to their disk slots.
-pub fn copy_back(stage: &[u8], staged: [u8; 64], slots: [u8; 64], n: usize, disk: &mut [u8])
-    requires { ⌜ Back 4096 (now stage) staged slots n (now disk) ⌝ }
-    ensures { λ _. ⌜ now (disk .exit) ≡ copiedBack 4096 (now (stage .entry)) staged slots 0 n (now (disk .entry)) ⌝ }
+pub fn copy_back(z: u64, stage: &[u8], staged: [u8; 64], slots: [u8; 64], n: usize, disk: &mut [u8])
+    requires { ⌜ Back z (now stage) staged slots n (now disk) ⌝ }
+    ensures { λ _. ⌜ now (disk .exit) ≡ copiedBack z (now (stage .entry)) staged slots 0 n (now (disk .entry)) ⌝ }
 {
     let mut i: usize = 0;
     while i < n {
-        one_back(stage, staged[i], slots[i], disk);
+        one_back(z as usize, stage, staged[i], slots[i], disk);
         i += 1;
     }
 }
@@ -178,10 +174,10 @@ pub fn final_place(place: Place, size: u64, slots: [u8; 64]) -> Place
     after
 }
 
-// Final less starting size, in bytes.
+// Final less starting size, in bytes: each at most 64 sectors of the largest size.
 pub fn growth(last: u64, first: u64) -> i64
-    requires { ⌜ last ≤ 262144 ⌝ }
-    requires { ⌜ first ≤ 262144 ⌝ }
+    requires { ⌜ last ≤ 268435456 ⌝ }
+    requires { ⌜ first ≤ 268435456 ⌝ }
     ensures { λ r. ⌜ r ≡ pos last -ℤ pos first ⌝ }
 {
     last as i64 - first as i64

@@ -14,6 +14,7 @@ use sia::Op;
 // What an instruction does. Of what its inputs say: two offsets, the first also Truncate's new size, and a length; Write's data lie in
 // the input from `from` on.
 pub fn effect(
+    z: usize,
     op: Op,
     copies: u64,
     slots: [u8; 64],
@@ -27,19 +28,30 @@ pub fn effect(
     input: &[u8],
     from: usize,
 ) -> [u8; 64]
-    requires { ⌜ Stands 4096 (ground copies slots (now disk)) size op (args first second len (part (now input) from len)) (staging staged (now stage)) ⌝ }
+    requires { ⌜ Stands z (ground copies slots (now disk)) size op (args first second len (part (now input) from len)) (staging staged (now stage)) ⌝ }
     requires { ⌜ (op ≡ Write → from + len ≤ length (now input)) ⌝ }
     ensures { λ r. ⌜ staging r (now (stage .exit)) ≡
-        Says.effect 4096 (ground copies slots (now (disk .entry))) size op (args first second len (part (now (input .entry)) from len))
+        Says.effect z (ground copies slots (now (disk .entry))) size op (args first second len (part (now (input .entry)) from len))
         (staging staged (now (stage .entry))) ⌝ }
 {
     match op {
         Op::Read => staged,
         Op::ReadSector => staged,
-        Op::Write => spans::write(copies, slots, disk, staged, stage, first, len, input, from),
-        Op::Copy => spans::copy(copies, slots, disk, staged, stage, first, second, len),
-        Op::Swap => spans::swap(copies, slots, disk, staged, stage, first, second, len),
-        Op::Truncate => resizing::resized(copies, staged, stage, size, first),
+        Op::Write => spans::write(
+            z,
+            copies,
+            slots,
+            disk,
+            staged,
+            stage,
+            first,
+            len,
+            input,
+            from,
+        ),
+        Op::Copy => spans::copy(z, copies, slots, disk, staged, stage, first, second, len),
+        Op::Swap => spans::swap(z, copies, slots, disk, staged, stage, first, second, len),
+        Op::Truncate => resizing::resized(z, copies, staged, stage, size, first),
         Op::Unknown => staged,
     }
 }

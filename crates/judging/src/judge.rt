@@ -2,7 +2,6 @@
 use crate::Weighed;
 use crate::spans::bad_proof;
 use crate::spans::bad_spans;
-use host::Host;
 use host::Place;
 use host::Progress;
 use host::Terms;
@@ -21,6 +20,7 @@ ghost use mathlib.Core.Bool.{true};
 ghost use mathlib.Core.List.{[]};
 ghost use Prim.Native.Nat.{_≤_};
 ghost use Rattle.area.specs.Pick.{both};
+ghost use Rattle.area.specs.Slots.{Size};
 ghost use Rattle.rules.specs.View.{setting};
 ghost use Rattle.rules.specs.Plan.{badProof};
 ghost use Rattle.view.specs.Seen.{Ranged};
@@ -54,6 +54,7 @@ fn asked_badly(asked: bool, op: Op, args: Args) -> bool
 
 // 40 to 42 of an instruction that costs so much; where it can run, its cost, the new size, its hashes and the record's length.
 fn fitted(
+    z: u64,
     sectors: u64,
     copies: u64,
     places: [Place; 8],
@@ -65,38 +66,41 @@ fn fitted(
     seen: u64,
     cost: u64,
 ) -> Weighed
+    requires { ⌜ Size z ⌝ }
     requires { ⌜ sectors ≤ 64 ⌝ }
     requires { ⌜ seen ≤ 64 ⌝ }
     requires { ⌜ terms .room ≤ 65536 ⌝ }
-    requires { ⌜ (asked ≡ true → Ranged 4096 seen (args .first) (args .len)) ⌝ }
-    ensures { λ r. ⌜ r ≡ Says.fitted 4096 (setting sectors copies places terms []) p asked (sectorsOf seen) op (numbers args) cost ⌝ }
+    requires { ⌜ (asked ≡ true → Ranged z seen (args .first) (args .len)) ⌝ }
+    ensures { λ r. ⌜ r ≡ Says.fitted z (setting sectors copies places terms []) p asked (sectorsOf seen) op (numbers args) cost ⌝ }
 {
     let staged = p.staged;
-    if free_copies(copies, staged) < wanted(p, op, args) {
+    if free_copies(copies, staged) < wanted(z, p, op, args) {
         return Weighed::refused(40);
     }
     let head = terms.head;
     let id = head.contract;
     let size = new_size(p.size, op, args);
-    if !host::sizes_fit(places, id, size, sectors * Host::SECTOR) {
+    if !host::sizes_fit(places, id, size, sectors * z) {
         return Weighed::refused(41);
     }
-    let hashes = proof_count(asked, seen, args);
+    let hashes = proof_count(z, asked, seen, args);
     let output = output_count(op, args);
     if record_above(terms.room, p.written, hashes, output) {
         return Weighed::refused(42);
     }
+    let count = 72 + 32 * hashes + output;
     Weighed {
         number: 0,
         cost,
         size,
         hashes,
-        count: 72 + 32 * hashes + output,
+        count,
     }
 }
 
 // 26 to 42. `seen` is the number of the sectors that are read.
 pub fn weighed(
+    z: u64,
     sectors: u64,
     copies: u64,
     places: [Place; 8],
@@ -107,13 +111,14 @@ pub fn weighed(
     args: Args,
     seen: u64,
 ) -> Weighed
+    requires { ⌜ Size z ⌝ }
     requires { ⌜ sectors ≤ 64 ⌝ }
     requires { ⌜ seen ≤ 64 ⌝ }
     requires { ⌜ terms .head .length ≤ 65536 ⌝ }
     requires { ⌜ terms .room ≤ 65536 ⌝ }
-    ensures { λ r. ⌜ r ≡ Says.weighed 4096 (setting sectors copies places terms []) p asked (sectorsOf seen) op (numbers args) ⌝ }
+    ensures { λ r. ⌜ r ≡ Says.weighed z (setting sectors copies places terms []) p asked (sectorsOf seen) op (numbers args) ⌝ }
 {
-    if bad_spans(p.size, seen, op, args) {
+    if bad_spans(z, p.size, seen, op, args) {
         return Weighed::refused(26);
     }
     if asked_badly(asked, op, args) {
@@ -126,6 +131,7 @@ pub fn weighed(
         return Weighed::refused(28);
     }
     fitted(
+        z,
         sectors,
         copies,
         places,

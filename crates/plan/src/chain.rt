@@ -17,6 +17,7 @@ ghost use mathlib.Core.Path.{_≡_};
 ghost use lib.ListN.{length};
 ghost use Rattle.area.specs.Pick.{both};
 ghost use Rattle.area.specs.Area.{same};
+ghost use Rattle.area.specs.Slots.{Size};
 ghost use Rattle.sia.specs.Names.{readOnly};
 ghost use Rattle.rules.specs.View.{setting};
 ghost use Rattle.rules.specs.Plan as Says;
@@ -55,6 +56,7 @@ fn changes_nothing(op: Op, id: [u8; 32]) -> bool
 
 // 24 to 42, of arguments that are told.
 fn argued(
+    z: u64,
     sectors: u64,
     copies: u64,
     places: [Place; 8],
@@ -65,9 +67,10 @@ fn argued(
     args: Args,
     disk: &[u8],
 ) -> Plan
-    requires { ⌜ Solid 4096 (setting sectors copies places terms (now disk)) ⌝ }
-    requires { ⌜ Good 4096 (setting sectors copies places terms (now disk)) p ⌝ }
-    ensures { λ r. ⌜ said r ≡ argued 4096 (setting sectors copies places terms (now (disk .entry))) p asked op args ⌝ }
+    requires { ⌜ Size z ⌝ }
+    requires { ⌜ Solid z (setting sectors copies places terms (now disk)) ⌝ }
+    requires { ⌜ Good z (setting sectors copies places terms (now disk)) p ⌝ }
+    ensures { λ r. ⌜ said r ≡ argued z (setting sectors copies places terms (now (disk .entry))) p asked op args ⌝ }
 {
     let head = terms.head;
     let id = head.contract;
@@ -75,13 +78,13 @@ fn argued(
         return Plan::failed(op, 24);
     }
     let key = args.key;
-    let source = source_of(disk, places, terms, p, op, key);
+    let source = source_of(z, disk, places, terms, p, op, key);
     if !source.there {
         return Plan::failed(op, 25);
     }
     let seen = source.seen;
     let count = seen.count as u64;
-    let w = weighed(sectors, copies, places, terms, p, asked, op, args, count);
+    let w = weighed(z, sectors, copies, places, terms, p, asked, op, args, count);
     if w.number != 0 {
         return Plan::failed(op, w.number);
     }
@@ -99,6 +102,7 @@ fn argued(
 
 // Whether an instruction can run, and what it costs and changes then. `input` is the input area, of the declared length.
 pub fn planned(
+    z: u64,
     sectors: u64,
     copies: u64,
     places: [Place; 8],
@@ -108,10 +112,11 @@ pub fn planned(
     disk: &[u8],
     input: &[u8],
 ) -> Plan
-    requires { ⌜ Solid 4096 (setting sectors copies places terms (now disk)) ⌝ }
-    requires { ⌜ Good 4096 (setting sectors copies places terms (now disk)) p ⌝ }
+    requires { ⌜ Size z ⌝ }
+    requires { ⌜ Solid z (setting sectors copies places terms (now disk)) ⌝ }
+    requires { ⌜ Good z (setting sectors copies places terms (now disk)) p ⌝ }
     requires { ⌜ length (now input) ≡ terms .head .length ⌝ }
-    ensures { λ r. ⌜ said r ≡ planOf 4096 (setting sectors copies places terms (now (disk .entry))) p i (now (input .entry)) ⌝ }
+    ensures { λ r. ⌜ said r ≡ planOf z (setting sectors copies places terms (now (disk .entry))) p i (now (input .entry)) ⌝ }
 {
     let name = i.name;
     let op = sia::op_of(name);
@@ -127,5 +132,16 @@ pub fn planned(
         return Plan::failed(op, 23);
     }
     let args = given.args;
-    argued(sectors, copies, places, terms, p, i.proof, op, args, disk)
+    argued(
+        z,
+        sectors,
+        copies,
+        places,
+        terms,
+        p,
+        i.proof,
+        op,
+        args,
+        disk,
+    )
 }

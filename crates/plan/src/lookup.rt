@@ -8,6 +8,7 @@ use view::Seen;
 ghost use mathlib.Core.Path.{_≡_};
 ghost use mathlib.Core.Bool.{true, false};
 ghost use mathlib.Core.List.{[]};
+ghost use Rattle.area.specs.Slots.{Size};
 ghost use Rattle.sia.specs.Encode.{every};
 ghost use Rattle.host.specs.Places.{taken};
 ghost use Rattle.host.specs.Order.{placeInOrder};
@@ -49,9 +50,10 @@ impl Source {
 }
 
 // Read: the parent as it is now, another contract as committed.
-fn contract_source(places: [Place; 8], terms: Terms, p: Progress, key: [u8; 32]) -> Source
-    requires { ⌜ every (placeInOrder 4096) places ≡ true ⌝ }
-    ensures { λ r. ⌜ Shows r (contractSource 4096 (setting 0 0 places terms []) p key) ⌝ }
+fn contract_source(z: u64, places: [Place; 8], terms: Terms, p: Progress, key: [u8; 32]) -> Source
+    requires { ⌜ Size z ⌝ }
+    requires { ⌜ every (placeInOrder z) places ≡ true ⌝ }
+    ensures { λ r. ⌜ Shows r (contractSource z (setting 0 0 places terms []) p key) ⌝ }
 {
     let other = host::place_of(places, key);
     if !other.held {
@@ -61,25 +63,27 @@ fn contract_source(places: [Place; 8], terms: Terms, p: Progress, key: [u8; 32])
     let id = head.contract;
     if sia::same_id(key, id) {
         let staged = p.staged;
-        let seen = sights::parent_seen(other, staged, p.size);
+        let seen = sights::parent_seen(z, other, staged, p.size);
         return Source { there: true, seen };
     }
-    let seen = sights::committed_seen(other);
+    let seen = sights::committed_seen(z, other);
     Source { there: true, seen }
 }
 
 // ReadSector: the first committed sector with that root.
-fn sector_source(disk: &[u8], places: [Place; 8], terms: Terms, key: [u8; 32]) -> Source
-    requires { ⌜ every (holds 4096 (now disk)) (taken 4096 places) ≡ true ⌝ }
-    ensures { λ r. ⌜ Shows r (sectorSource 4096 (setting 0 0 places terms (now (disk .entry))) key) ⌝ }
+fn sector_source(z: u64, disk: &[u8], places: [Place; 8], terms: Terms, key: [u8; 32]) -> Source
+    requires { ⌜ Size z ⌝ }
+    requires { ⌜ every (holds z (now disk)) (taken z places) ≡ true ⌝ }
+    ensures { λ r. ⌜ Shows r (sectorSource z (setting 0 0 places terms (now (disk .entry))) key) ⌝ }
 {
-    let seen = sights::find_root(disk, places, key);
+    let seen = sights::find_root(z, disk, places, key);
     let there = seen.count != 0;
     Source { there, seen }
 }
 
 // What an instruction reads. Where nothing is found it is not there.
 pub fn source_of(
+    z: u64,
     disk: &[u8],
     places: [Place; 8],
     terms: Terms,
@@ -87,13 +91,14 @@ pub fn source_of(
     op: Op,
     key: [u8; 32],
 ) -> Source
-    requires { ⌜ every (placeInOrder 4096) places ≡ true ⌝ }
-    requires { ⌜ every (holds 4096 (now disk)) (taken 4096 places) ≡ true ⌝ }
-    ensures { λ r. ⌜ Shows r (sourceOf 4096 (setting 0 0 places terms (now (disk .entry))) p op key) ⌝ }
+    requires { ⌜ Size z ⌝ }
+    requires { ⌜ every (placeInOrder z) places ≡ true ⌝ }
+    requires { ⌜ every (holds z (now disk)) (taken z places) ≡ true ⌝ }
+    ensures { λ r. ⌜ Shows r (sourceOf z (setting 0 0 places terms (now (disk .entry))) p op key) ⌝ }
 {
     match op {
-        Op::Read => contract_source(places, terms, p, key),
-        Op::ReadSector => sector_source(disk, places, terms, key),
+        Op::Read => contract_source(z, places, terms, p, key),
+        Op::ReadSector => sector_source(z, disk, places, terms, key),
         Op::Write => Source::nothing(),
         Op::Copy => Source::nothing(),
         Op::Swap => Source::nothing(),

@@ -17,12 +17,12 @@ sectorsOf n = seen (tab 0 n OnDisk)
 unfoldable pub numbers : Args → Says.Args
 numbers a = record { key = a .key; first = a .first; second = a .second; len = a .len; bytes = [] }
 
--- a length that is charged for is within a sector
+-- a length that is charged for is within the largest sector
 unfoldable pub Small : Op → ℕ → Type 0
-Small Read n = n ≤ 4096
-Small ReadSector n = n ≤ 4096
-Small Write n = n ≤ 4096
-Small Copy n = n ≤ 4096
-Small Swap n = n ≤ 4096
+Small Read n = n ≤ 4194304
+Small ReadSector n = n ≤ 4194304
+Small Write n = n ≤ 4194304
+Small Copy n = n ≤ 4194304
+Small Swap n = n ≤ 4194304
 Small Truncate n = Unit {0}
 Small Unknown n = Unit {0}

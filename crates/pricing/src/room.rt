@@ -1,6 +1,5 @@
 // What checks 40, 41 and 42 count: stage slots, the new size, and the record's length.
 use crate::kinds::reads;
-use host::Host;
 use host::Progress;
 use inputs::Args;
 use sia::Op;
@@ -10,6 +9,7 @@ ghost use Prim.Native.Nat.{_≤_};
 ghost use lib.ListN.{getD};
 ghost use lib.Dec.{eqb};
 ghost use Rattle.area.specs.Pick.{pick};
+ghost use Rattle.area.specs.Slots.{Size};
 ghost use Rattle.sia.specs.declared.Op.the-variants.{Swap, Truncate};
 ghost use Rattle.host.specs.Lists.{count, unused};
 ghost use Rattle.host.specs.Empty.{none};
@@ -55,12 +55,13 @@ fn lacks(staged: [u8; 64], at: u64) -> u64
 }
 
 // Of Swap: offset 2's position first.
-fn wanted_swap(p: Progress, args: Args) -> u64
-    ensures { λ r. ⌜ r ≡ Says.wanted 4096 p Swap (numbers args) ⌝ }
+fn wanted_swap(z: u64, p: Progress, args: Args) -> u64
+    requires { ⌜ Size z ⌝ }
+    ensures { λ r. ⌜ r ≡ Says.wanted z p Swap (numbers args) ⌝ }
 {
     let staged = p.staged;
-    let one = args.first / Host::SECTOR;
-    let two = args.second / Host::SECTOR;
+    let one = args.first / z;
+    let two = args.second / z;
     if one == two {
         return lacks(staged, two);
     }
@@ -68,28 +69,30 @@ fn wanted_swap(p: Progress, args: Args) -> u64
 }
 
 // Of Truncate: the position that growth adds.
-fn wanted_size(p: Progress, args: Args) -> u64
-    ensures { λ r. ⌜ r ≡ Says.wanted 4096 p Truncate (numbers args) ⌝ }
+fn wanted_size(z: u64, p: Progress, args: Args) -> u64
+    requires { ⌜ Size z ⌝ }
+    ensures { λ r. ⌜ r ≡ Says.wanted z p Truncate (numbers args) ⌝ }
 {
     let staged = p.staged;
     if p.size < args.first {
-        return lacks(staged, p.size / Host::SECTOR);
+        return lacks(staged, p.size / z);
     }
     0
 }
 
 // 40: how many stage slots an instruction needs.
-pub fn wanted(p: Progress, op: Op, args: Args) -> u64
-    ensures { λ r. ⌜ r ≡ Says.wanted 4096 p op (numbers args) ⌝ }
+pub fn wanted(z: u64, p: Progress, op: Op, args: Args) -> u64
+    requires { ⌜ Size z ⌝ }
+    ensures { λ r. ⌜ r ≡ Says.wanted z p op (numbers args) ⌝ }
 {
     let staged = p.staged;
     match op {
         Op::Read => 0,
         Op::ReadSector => 0,
-        Op::Write => lacks(staged, args.first / Host::SECTOR),
-        Op::Copy => lacks(staged, args.first / Host::SECTOR),
-        Op::Swap => wanted_swap(p, args),
-        Op::Truncate => wanted_size(p, args),
+        Op::Write => lacks(staged, args.first / z),
+        Op::Copy => lacks(staged, args.first / z),
+        Op::Swap => wanted_swap(z, p, args),
+        Op::Truncate => wanted_size(z, p, args),
         Op::Unknown => 0,
     }
 }
@@ -110,15 +113,21 @@ pub fn new_size(size: u64, op: Op, args: Args) -> u64
 }
 
 // How many hashes a range of segments is proved by, 0 where no proof is asked.
-pub fn proof_count(asked: bool, seen: u64, args: Args) -> u64
+pub fn proof_count(z: u64, asked: bool, seen: u64, args: Args) -> u64
+    requires { ⌜ Size z ⌝ }
     requires { ⌜ seen ≤ 64 ⌝ }
-    requires { ⌜ (asked ≡ true → Ranged 4096 seen (args .first) (args .len)) ⌝ }
-    ensures { λ r. ⌜ r ≡ proofCount 4096 asked (sectorsOf seen) (numbers args) ⌝ }
+    requires { ⌜ (asked ≡ true → Ranged z seen (args .first) (args .len)) ⌝ }
+    ensures { λ r. ⌜ r ≡ proofCount z asked (sectorsOf seen) (numbers args) ⌝ }
 {
     if !asked {
         return 0;
     }
-    view::range_count(seen as usize, args.first as usize, args.len as usize) as u64
+    view::range_count(
+        z as usize,
+        seen as usize,
+        args.first as usize,
+        args.len as usize,
+    ) as u64
 }
 
 // How many bytes are handed out.

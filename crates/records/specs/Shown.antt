@@ -1,4 +1,4 @@
--- What a record shows of what was read: its proof and its bytes. Assumes nothing.
+-- What a record shows of what was read: its proof and its bytes. z is the sector size. Assumes nothing.
 use mathlib.Core.Path.{_≡_}
 use mathlib.Core.Bool.{Bool, true}
 use mathlib.Core.List.{List, []}
@@ -12,17 +12,17 @@ use Rattle.view.specs.Seen.{spotsOf, Lies, Inside, Ranged}
 use Rattle.view.specs.declared.Seen.{Seen}
 
 -- the proof of the n bytes from `at` on, where one is asked
-unfoldable pub shownProof : Bool → List ℕ → List ℕ → Seen → ℕ → ℕ → List ℕ
-shownProof asked disk stage v at n = pick asked (rangeProof 4096 disk stage (spotsOf v) at n) []
+unfoldable pub shownProof : ℕ → Bool → List ℕ → List ℕ → Seen → ℕ → ℕ → List ℕ
+shownProof z asked disk stage v at n = pick asked (rangeProof z disk stage (spotsOf v) at n) []
 
 -- the n bytes themselves, where they are read
-unfoldable pub shownBytes : Bool → List ℕ → List ℕ → Seen → ℕ → ℕ → List ℕ
-shownBytes reads disk stage v at n = pick reads (part (sector 4096 disk stage (spotOf (v .slots) (v .staged) (at / 4096))) (at % 4096) n) []
+unfoldable pub shownBytes : ℕ → Bool → List ℕ → List ℕ → Seen → ℕ → ℕ → List ℕ
+shownBytes z reads disk stage v at n = pick reads (part (sector z disk stage (spotOf (v .slots) (v .staged) (at / z))) (at % z) n) []
 
 -- what is seen lies in the areas, what is shown lies in it, and there is room for the record
-pub record Shows (disk stage : List ℕ) (v : Seen) (asked reads : Bool) (at n hashes : ℕ) (out : List ℕ) : Type 0 where
-  pub lies : Lies 4096 disk stage v
-  pub inside : reads ≡ true → Inside 4096 (v .count) at n
-  pub ranged : asked ≡ true → Ranged 4096 (v .count) at n
-  pub count : length (shownProof asked disk stage v at n) ≡ 32 * hashes
+pub record Shows (z : ℕ) (disk stage : List ℕ) (v : Seen) (asked reads : Bool) (at n hashes : ℕ) (out : List ℕ) : Type 0 where
+  pub lies : Lies z disk stage v
+  pub inside : reads ≡ true → Inside z (v .count) at n
+  pub ranged : asked ≡ true → Ranged z (v .count) at n
+  pub count : length (shownProof z asked disk stage v at n) ≡ 32 * hashes
   pub room : 72 + 32 * hashes + pick reads n 0 ≤ length out

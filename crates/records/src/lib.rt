@@ -36,6 +36,7 @@ pub fn put_failure(number: u64, size: u64, root: [u8; 32], out: &mut [u8])
 
 // The proof of what is read, where one is asked.
 fn put_proof<'a>(
+    z: usize,
     asked: bool,
     disk: &'a [u8],
     stage: &'a [u8],
@@ -44,18 +45,19 @@ fn put_proof<'a>(
     n: usize,
     out: &mut [u8],
 )
-    requires { ⌜ Lies 4096 (now disk) (now stage) seen ⌝ }
-    requires { ⌜ (asked ≡ true → Ranged 4096 (seen .count) at n) ⌝ }
-    requires { ⌜ length (shownProof asked (now disk) (now stage) seen at n) ≤ length (now out) ⌝ }
-    ensures { λ _. ⌜ now (out .exit) ≡ put (now (out .entry)) 0 (shownProof asked (now (disk .entry)) (now (stage .entry)) seen at n) ⌝ }
+    requires { ⌜ Lies z (now disk) (now stage) seen ⌝ }
+    requires { ⌜ (asked ≡ true → Ranged z (seen .count) at n) ⌝ }
+    requires { ⌜ length (shownProof z asked (now disk) (now stage) seen at n) ≤ length (now out) ⌝ }
+    ensures { λ _. ⌜ now (out .exit) ≡ put (now (out .entry)) 0 (shownProof z asked (now (disk .entry)) (now (stage .entry)) seen at n) ⌝ }
 {
     if asked {
-        roots::range_proof(disk, stage, seen, at, n, out);
+        roots::range_proof(z, disk, stage, seen, at, n, out);
     }
 }
 
 // The bytes of what is read.
 fn put_bytes<'a>(
+    z: usize,
     reads: bool,
     disk: &'a [u8],
     stage: &'a [u8],
@@ -64,13 +66,13 @@ fn put_bytes<'a>(
     n: usize,
     out: &mut [u8],
 )
-    requires { ⌜ Lies 4096 (now disk) (now stage) seen ⌝ }
-    requires { ⌜ (reads ≡ true → Inside 4096 (seen .count) at n) ⌝ }
+    requires { ⌜ Lies z (now disk) (now stage) seen ⌝ }
+    requires { ⌜ (reads ≡ true → Inside z (seen .count) at n) ⌝ }
     requires { ⌜ pick reads n 0 ≤ length (now out) ⌝ }
-    ensures { λ _. ⌜ now (out .exit) ≡ put (now (out .entry)) 0 (shownBytes reads (now (disk .entry)) (now (stage .entry)) seen at n) ⌝ }
+    ensures { λ _. ⌜ now (out .exit) ≡ put (now (out .entry)) 0 (shownBytes z reads (now (disk .entry)) (now (stage .entry)) seen at n) ⌝ }
 {
     if reads {
-        let bytes = view::span(disk, stage, seen, at, n);
+        let bytes = view::span(z, disk, stage, seen, at, n);
         area::copy_between(bytes, 0, out, 0, n);
     }
 }
@@ -87,6 +89,7 @@ fn count_of(reads: bool, n: usize) -> u64
 
 // The record of an instruction that ran: the remainder behind its front is lent on to the writer of hashes, and behind them that of bytes.
 pub fn put_success<'a>(
+    z: usize,
     cost: u64,
     size: u64,
     root: [u8; 32],
@@ -100,13 +103,16 @@ pub fn put_success<'a>(
     n: usize,
     out: &mut [u8],
 )
-    requires { ⌜ Shows (now disk) (now stage) seen asked reads at n hashes (now out) ⌝ }
-    ensures { λ _. ⌜ now (out .exit) ≡ put (now (out .entry)) 0 (recordBytes 0 cost (pairing size root) hashes (shownProof asked (now (disk .entry)) (now (stage .entry)) seen at n) (pick reads n 0) (shownBytes reads (now (disk .entry)) (now (stage .entry)) seen at n)) ⌝ }
+    requires { ⌜ Shows z (now disk) (now stage) seen asked reads at n hashes (now out) ⌝ }
+    ensures { λ _. ⌜ now (out .exit) ≡
+        put (now (out .entry)) 0 (recordBytes 0 cost (pairing size root)
+        hashes (shownProof z asked (now (disk .entry)) (now (stage .entry)) seen at n)
+        (pick reads n 0) (shownBytes z reads (now (disk .entry)) (now (stage .entry)) seen at n)) ⌝ }
 {
     put_front(0, cost, size, root, hashes, out);
-    put_proof(asked, disk, stage, seen, at, n, &mut out[64..]);
+    put_proof(z, asked, disk, stage, seen, at, n, &mut out[64..]);
     let behind = 64 + 32 * (hashes as usize);
     let count = count_of(reads, n);
     area::store(out, behind, 8, count);
-    put_bytes(reads, disk, stage, seen, at, n, &mut out[behind + 8..]);
+    put_bytes(z, reads, disk, stage, seen, at, n, &mut out[behind + 8..]);
 }

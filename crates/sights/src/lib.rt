@@ -6,6 +6,7 @@ ghost use mathlib.Core.List.{[], _∷_};
 ghost use Prim.Native.Nat.{_/_, _≤_, _<_};
 ghost use lib.ListN.{length, getD};
 ghost use Rattle.area.specs.Area.{same, tab};
+ghost use Rattle.area.specs.Slots.{Size};
 ghost use Rattle.sia.specs.Encode.{every};
 ghost use Rattle.host.specs.Lists.{each};
 ghost use Rattle.host.specs.Places.{taken};
@@ -15,7 +16,6 @@ ghost use Rattle.rules.specs.View.{spotOf, committedSpots};
 ghost use Rattle.rules.specs.Roots.{sectorRoot, firstRoot};
 ghost use Rattle.rules.specs.declared.Spot.the-variants.{OnDisk};
 ghost use Rattle.view.specs.Seen.{spotsOf, holds};
-use host::Host;
 use host::Place;
 use host::Progress;
 use host::Slots;
@@ -49,10 +49,11 @@ fn one(n: u8) -> Seen
 }
 
 // The parent up to a size: from the stage where it has a copy there, else from the disk.
-pub fn parent_seen(place: Place, staged: [u8; 64], size: u64) -> Seen
-    ensures { λ r. ⌜ (spotsOf r ≡ tab 0 (size / 4096) (spotOf (place .slots) staged)) × (r .count ≡ size / 4096) ⌝ }
+pub fn parent_seen(z: u64, place: Place, staged: [u8; 64], size: u64) -> Seen
+    requires { ⌜ Size z ⌝ }
+    ensures { λ r. ⌜ (spotsOf r ≡ tab 0 (size / z) (spotOf (place .slots) staged)) × (r .count ≡ size / z) ⌝ }
 {
-    let count = (size / Host::SECTOR) as usize;
+    let count = (size / z) as usize;
     let slots = place.slots;
     Seen {
         count,
@@ -62,24 +63,26 @@ pub fn parent_seen(place: Place, staged: [u8; 64], size: u64) -> Seen
 }
 
 // The committed sectors of a contract.
-pub fn committed_seen(place: Place) -> Seen
-    requires { ⌜ placeInOrder 4096 place ≡ true ⌝ }
-    ensures { λ r. ⌜ (spotsOf r ≡ committedSpots 4096 place) × (r .count ≤ 64) ⌝ }
+pub fn committed_seen(z: u64, place: Place) -> Seen
+    requires { ⌜ Size z ⌝ }
+    requires { ⌜ placeInOrder z place ≡ true ⌝ }
+    ensures { λ r. ⌜ (spotsOf r ≡ committedSpots z place) × (r .count ≤ 64) ⌝ }
 {
     if !place.held {
         return nothing();
     }
     let staged = [Progress::NONE; 64];
     let size = place.size;
-    parent_seen(place, staged, size)
+    parent_seen(z, place, staged, size)
 }
 
 // Whether the sector in disk slot n has that root, all 32 bytes.
-fn has_root(disk: &[u8], n: usize, key: [u8; 32]) -> bool
-    requires { ⌜ holds 4096 (now disk) n ≡ true ⌝ }
-    ensures { λ r. ⌜ r ≡ same (sectorRoot 4096 (now (disk .entry)) [] (OnDisk n)) key ⌝ }
+fn has_root(z: usize, disk: &[u8], n: usize, key: [u8; 32]) -> bool
+    requires { ⌜ Size z ⌝ }
+    requires { ⌜ holds z (now disk) n ≡ true ⌝ }
+    ensures { λ r. ⌜ r ≡ same (sectorRoot z (now (disk .entry)) [] (OnDisk n)) key ⌝ }
 {
-    let root = view::sector_root(disk, disk, Spot::OnDisk(n));
+    let root = view::sector_root(z, disk, disk, Spot::OnDisk(n));
     agrees(&root, &key)
 }
 
@@ -99,14 +102,15 @@ fn slot_at(slots: &[u8], i: usize) -> u8
 }
 
 // The first sector with that root, of those in the disk slots listed; no sector where none has it.
-fn first_root(disk: &[u8], slots: &[u8], key: [u8; 32]) -> Seen
-    requires { ⌜ every (holds 4096 (now disk)) (now slots) ≡ true ⌝ }
-    ensures { λ r. ⌜ (spotsOf r ≡ firstRoot 4096 (now (disk .entry)) key (each OnDisk (now (slots .entry)))) × (r .count ≤ 1) ⌝ }
+fn first_root(z: usize, disk: &[u8], slots: &[u8], key: [u8; 32]) -> Seen
+    requires { ⌜ Size z ⌝ }
+    requires { ⌜ every (holds z (now disk)) (now slots) ≡ true ⌝ }
+    ensures { λ r. ⌜ (spotsOf r ≡ firstRoot z (now (disk .entry)) key (each OnDisk (now (slots .entry)))) × (r .count ≤ 1) ⌝ }
 {
     let mut i: usize = 0;
     while i < slots.len() {
         let n = slot_at(slots, i);
-        if has_root(disk, n as usize, key) {
+        if has_root(z, disk, n as usize, key) {
             return one(n);
         }
         i += 1;
@@ -115,21 +119,23 @@ fn first_root(disk: &[u8], slots: &[u8], key: [u8; 32]) -> Seen
 }
 
 // The same, of the slots that an array lists.
-fn first_listed(disk: &[u8], all: Slots, key: [u8; 32]) -> Seen
+fn first_listed(z: usize, disk: &[u8], all: Slots, key: [u8; 32]) -> Seen
+    requires { ⌜ Size z ⌝ }
     requires { ⌜ all .count ≤ 512 ⌝ }
-    requires { ⌜ every (holds 4096 (now disk)) (listed all) ≡ true ⌝ }
-    ensures { λ r. ⌜ (spotsOf r ≡ firstRoot 4096 (now (disk .entry)) key (each OnDisk (listed all))) × (r .count ≤ 1) ⌝ }
+    requires { ⌜ every (holds z (now disk)) (listed all) ≡ true ⌝ }
+    ensures { λ r. ⌜ (spotsOf r ≡ firstRoot z (now (disk .entry)) key (each OnDisk (listed all))) × (r .count ≤ 1) ⌝ }
 {
     let items = all.items;
     let count = all.count;
-    first_root(disk, &items[..count], key)
+    first_root(z, disk, &items[..count], key)
 }
 
 // The first committed sector with that root, by contract place, then position; no sector where none has it.
-pub fn find_root(disk: &[u8], places: [Place; 8], key: [u8; 32]) -> Seen
-    requires { ⌜ every (holds 4096 (now disk)) (taken 4096 places) ≡ true ⌝ }
-    ensures { λ r. ⌜ (spotsOf r ≡ firstRoot 4096 (now (disk .entry)) key (each OnDisk (taken 4096 places))) × (r .count ≤ 1) ⌝ }
+pub fn find_root(z: u64, disk: &[u8], places: [Place; 8], key: [u8; 32]) -> Seen
+    requires { ⌜ Size z ⌝ }
+    requires { ⌜ every (holds z (now disk)) (taken z places) ≡ true ⌝ }
+    ensures { λ r. ⌜ (spotsOf r ≡ firstRoot z (now (disk .entry)) key (each OnDisk (taken z places))) × (r .count ≤ 1) ⌝ }
 {
-    let all = host::slots_taken(places);
-    first_listed(disk, all, key)
+    let all = host::slots_taken(z, places);
+    first_listed(z as usize, disk, all, key)
 }

@@ -7,10 +7,10 @@ ghost use Rattle.area.specs.Area.{part};
 ghost use Rattle.rules.specs.Effect.{spanWritten};
 ghost use Rattle.staging.specs.Parts.{ground, staging, spanCopied, spansSwapped};
 ghost use Rattle.staging.specs.Asks.{Lent, From, Over, Two};
-use host::Host;
 
 // Bytes over the parent's from `at` on: n bytes of the input from `from` on.
 pub fn write(
+    z: usize,
     copies: u64,
     slots: [u8; 64],
     disk: &[u8],
@@ -21,19 +21,20 @@ pub fn write(
     input: &[u8],
     from: usize,
 ) -> [u8; 64]
-    requires { ⌜ Lent 4096 (ground copies slots (now disk)) (staging staged (now stage)) ⌝ }
-    requires { ⌜ Over 4096 (ground copies slots (now disk)) (staging staged (now stage)) at n ⌝ }
+    requires { ⌜ Lent z (ground copies slots (now disk)) (staging staged (now stage)) ⌝ }
+    requires { ⌜ Over z (ground copies slots (now disk)) (staging staged (now stage)) at n ⌝ }
     requires { ⌜ from + n ≤ length (now input) ⌝ }
     ensures { λ r. ⌜ staging r (now (stage .exit)) ≡
-        spanWritten 4096 (ground copies slots (now (disk .entry))) at (part (now (input .entry)) from n) (staging staged (now (stage .entry))) ⌝ }
+        spanWritten z (ground copies slots (now (disk .entry))) at (part (now (input .entry)) from n) (staging staged (now (stage .entry))) ⌝ }
 {
-    let after = staging::copied(copies, slots, disk, staged, stage, at / Host::SECTOR_LEN);
-    area::copy_between(input, from, stage, staging::place(after, at), n);
+    let after = staging::copied(z, copies, slots, disk, staged, stage, at / z);
+    area::copy_between(input, from, stage, staging::place(z, after, at), n);
     after
 }
 
 // n bytes of the parent from `from` on, laid from `to` on as they were at the start.
 pub fn copy(
+    z: usize,
     copies: u64,
     slots: [u8; 64],
     disk: &[u8],
@@ -43,23 +44,24 @@ pub fn copy(
     from: usize,
     n: usize,
 ) -> [u8; 64]
-    requires { ⌜ Lent 4096 (ground copies slots (now disk)) (staging staged (now stage)) ⌝ }
-    requires { ⌜ Over 4096 (ground copies slots (now disk)) (staging staged (now stage)) to n ⌝ }
-    requires { ⌜ From 4096 (ground copies slots (now disk)) (staging staged (now stage)) from n ⌝ }
-    ensures { λ r. ⌜ staging r (now (stage .exit)) ≡ spanCopied 4096 (ground copies slots (now (disk .entry))) to from n (staging staged (now (stage .entry))) ⌝ }
+    requires { ⌜ Lent z (ground copies slots (now disk)) (staging staged (now stage)) ⌝ }
+    requires { ⌜ Over z (ground copies slots (now disk)) (staging staged (now stage)) to n ⌝ }
+    requires { ⌜ From z (ground copies slots (now disk)) (staging staged (now stage)) from n ⌝ }
+    ensures { λ r. ⌜ staging r (now (stage .exit)) ≡ spanCopied z (ground copies slots (now (disk .entry))) to from n (staging staged (now (stage .entry))) ⌝ }
 {
-    let after = staging::copied(copies, slots, disk, staged, stage, to / Host::SECTOR_LEN);
-    let there = staging::place(after, to);
-    if staging::is_bare(after, from / Host::SECTOR_LEN) {
-        area::copy_between(disk, staging::place(slots, from), stage, there, n);
+    let after = staging::copied(z, copies, slots, disk, staged, stage, to / z);
+    let there = staging::place(z, after, to);
+    if staging::is_bare(after, from / z) {
+        area::copy_between(disk, staging::place(z, slots, from), stage, there, n);
     } else {
-        area::move_within(stage, staging::place(after, from), there, n);
+        area::move_within(stage, staging::place(z, after, from), there, n);
     }
     after
 }
 
 // Two spans of n bytes exchanged, both as they were at the start. The second's slot is taken first.
 pub fn swap(
+    z: usize,
     copies: u64,
     slots: [u8; 64],
     disk: &[u8],
@@ -69,16 +71,17 @@ pub fn swap(
     two: usize,
     n: usize,
 ) -> [u8; 64]
-    requires { ⌜ Lent 4096 (ground copies slots (now disk)) (staging staged (now stage)) ⌝ }
-    requires { ⌜ Two 4096 (ground copies slots (now disk)) (staging staged (now stage)) one two n ⌝ }
-    ensures { λ r. ⌜ staging r (now (stage .exit)) ≡ spansSwapped 4096 (ground copies slots (now (disk .entry))) one two n (staging staged (now (stage .entry))) ⌝ }
+    requires { ⌜ Lent z (ground copies slots (now disk)) (staging staged (now stage)) ⌝ }
+    requires { ⌜ Two z (ground copies slots (now disk)) (staging staged (now stage)) one two n ⌝ }
+    ensures { λ r. ⌜ staging r (now (stage .exit)) ≡
+        spansSwapped z (ground copies slots (now (disk .entry))) one two n (staging staged (now (stage .entry))) ⌝ }
 {
-    let first = staging::copied(copies, slots, disk, staged, stage, two / Host::SECTOR_LEN);
-    let after = staging::copied(copies, slots, disk, first, stage, one / Host::SECTOR_LEN);
+    let first = staging::copied(z, copies, slots, disk, staged, stage, two / z);
+    let after = staging::copied(z, copies, slots, disk, first, stage, one / z);
     area::swap_within(
         stage,
-        staging::place(after, one),
-        staging::place(after, two),
+        staging::place(z, after, one),
+        staging::place(z, after, two),
         n,
     );
     after

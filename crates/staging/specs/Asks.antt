@@ -4,6 +4,7 @@ use mathlib.Core.Bool.{Bool, true}
 use Prim.Native.Nat.{ℕ, _+_, _*_, _/_, _%_, _≤_, _<_}
 use lib.ListN.{length, getD}
 use lib.Dec.{eqb}
+use Rattle.area.specs.Slots.{Size}
 use Rattle.sia.specs.Encode.{every}
 use Rattle.host.specs.Lists.{count, unused}
 use Rattle.host.specs.Empty.{none}
@@ -17,8 +18,9 @@ use Rattle.sia.specs.declared.Op.the-variants.{Write, Copy, Swap, Truncate}
 unfoldable pub bare : ℕ → Staging → Bool
 bare at g = eqb (getD (g .staged) at none) none
 
--- the stage is as long as its slots, and each staged position lies in one of them
+-- sectors have a size that there is, the stage is as long as its slots, and each staged position lies in one of them
 pub record Lent (z : ℕ) (e : Ground) (g : Staging) : Type 0 where
+  pub size : Size z
   pub few : e .copies ≤ 16
   pub long : length (g .bytes) ≡ e .copies * z
   pub slots : every (slotInOrder (e .copies)) (g .staged) ≡ true

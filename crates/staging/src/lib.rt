@@ -5,11 +5,11 @@ ghost use mathlib.Core.Path.{_≡_};
 ghost use Prim.Native.Nat.{_/_, _<_};
 ghost use lib.ListN.{getD};
 ghost use lib.Dec.{eqb};
+ghost use Rattle.area.specs.Slots.{Size};
 ghost use Rattle.host.specs.Empty.{none};
 ghost use Rattle.rules.specs.Effect as Says;
 ghost use Rattle.staging.specs.Parts.{ground, staging, placeOf};
 ghost use Rattle.staging.specs.Asks.{Lent, Room};
-use host::Host;
 use host::Progress;
 
 // Whether a position has no copy.
@@ -22,6 +22,7 @@ pub fn is_bare(staged: [u8; 64], at: usize) -> bool
 
 // A copy of position `at`, unless it has one: the disk's sector in the lowest free slot.
 pub fn copied(
+    z: usize,
     copies: u64,
     slots: [u8; 64],
     disk: &[u8],
@@ -29,21 +30,15 @@ pub fn copied(
     stage: &mut [u8],
     at: usize,
 ) -> [u8; 64]
-    requires { ⌜ Lent 4096 (ground copies slots (now disk)) (staging staged (now stage)) ⌝ }
-    requires { ⌜ Room 4096 (ground copies slots (now disk)) (staging staged (now stage)) at ⌝ }
-    ensures { λ r. ⌜ staging r (now (stage .exit)) ≡ Says.copied 4096 (ground copies slots (now (disk .entry))) at (staging staged (now (stage .entry))) ⌝ }
+    requires { ⌜ Lent z (ground copies slots (now disk)) (staging staged (now stage)) ⌝ }
+    requires { ⌜ Room z (ground copies slots (now disk)) (staging staged (now stage)) at ⌝ }
+    ensures { λ r. ⌜ staging r (now (stage .exit)) ≡ Says.copied z (ground copies slots (now (disk .entry))) at (staging staged (now (stage .entry))) ⌝ }
 {
     if !is_bare(staged, at) {
         return staged;
     }
     let slot = host::free_copy(copies, staged);
-    area::copy_between(
-        disk,
-        slots[at] as usize * Host::SECTOR_LEN,
-        stage,
-        slot as usize * Host::SECTOR_LEN,
-        Host::SECTOR_LEN,
-    );
+    area::copy_between(disk, slots[at] as usize * z, stage, slot as usize * z, z);
     let mut after = staged;
     after[at] = slot as u8;
     after
@@ -56,9 +51,10 @@ fn wide(x: u8) -> usize
 }
 
 // Where byte `at` lies in an area, by the slots of the positions.
-pub fn place(slots: [u8; 64], at: usize) -> usize
-    requires { ⌜ at / 4096 < 64 ⌝ }
-    ensures { λ r. ⌜ r ≡ placeOf 4096 slots at ⌝ }
+pub fn place(z: usize, slots: [u8; 64], at: usize) -> usize
+    requires { ⌜ Size z ⌝ }
+    requires { ⌜ at / z < 64 ⌝ }
+    ensures { λ r. ⌜ r ≡ placeOf z slots at ⌝ }
 {
-    wide(slots[at / Host::SECTOR_LEN]) * Host::SECTOR_LEN + at % Host::SECTOR_LEN
+    wide(slots[at / z]) * z + at % z
 }

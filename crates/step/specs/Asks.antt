@@ -1,10 +1,11 @@
--- What the functions of a step ask of their callers. Assumes nothing.
+-- What the functions of a step ask of their callers. z is the sector size. Assumes nothing.
 use mathlib.Core.Path.{_≡_}
 use mathlib.Core.Bool.{Bool, true}
 use mathlib.Core.List.{List}
 use Prim.Native.Nat.{ℕ, _+_, _*_, _/_, _≤_, _<_, _^_}
 use lib.ListN.{length, drop}
 use Rattle.area.specs.Area.{part, tab}
+use Rattle.area.specs.Slots.{Size}
 use Rattle.sia.specs.Encode.{every}
 use Rattle.host.specs.Places.{committed}
 use Rattle.host.specs.Order.{placeInOrder}
@@ -22,34 +23,37 @@ use Rattle.sia.specs.declared.Op.the-variants.{Write}
 use Rattle.host.specs.declared.Progress.{Progress}
 use Rattle.plan.specs.declared.Plan.{Plan}
 
--- a contract in order whose slots lie within the disk
-pub record Stands (disk : List ℕ) (p : Place) : Type 0 where
-  pub order : placeInOrder 4096 p ≡ true
-  pub slots : every (holds 4096 disk) (committed 4096 p) ≡ true
+-- a contract in order whose slots, of a size that there is, lie within the disk
+pub record Stands (z : ℕ) (disk : List ℕ) (p : Place) : Type 0 where
+  pub size : Size z
+  pub order : placeInOrder z p ≡ true
+  pub slots : every (holds z disk) (committed z p) ≡ true
 
--- the parent's sectors up to its running size lie within the areas
-pub record Reads (disk stage : List ℕ) (p : Place) (g : Progress) : Type 0 where
-  pub few : g .size / 4096 ≤ 64
-  pub spots : every (lies 4096 disk stage) (tab 0 (g .size / 4096) (spotOf (p .slots) (g .staged))) ≡ true
+-- the parent's sectors up to its running size, of a size that there is, lie within the areas
+pub record Reads (z : ℕ) (disk stage : List ℕ) (p : Place) (g : Progress) : Type 0 where
+  pub size : Size z
+  pub few : g .size / z ≤ 64
+  pub spots : every (lies z disk stage) (tab 0 (g .size / z) (spotOf (p .slots) (g .staged))) ≡ true
 
--- a program that is going on a host in order, and its areas as stated
-pub record Steps (s : Setting) (t : Turn) (a : List ℕ) : Type 0 where
-  pub solid : Solid 4096 s
-  pub good : Good 4096 s (t .progress)
+-- a program that is going on a host in order, sectors of a size that there is, and its areas as stated
+pub record Steps (z : ℕ) (s : Setting) (t : Turn) (a : List ℕ) : Type 0 where
+  pub solid : Solid z s
+  pub good : Good z s (t .progress)
   pub going : going (s .terms) (t .progress) ≡ true
   pub input : length a ≡ s .terms .head .length
-  pub stage : length (t .stage) ≡ s .copies * 4096
+  pub stage : length (t .stage) ≡ s .copies * z
   pub output : length (t .output) ≡ s .terms .room
 
 -- an instruction that can run: what its effect asks, where Write's data lies, and, after the effect, the parent within the areas and
 -- room for the record; no sum passes 64 bits
-pub record Runs (copies : ℕ) (parent : Place) (disk input : List ℕ) (p : Plan) (asked : Bool) (t : Turn) : Type 0 where
-  pub stands : Effect.Stands 4096 (ground copies (parent .slots) disk) (t .progress .size) (p .op)
+pub record Runs (z copies : ℕ) (parent : Place) (disk input : List ℕ) (p : Plan) (asked : Bool) (t : Turn) : Type 0 where
+  pub stands : Effect.Stands z (ground copies (parent .slots) disk) (t .progress .size) (p .op)
       (args (p .args .first) (p .args .second) (p .args .len) (part input (p .args .from) (p .args .len))) (staging (t .progress .staged) (t .stage))
   pub source : p .op ≡ Write → p .args .from + p .args .len ≤ length input
-  pub read : Reads disk (stageAfter copies parent disk input p (t .progress) (t .stage) .bytes) parent (progressAfter p (t .progress) (stageAfter copies parent disk input p (t .progress) (t .stage)))
-  pub shows : Shows disk (stageAfter copies parent disk input p (t .progress) (t .stage) .bytes) (p .seen) asked (reads (p .op)) (p .args .first) (p .args .len) (p .hashes)
-      (drop (t .progress .written) (t .output))
+  pub read : Reads z disk (stageAfter z copies parent disk input p (t .progress) (t .stage) .bytes) parent
+      (progressAfter p (t .progress) (stageAfter z copies parent disk input p (t .progress) (t .stage)))
+  pub shows : Shows z disk (stageAfter z copies parent disk input p (t .progress) (t .stage) .bytes) (p .seen) asked (reads (p .op))
+      (p .args .first) (p .args .len) (p .hashes) (drop (t .progress .written) (t .output))
   pub ran : t .progress .ran + 1 < 2 ^ 64
   pub tally : t .progress .tally + p .cost < 2 ^ 64
   pub written : t .progress .written + p .count ≤ length (t .output)

@@ -13,42 +13,46 @@ use host::Place;
 use host::Progress;
 
 // The root of a contract's committed sectors; zeros where there is none.
-pub fn committed_root(disk: &[u8], parent: Place) -> [u8; 32]
-    requires { ⌜ Stands (now disk) parent ⌝ }
-    ensures { λ r. ⌜ r ≡ contractRoot 4096 (now (disk .entry)) [] (committedSpots 4096 parent) ⌝ }
+pub fn committed_root(z: u64, disk: &[u8], parent: Place) -> [u8; 32]
+    requires { ⌜ Stands z (now disk) parent ⌝ }
+    ensures { λ r. ⌜ r ≡ contractRoot z (now (disk .entry)) [] (committedSpots z parent) ⌝ }
 {
-    let seen = sights::committed_seen(parent);
-    roots::contract_root(disk, b"", seen)
+    let seen = sights::committed_seen(z, parent);
+    roots::contract_root(z as usize, disk, b"", seen)
 }
 
 // The root of the parent as it is read now.
 pub fn running_root<'a>(
+    z: u64,
     disk: &'a [u8],
     stage: &'a [u8],
     parent: Place,
     progress: Progress,
 ) -> [u8; 32]
-    requires { ⌜ Reads (now disk) (now stage) parent progress ⌝ }
-    ensures { λ r. ⌜ r ≡ contractRoot 4096 (now (disk .entry)) (now (stage .entry)) (tab 0 (progress .size / 4096) (spotOf (parent .slots) (progress .staged))) ⌝ }
+    requires { ⌜ Reads z (now disk) (now stage) parent progress ⌝ }
+    ensures { λ r. ⌜ r ≡
+        contractRoot z (now (disk .entry)) (now (stage .entry)) (tab 0 (progress .size / z) (spotOf (parent .slots) (progress .staged))) ⌝ }
 {
     let staged = progress.staged;
-    let seen = sights::parent_seen(parent, staged, progress.size);
-    roots::contract_root(disk, stage, seen)
+    let seen = sights::parent_seen(z, parent, staged, progress.size);
+    roots::contract_root(z as usize, disk, stage, seen)
 }
 
 // A failure: it ends the program, and otherwise only writes its record.
 pub fn fail(
+    z: u64,
     number: u64,
     disk: &[u8],
     parent: Place,
     progress: Progress,
     output: &mut [u8],
 ) -> Progress
-    requires { ⌜ Stands (now disk) parent ⌝ }
+    requires { ⌜ Stands z (now disk) parent ⌝ }
     requires { ⌜ progress .written + 72 ≤ length (now output) ⌝ }
-    ensures { λ r. ⌜ (r ≡ failedProgress progress) × (now (output .exit) ≡ put (now (output .entry)) (progress .written) (recordBytes number 0 (pairOf 4096 (now (disk .entry)) parent) 0 [] 0 [])) ⌝ }
+    ensures { λ r. ⌜ (r ≡ failedProgress progress) × (now (output .exit) ≡
+        put (now (output .entry)) (progress .written) (recordBytes number 0 (pairOf z (now (disk .entry)) parent) 0 [] 0 [])) ⌝ }
 {
-    let root = committed_root(disk, parent);
+    let root = committed_root(z, disk, parent);
     let at = progress.written as usize;
     records::put_failure(number, parent.size, root, &mut output[at..]);
     let mut after = progress;

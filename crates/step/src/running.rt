@@ -29,6 +29,7 @@ fn advanced(progress: Progress, plan: Plan, staged: [u8; 64]) -> Progress
 
 // What it leaves.
 pub fn succeed(
+    z: u64,
     copies: u64,
     parent: Place,
     disk: &[u8],
@@ -39,10 +40,11 @@ pub fn succeed(
     stage: &mut [u8],
     output: &mut [u8],
 ) -> Progress
-    requires { ⌜ Runs copies parent (now disk) (now input) plan asked (turn progress (now stage) (now output)) ⌝ }
+    requires { ⌜ Runs z copies parent (now disk) (now input) plan asked (turn progress (now stage) (now output)) ⌝ }
     ensures { λ r. ⌜ turn r (now (stage .exit)) (now (output .exit)) ≡
-        Says.ran copies parent (now (disk .entry)) (now (input .entry)) plan asked (turn progress (now (stage .entry)) (now (output .entry))) ⌝ }
+        Says.ran z copies parent (now (disk .entry)) (now (input .entry)) plan asked (turn progress (now (stage .entry)) (now (output .entry))) ⌝ }
 {
+    let sector = z as usize;
     let op = plan.op;
     let args = plan.args;
     let first = args.first as usize;
@@ -50,6 +52,7 @@ pub fn succeed(
     let slots = parent.slots;
     let before = progress.staged;
     let staged = effect::effect(
+        sector,
         op,
         copies,
         slots,
@@ -64,11 +67,12 @@ pub fn succeed(
         args.from as usize,
     );
     let after = advanced(progress, plan, staged);
-    let root = pairs::running_root(disk, &*stage, parent, after);
+    let root = pairs::running_root(z, disk, &*stage, parent, after);
     let at = progress.written as usize;
     let reads = plan::reads(op);
     let seen = plan.seen;
     records::put_success(
+        sector,
         plan.cost,
         plan.size,
         root,

@@ -14,6 +14,7 @@ use sia::Instruction;
 
 // One instruction.
 fn taken(
+    z: u64,
     sectors: u64,
     copies: u64,
     places: [Place; 8],
@@ -25,19 +26,20 @@ fn taken(
     stage: &mut [u8],
     output: &mut [u8],
 ) -> Progress
-    requires { ⌜ Steps (setting sectors copies places terms (now disk)) (turn progress (now stage) (now output)) (now input) ⌝ }
+    requires { ⌜ Steps z (setting sectors copies places terms (now disk)) (turn progress (now stage) (now output)) (now input) ⌝ }
     ensures { λ r. ⌜ turn r (now (stage .exit)) (now (output .exit)) ≡
-        stepped 4096 (setting sectors copies places terms (now (disk .entry))) i (inputsOf i (now (input .entry)))
+        stepped z (setting sectors copies places terms (now (disk .entry))) i (inputsOf i (now (input .entry)))
         (turn progress (now (stage .entry)) (now (output .entry))) ⌝ }
 {
-    let planned = plan::planned(sectors, copies, places, terms, progress, i, disk, input);
+    let planned = plan::planned(z, sectors, copies, places, terms, progress, i, disk, input);
     let head = terms.head;
     let id = head.contract;
     let parent = host::place_of(places, id);
     if planned.number != 0 {
-        return pairs::fail(planned.number, disk, parent, progress, output);
+        return pairs::fail(z, planned.number, disk, parent, progress, output);
     }
     running::succeed(
+        z,
         copies,
         parent,
         disk,
@@ -52,6 +54,7 @@ fn taken(
 
 // The instruction whose turn it is.
 pub fn step(
+    z: u64,
     sectors: u64,
     copies: u64,
     places: [Place; 8],
@@ -62,14 +65,16 @@ pub fn step(
     stage: &mut [u8],
     output: &mut [u8],
 ) -> Progress
-    requires { ⌜ Steps (setting sectors copies places terms (now disk)) (turn progress (now stage) (now output)) (now input) ⌝ }
+    requires { ⌜ Steps z (setting sectors copies places terms (now disk)) (turn progress (now stage) (now output)) (now input) ⌝ }
     ensures { λ r. ⌜ turn r (now (stage .exit)) (now (output .exit)) ≡
-        Says.step 4096 (setting sectors copies places terms (now (disk .entry))) (now (input .entry)) (turn progress (now (stage .entry)) (now (output .entry))) ⌝ }
+        Says.step z (setting sectors copies places terms (now (disk .entry))) (now (input .entry))
+        (turn progress (now (stage .entry)) (now (output .entry))) ⌝ }
 {
     let head = terms.head;
     let list = head.instructions;
     let i = list[progress.ran as usize];
     taken(
+        z,
         sectors,
         copies,
         places,

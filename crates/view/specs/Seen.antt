@@ -6,6 +6,7 @@ use Prim.Native.Nat.{ℕ, _+_, _*_, _/_, _%_, _≤_, _<_}
 use lib.ListN.{length}
 use lib.Dec.{leb}
 use Rattle.area.specs.Area.{part, tab}
+use Rattle.area.specs.Slots.{Size}
 use Rattle.sia.specs.Encode.{every}
 use Rattle.rules.specs.View.{sector, spotOf}
 use Rattle.rules.specs.declared.Spot.{Spot}
@@ -25,8 +26,9 @@ unfoldable pub lies : ℕ → List ℕ → List ℕ → Spot → Bool
 lies z disk stage (OnDisk n) = holds z disk n
 lies z disk stage (InStage n) = holds z stage n
 
--- at most 64 sectors are seen, and all lie within the areas
+-- at most 64 sectors of a size that there is are seen, and all lie within the areas
 pub record Lies (z : ℕ) (disk stage : List ℕ) (v : Seen) : Type 0 where
+  pub size : Size z
   pub few : v .count ≤ 64
   pub spots : every (lies z disk stage) (spotsOf v) ≡ true
 

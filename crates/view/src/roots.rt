@@ -2,31 +2,33 @@
 ghost use mathlib.Core.Path.{_≡_};
 ghost use mathlib.Core.Bool.{true};
 ghost use Prim.Native.Nat.{_+_, _*_, _/_, _≤_};
+ghost use Rattle.area.specs.Slots.{Size};
 ghost use Rattle.tree.specs.Walk.{count};
-ghost use Rattle.rules.specs.Roots.{sectorRoot};
+ghost use Rattle.rules.specs.Roots.{sectorRoot, segments};
 ghost use Rattle.view.specs.Seen.{lies, Ranged};
 use crate::Seen;
 use crate::sectors;
-use host::Host;
 use rules::Spot;
 
 // The root of a sector.
-pub fn sector_root<'a>(disk: &'a [u8], stage: &'a [u8], spot: Spot) -> [u8; 32]
-    requires { ⌜ lies 4096 (now disk) (now stage) spot ≡ true ⌝ }
-    ensures { λ r. ⌜ r ≡ sectorRoot 4096 (now (disk .entry)) (now (stage .entry)) spot ⌝ }
+pub fn sector_root<'a>(z: usize, disk: &'a [u8], stage: &'a [u8], spot: Spot) -> [u8; 32]
+    requires { ⌜ Size z ⌝ }
+    requires { ⌜ lies z (now disk) (now stage) spot ≡ true ⌝ }
+    ensures { λ r. ⌜ r ≡ sectorRoot z (now (disk .entry)) (now (stage .entry)) spot ⌝ }
 {
-    let bytes = sectors::sector(disk, stage, spot);
+    let bytes = sectors::sector(z, disk, stage, spot);
     let rooted = tree::root(bytes);
     rooted.root
 }
 
 // How many hashes prove the n bytes from `at` on, of so many sectors.
-pub fn range_count(sectors: usize, at: usize, n: usize) -> usize
+pub fn range_count(z: usize, sectors: usize, at: usize, n: usize) -> usize
+    requires { ⌜ Size z ⌝ }
     requires { ⌜ sectors ≤ 64 ⌝ }
-    requires { ⌜ Ranged 4096 sectors at n ⌝ }
-    ensures { λ r. ⌜ r ≡ count (sectors * 64) (at / 64) ((at + n) / 64) ⌝ }
+    requires { ⌜ Ranged z sectors at n ⌝ }
+    ensures { λ r. ⌜ r ≡ count (segments z sectors) (at / 64) ((at + n) / 64) ⌝ }
 {
-    let segments = sectors * (Host::SECTOR_LEN / Seen::SEGMENT);
+    let segments = sectors * (z / Seen::SEGMENT);
     let counted = tree::count(segments, at / Seen::SEGMENT, (at + n) / Seen::SEGMENT);
     counted.count
 }

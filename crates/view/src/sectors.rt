@@ -7,7 +7,6 @@ ghost use Rattle.rules.specs.View as Says;
 ghost use Rattle.rules.specs.View.{spotOf};
 ghost use Rattle.view.specs.Seen.{lies, spanOf, Lies, Inside};
 use crate::Seen;
-use host::Host;
 use host::Progress;
 use rules::Spot;
 
@@ -23,33 +22,40 @@ pub fn spot_of(slots: [u8; 64], staged: [u8; 64], at: usize) -> Spot
     Spot::InStage(copy as usize)
 }
 
-// The bytes of a sector.
-pub fn sector<'a>(disk: &'a [u8], stage: &'a [u8], spot: Spot) -> &'a [u8]
-    requires { ⌜ lies 4096 (now disk) (now stage) spot ≡ true ⌝ }
-    ensures { λ r. ⌜ (now r ≡ Says.sector 4096 (now (disk .entry)) (now (stage .entry)) spot) × (length (now r) ≡ 4096) ⌝ }
+// The bytes of a sector, z of them.
+pub fn sector<'a>(z: usize, disk: &'a [u8], stage: &'a [u8], spot: Spot) -> &'a [u8]
+    requires { ⌜ lies z (now disk) (now stage) spot ≡ true ⌝ }
+    ensures { λ r. ⌜ (now r ≡ Says.sector z (now (disk .entry)) (now (stage .entry)) spot) × (length (now r) ≡ z) ⌝ }
 {
     match spot {
         Spot::OnDisk(n) => {
-            let from = n * Host::SECTOR_LEN;
-            &disk[from..from + Host::SECTOR_LEN]
+            let from = n * z;
+            &disk[from..from + z]
         }
         Spot::InStage(n) => {
-            let from = n * Host::SECTOR_LEN;
-            &stage[from..from + Host::SECTOR_LEN]
+            let from = n * z;
+            &stage[from..from + z]
         }
     }
 }
 
 // The n bytes of what is seen from `at` on, which lie in one sector.
-pub fn span<'a>(disk: &'a [u8], stage: &'a [u8], seen: Seen, at: usize, n: usize) -> &'a [u8]
-    requires { ⌜ Lies 4096 (now disk) (now stage) seen ⌝ }
-    requires { ⌜ Inside 4096 (seen .count) at n ⌝ }
-    ensures { λ r. ⌜ (now r ≡ spanOf 4096 (now (disk .entry)) (now (stage .entry)) seen at n) × (length (now r) ≡ n) ⌝ }
+pub fn span<'a>(
+    z: usize,
+    disk: &'a [u8],
+    stage: &'a [u8],
+    seen: Seen,
+    at: usize,
+    n: usize,
+) -> &'a [u8]
+    requires { ⌜ Lies z (now disk) (now stage) seen ⌝ }
+    requires { ⌜ Inside z (seen .count) at n ⌝ }
+    ensures { λ r. ⌜ (now r ≡ spanOf z (now (disk .entry)) (now (stage .entry)) seen at n) × (length (now r) ≡ n) ⌝ }
 {
     let slots = seen.slots;
     let staged = seen.staged;
-    let spot = spot_of(slots, staged, at / Host::SECTOR_LEN);
-    let bytes = sector(disk, stage, spot);
-    let from = at % Host::SECTOR_LEN;
+    let spot = spot_of(slots, staged, at / z);
+    let bytes = sector(z, disk, stage, spot);
+    let from = at % z;
     &bytes[from..from + n]
 }

@@ -1,6 +1,5 @@
 -- The arrays of a host that code is given are as long as declared: what a function is told of a parameter, as rules' `Declared`. Assumes nothing.
 use mathlib.Core.List.{List, [], _∷_, map}
-use native.Mathlib.Omega.{arith}
 use mir.Val.{Val}
 use denote.Laws.{Is}
 use denote.Array.{each}
@@ -21,9 +20,8 @@ field-placed (p ∷ ps) [] g = absurd g
 field-placed (p ∷ ps) (u ∷ us) g = (placed p (u ∷ []) (g .0), field-placed ps us (g .1))
 
 -- a host
-pub sounds : (h : Host) (vs : List Val) → Is (row host.the-type) h vs → Declared 4096 h
+pub sounds : (h : Host) (vs : List Val) → Is (row host.the-type) h vs → Declared h
 sounds h vs g = record {
-  some = omega arith;
-  places = let a = g .1 .1 .1 .1 .0 in field-placed (h .places) (a .0) (a .1 .1);
+  places = let a = g .1 .1 .1 .1 .1 .0 in field-placed (h .places) (a .0) (a .1 .1);
   staged = hosted h vs g;
 }

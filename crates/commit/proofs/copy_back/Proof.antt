@@ -11,16 +11,16 @@ use Rattle.commit.proofs.copy_back.Statement.{statement}
 use Rattle.commit.proofs.copy_back.Tie as tie
 
 abbrev Inv-loop : tie.InvT-loop
-Inv-loop stage n disk₀ staged slots i₀ disk i =
-    (i ≤ n) × (length disk ≡ length disk₀) × (copiedBack 4096 stage staged slots 0 n disk₀ ≡ copiedBack 4096 stage staged slots i (n - i) disk)
+Inv-loop z stage n disk₀ staged slots i₀ disk i =
+    (i ≤ n) × (length disk ≡ length disk₀) × (copiedBack z stage staged slots 0 n disk₀ ≡ copiedBack z stage staged slots i (n - i) disk)
 
 abbrev μ-loop : tie.MeasureT-loop
-μ-loop stage n disk₀ staged slots i₀ disk i = n - i
+μ-loop z stage n disk₀ staged slots i₀ disk i = n - i
 
 loop-holds : tie.Need-loop-holds Inv-loop μ-loop
 loop-holds c =
     let s = c .before .before in
-    (omega arith, refl, ap (λ (m : ℕ). copiedBack 4096 (s .args .stage .now) (s .args .t2) (s .args .t3) 0 m (s .args .disk .now)) (sym (sub-zero _)))
+    (omega arith, refl, ap (λ (m : ℕ). copiedBack (s .args .z) (s .args .stage .now) (s .args .t3) (s .args .t4) 0 m (s .args .disk .now)) (sym (sub-zero _)))
 
 array-read-one-back : tie.Need-array-read-one-back Inv-loop μ-loop
 array-read-one-back c = omega arith
@@ -32,8 +32,8 @@ one-back-requires : tie.Need-one-back-requires Inv-loop μ-loop
 one-back-requires c κs =
     let l = c .before .before .loop in
     let s = c .before .before .before .before .before in
-    next-lies 4096 (s .args .stage .now) (s .args .t2) (s .args .t3) (s .args .n) (l .i)
-    (s .good .1 .0 .1 .0 .1) (s .pre .few) _ _ (omega arith) (s .pre) (l .inv .1)
+    next-lies (s .args .z) (s .args .stage .now) (s .args .t3) (s .args .t4) (s .args .n) (l .i)
+    (s .good .1 .1 .0 .1 .0 .1) (s .pre .few) _ _ (omega arith) (s .pre) (l .inv .1)
 
 add-i : tie.Need-add-i Inv-loop μ-loop
 add-i c = omega arith
@@ -46,9 +46,9 @@ loop-again c =
     let l = c .before .before .before .before .before .loop in
     let s = c .before .before .before .before .before .before .before .before in (
       omega arith,
-      back-length 4096 _ _ _ _ (l .inv .1) (c .before .before .one-back .ensures),
+      back-length _ _ _ _ _ (l .inv .1) (c .before .before .one-back .ensures),
       l .inv .2
-          ∙ back-one 4096 (s .args .stage .now) (s .args .t2) (s .args .t3) (s .args .n) (l .i) (s .good .1 .0 .1 .0 .1) (s .pre .few) (l .disk)
+          ∙ back-one (s .args .z) (s .args .stage .now) (s .args .t3) (s .args .t4) (s .args .n) (l .i) (s .good .1 .1 .0 .1 .0 .1) (s .pre .few) (l .disk)
           (omega arith) (c .before .before .one-back .ensures),
     )
 
@@ -58,7 +58,7 @@ same-length c = search needs
 returns : tie.Need-returns Inv-loop μ-loop
 returns c =
     let l = c .before .loop in
-    sym (l .inv .2 ∙ back-done 4096 _ _ _ _ (l .i) (l .disk) (omega arith))
+    sym (l .inv .2 ∙ back-done _ _ _ _ _ (l .i) (l .disk) (omega arith))
 
 pub copy-back-spec : {M : Type 1} → statement M
 copy-back-spec =

@@ -13,13 +13,13 @@ replaced-in-requires : tie.Need-replaced-in-requires
 replaced-in-requires c κs = tt
 
 slots-taken-requires : tie.Need-slots-taken-requires
-slots-taken-requires c κs = tt
+slots-taken-requires c κs = search needs
 
 marked-requires : tie.Need-marked-requires
 marked-requires c κs = c .slots-taken .ensures .1
 
 count-requires : tie.Need-count-requires
-count-requires c κs = tt
+count-requires c κs = search needs
 
 first-requires : tie.Need-first-requires
 first-requires c κs = c .before .count .ensures .1
@@ -35,9 +35,9 @@ returns c =
     let at-replaced = at-taken .before in
     let at-cut = at-replaced .before .before in
     let s = at-cut .before in
-    final-made 4096 (s .args .disk) (s .args .places) (s .args .place) (s .args .size) (s .pre .0) (s .pre .1) (at-cut .cut .ensures)
+    final-made (s .args .z) (s .args .disk) (s .args .places) (s .args .place) (s .args .size) (s .pre .1 .0) (s .pre .1 .1) (at-cut .cut .ensures)
     (at-count .count .ensures .0) (at-count .count .ensures .1) (at-marked .marked .ensures)
-    (at-taken .slots-taken .ensures .0 ∙ ap (taken 4096) (at-replaced .replaced-in .ensures)) (c .before .first .ensures) (c .new-slots .ensures)
+    (at-taken .slots-taken .ensures .0 ∙ ap (taken (s .args .z)) (at-replaced .replaced-in .ensures)) (c .before .first .ensures) (c .new-slots .ensures)
 
 pub final-slots-spec : {M : Type 1} → statement M
 final-slots-spec =
@@ -49,5 +49,6 @@ final-slots-spec =
     marked-requires
     count-requires
     first-requires
+    (λ c. search needs)
     new-slots-requires
     returns)

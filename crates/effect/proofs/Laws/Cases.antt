@@ -1,7 +1,7 @@
 -- An effect by the instruction, and what a change of size does not look at. z is the sector size. Assumes nothing.
 use mathlib.Core.Path.{_≡_, refl, sym, ap, _∙_}
 use mathlib.Core.List.{List}
-use Prim.Native.Nat.{ℕ, _-_}
+use Prim.Native.Nat.{ℕ}
 use Rattle.rules.specs.Inputs.{Args}
 use Rattle.rules.specs.Effect.{Ground, Staging, newCopy, resized, effect}
 use Rattle.sia.specs.declared.Op.{Op}
@@ -17,7 +17,7 @@ arm z e size a g told q = q ∙ ap (λ (o : Op). effect z e size o a g) (sym tol
 -- ---- a change of size looks at the stage alone
 
 pub lent-alone : (z : ℕ) (e : Ground) (g : Staging) → Lent z e g → Lent z (alone (e .copies)) g
-lent-alone z e g h = record { few = h .few; long = h .long; slots = h .slots }
+lent-alone z e g h = record { size = h .size; few = h .few; long = h .long; slots = h .slots }
 
 pub sized-alone : (z : ℕ) (e : Ground) (g : Staging) (size new : ℕ) → Sized z e g size new → Sized z (alone (e .copies)) g size new
 sized-alone z e g size new h = record { more = h .more; less = h .less; free = h .free }

@@ -10,6 +10,7 @@ use lib.Dec.{ltb, eqb}
 use borrow.Author.Tests.{ltb-true, ltb-false, lt-ltb}
 use Rattle.area.specs.Pick.{pick}
 use Rattle.area.proofs.Laws.Pick.{picks, either-left, either-right}
+use Rattle.area.proofs.Laws.Slots.{slot-ends, some}
 use Rattle.host.specs.Lists.{those, count, unused}
 use Rattle.host.specs.Empty.{none}
 use Rattle.host.specs.Places.{whose}
@@ -25,7 +26,6 @@ use Rattle.sia.specs.declared.Op.the-variants.{Write, Copy, Swap, Truncate}
 use Rattle.host.specs.declared.Progress.{Progress}
 use Rattle.staging.specs.Parts.{ground, staging, args}
 use Rattle.staging.specs.Asks.{bare, Lent, Lies, From, Over, Two, Sized, Stands}
-use Rattle.staging.proofs.Laws.Slots.{slot-ends}
 use Rattle.staging.proofs.Laws.Kept.{lies-copied}
 use Rattle.effect.proofs.Laws.Cases.{effect-args}
 
@@ -39,26 +39,27 @@ asked : (copies : ℕ) (g : Staging) (p : ℕ) → asks (g .staged) p ≤ count 
 unfolding bare
 asked copies g p h b = omega (arith, h, asks-some (g .staged) p b)
 
-module _ (z : ℕ) (s : Setting) (p : Progress) (bytes : List ℕ) (good : Good z s p) (solid : Solid z s) (long : length bytes ≡ s .copies * z) where
+module _ (z : ℕ) (s : Setting) (p : Progress) (bytes : List ℕ) (good : Good z s p) (solid : Solid z s)
+    (long : length bytes ≡ s .copies * z) where
   most : s .sectors * z ≤ 64 * z
   most = mul-le-mul-right {m = s .sectors} {n = 64} z (solid .lent .most)
 
   sectors : p .size / z ≤ 64
   sectors =
       le-of-mul-le-mul-right {m = p .size / z} {n = 64} {k = z}
-      (omega (arith, whole-sectors z (p .size) (good .orderly .whole), good .orderly .within, most)) (solid .lent .some)
+      (omega (arith, whole-sectors z (p .size) (good .orderly .whole), good .orderly .within, most)) (some z (solid .lent .size))
 
   -- a position whose byte is below a size that fits the disk
   below : (at size : ℕ) → at < size → size ≤ s .sectors * z → at / z < 64
-  below at size lt le = div-lt-iff-lt-mul {k = z} {x = at} {y = 64} (solid .lent .some) .1 (omega (arith, lt, le, most))
+  below at size lt le = div-lt-iff-lt-mul {k = z} {x = at} {y = 64} (some z (solid .lent .size)) .1 (omega (arith, lt, le, most))
 
   lent : Lent z (groundOf s) (staging (p .staged) bytes)
-  lent = record { few = solid .lent .few; long = long; slots = good .orderly .staged .slots }
+  lent = record { size = solid .lent .size; few = solid .lent .few; long = long; slots = good .orderly .staged .slots }
 
   lies : (at : ℕ) → at < p .size → Lies z (groundOf s) (staging (p .staged) bytes) (at / z)
   unfolding bare parent
   lies at lt =
-      let inside = sector-below z at (p .size) (solid .lent .some) (good .orderly .whole) lt in
+      let inside = sector-below z at (p .size) (some z (solid .lent .size)) (good .orderly .whole) lt in
       let staged = good .orderly .staged in
       let under : p .size / z ≤ length (p .staged) = omega (arith, sectors, good .entries) in
       record {

@@ -6,23 +6,11 @@ use Rattle.effect.proofs.Laws.Cases.{arm, lent-alone, sized-alone, resi
 use Rattle.effect.proofs.effect.Statement.{statement}
 use Rattle.effect.proofs.effect.Tie as tie
 
-enum-told : tie.Need-enum-told
-enum-told c = search needs
-
-enum-told-2 : tie.Need-enum-told-2
-enum-told-2 c = search needs
-
-enum-told-3 : tie.Need-enum-told-3
-enum-told-3 c = search needs
-
 write-requires : tie.Need-write-requires
 write-requires c κs =
     let s = c .before .before .before .before .before .before in
     let told = c .before .enum-told3 .given .1 in
     (s .pre .0 .lent, (s .pre .0 .write told, s .pre .1 told))
-
-enum-told-4 : tie.Need-enum-told-4
-enum-told-4 c = search needs
 
 copy-requires : tie.Need-copy-requires
 copy-requires c κs =
@@ -30,24 +18,15 @@ copy-requires c κs =
     let told = c .before .enum-told4 .given .1 in
     (s .pre .0 .lent, (s .pre .0 .copy told, s .pre .0 .source told))
 
-enum-told-5 : tie.Need-enum-told-5
-enum-told-5 c = search needs
-
 swap-requires : tie.Need-swap-requires
 swap-requires c κs =
     let s = c .before .before .before .before .before .before in
     (s .pre .0 .lent, s .pre .0 .swap (c .before .enum-told5 .given .1))
 
-enum-told-6 : tie.Need-enum-told-6
-enum-told-6 c = search needs
-
 resized-requires : tie.Need-resized-requires
 resized-requires c κs =
     let s = c .before .before .before .before .before .before in
     (lent-alone _ _ _ (s .pre .0 .lent), sized-alone _ _ _ _ _ (s .pre .0 .truncate (c .before .enum-told6 .given .1)))
-
-enum-told-7 : tie.Need-enum-told-7
-enum-told-7 c = search needs
 
 returns : tie.Need-returns
 unfolding effect
@@ -57,29 +36,17 @@ returns-2 : tie.Need-returns-2
 unfolding effect
 returns-2 c = arm _ _ _ _ _ (c .enum-told2 .given .1) refl
 
-same-length : tie.Need-same-length
-same-length c = search needs
-
 returns-3 : tie.Need-returns-3
 unfolding effect
 returns-3 c = arm _ _ _ _ _ (c .before .before .before .before .enum-told3 .given .1) (c .before .before .write .ensures)
-
-same-length-2 : tie.Need-same-length-2
-same-length-2 c = search needs
 
 returns-4 : tie.Need-returns-4
 unfolding effect
 returns-4 c = arm _ _ _ _ _ (c .before .before .before .before .enum-told4 .given .1) (c .before .before .copy .ensures)
 
-same-length-3 : tie.Need-same-length-3
-same-length-3 c = search needs
-
 returns-5 : tie.Need-returns-5
 unfolding effect
 returns-5 c = arm _ _ _ _ _ (c .before .before .before .before .enum-told5 .given .1) (c .before .before .swap .ensures)
-
-same-length-4 : tie.Need-same-length-4
-same-length-4 c = search needs
 
 returns-6 : tie.Need-returns-6
 unfolding effect
@@ -93,25 +60,14 @@ pub effect-spec : {M : Type 1} → statement M
 effect-spec =
     tie.close
     (tie.spec
-    enum-told
-    enum-told-2
-    enum-told-3
-    write-requires
-    enum-told-4
-    copy-requires
-    enum-told-5
-    swap-requires
-    enum-told-6
-    resized-requires
-    enum-told-7
-    returns
+    (λ c. search needs) (λ c. search needs) (λ c. search needs) write-requires
+    (λ c. search needs) copy-requires
+    (λ c. search needs) swap-requires
+    (λ c. search needs) resized-requires
+    (λ c. search needs) returns
     returns-2
-    same-length
-    returns-3
-    same-length-2
-    returns-4
-    same-length-3
-    returns-5
-    same-length-4
-    returns-6
+    (λ c. search needs) returns-3
+    (λ c. search needs) returns-4
+    (λ c. search needs) returns-5
+    (λ c. search needs) returns-6
     returns-7)

@@ -3,6 +3,7 @@ use mathlib.Core.Path.{_≡_, refl, sym, ap, _∙_}
 use mathlib.Core.Bool.{true, false, not}
 use mathlib.Core.List.{List}
 use Prim.Native.Nat.{ℕ, _/_, _≤_, _<_}
+use native.Mathlib.Nat.{mul-le-mul-right, div-le-of-le-mul}
 use native.Mathlib.Omega.{arith}
 use lib.Dec.{eqb}
 use borrow.Author.Tests.{eq-eqb, ne-eqb, eqb-true, eqb-false}
@@ -44,8 +45,8 @@ source-same z s p Unknown key = refl
 
 -- ---- limits, from the facts of a machine in order
 
-pub size-few : (s : Setting) (p : Progress) → Solid 4096 s → Good 4096 s p → p .size / 4096 ≤ 64
-size-few s p h g = omega (arith, h .lent .most, g .orderly .within)
+pub size-few : (z : ℕ) (s : Setting) (p : Progress) → Solid z s → Good z s p → p .size / z ≤ 64
+size-few z s p h g = div-le-of-le-mul z (omega (arith, g .orderly .within, mul-le-mul-right z (h .lent .most)))
 
 pub length-most : (z : ℕ) (s : Setting) (p : Progress) → Good z s p → s .terms .head .length ≤ 65536
 length-most z s p g = within-is _ (terms-facts _ _ _ (g .terms) .head) .declared

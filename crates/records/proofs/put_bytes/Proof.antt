@@ -21,7 +21,8 @@ copy-between-requires : tie.Need-copy-between-requires
 copy-between-requires c κs =
     let start = c .before .before .before .before .before .before in
     let read = c .before .span .ensures .1 in
-    let room = subst (λ (k : ℕ). k ≤ length (start .args .out .now)) (picks (start .args .reads) (start .args .n) 0 (c .before .before .if1 .taken)) (start .pre .1 .1) in
+    let reads = picks (start .args .reads) (start .args .n) 0 (c .before .before .if1 .taken) in
+    let room = subst (λ (k : ℕ). k ≤ length (start .args .out .now)) reads (start .pre .1 .1) in
     (omega arith, omega arith)
 
 same-length : tie.Need-same-length
@@ -30,8 +31,10 @@ same-length c = search needs
 returns : tie.Need-returns
 unfolding shownBytes
 returns c =
-    let read = c .before .before .before .before .span .ensures in
-    lay-same _ 0 _ (c .before .before .copy-between .ensures) (part-whole _ _ (sym (read .1)) ∙ read .0 ∙ sym (picks _ _ [] (c .before .before .before .before .before .if1 .taken)))
+    let at-span = c .before .before .before .before in
+    let read = at-span .span .ensures in
+    lay-same _ 0 _ (c .before .before .copy-between .ensures)
+    (part-whole _ _ (sym (read .1)) ∙ read .0 ∙ sym (picks _ _ [] (at-span .before .if1 .taken)))
 
 returns-2 : tie.Need-returns-2
 unfolding shownBytes

@@ -16,7 +16,9 @@ range-proof-requires : tie.Need-range-proof-requires
 unfolding shownProof
 range-proof-requires c κs =
     let start = c .before .before .before .before .before in
-    (start .pre .0, (start .pre .1 .0 (c .before .if1 .taken), subst (λ (l : List ℕ). length l ≤ length (start .args .out .now)) (picks (start .args .asked) _ [] (c .before .if1 .taken)) (start .pre .1 .1)))
+    let asked = c .before .if1 .taken in
+    let room = subst (λ (l : List ℕ). length l ≤ length (start .args .out .now)) (picks (start .args .asked) _ [] asked) (start .pre .1 .1) in
+    (start .pre .0, (start .pre .1 .0 asked, room))
 
 same-length : tie.Need-same-length
 same-length c = search needs

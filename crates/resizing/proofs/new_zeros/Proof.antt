@@ -13,7 +13,7 @@ mul-fill : tie.Need-mul-fill
 mul-fill c =
     let s = c .before .before .before in
     let new = new-slot _ _ _ _ (s .pre .0) (s .pre .1 .0) (c .before .free-copy .ensures) in
-    omega (arith, new .small)
+    omega (arith, new .room)
 
 fill-requires : tie.Need-fill-requires
 fill-requires c κs =

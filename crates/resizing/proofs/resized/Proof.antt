@@ -8,6 +8,9 @@ use Rattle.staging.specs.Parts.{grown}
 use Rattle.resizing.proofs.resized.Statement.{statement}
 use Rattle.resizing.proofs.resized.Tie as tie
 
+div-new-zeros : tie.Need-div-new-zeros
+div-new-zeros c = search needs
+
 new-zeros-requires : tie.Need-new-zeros-requires
 new-zeros-requires c κs =
     let s = c .before .before .before in
@@ -19,6 +22,9 @@ same-length c = search needs
 returns : tie.Need-returns
 unfolding resized grown
 returns c = yes _ _ _ (lt-ltb _ _ (c .before .before .before .before .if1 .taken)) (c .before .before .new-zeros .ensures)
+
+div-after : tie.Need-div-after
+div-after c = search needs
 
 array-write-after : tie.Need-array-write-after
 array-write-after c = c .before .before .before .pre .1 .less (c .if2 .taken)
@@ -34,4 +40,4 @@ returns-3 c = no _ _ _ (le-ltb _ _ (c .before .if1 .left)) (no _ _ _ (le-ltb _ _
 pub resized-spec : {M : Type 1} → statement M
 resized-spec =
     tie.close
-    (tie.spec new-zeros-requires same-length returns array-write-after returns-2 returns-3)
+    (tie.spec div-new-zeros new-zeros-requires same-length returns div-after array-write-after returns-2 returns-3)

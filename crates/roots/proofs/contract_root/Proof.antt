@@ -8,7 +8,7 @@ use Rattle.roots.proofs.contract_root.Statement.{statement}
 use Rattle.roots.proofs.contract_root.Tie as tie
 
 returns : tie.Need-returns
-returns c = seen-none 4096 _ _ (c .before .before .before .args .seen) (c .if1 .taken)
+returns c = seen-none _ _ _ (c .before .before .before .args .seen) (c .if1 .taken)
 
 sector-roots-requires : tie.Need-sector-roots-requires
 sector-roots-requires c κs = search needs
@@ -22,7 +22,7 @@ array-share-prefix-roots c = search needs
 slice-aggregate-join : tie.Need-slice-aggregate-join
 slice-aggregate-join c =
     let s = c .before .before .before .before .before in
-    sym (seen-roots _ _ (s .args .seen) (s .pre) (c .before .sector-roots .ensures))
+    sym (seen-roots _ _ _ (s .args .seen) (s .pre) (c .before .sector-roots .ensures))
 
 join-requires : tie.Need-join-requires
 join-requires c κs = search needs
@@ -31,8 +31,8 @@ returns-2 : tie.Need-returns-2
 returns-2 c =
     let s = c .before .before .before .before .before .before .before in
     let roots = c .before .before .before .sector-roots in
-    calls .join-told (c .before .join .result) _ (c .before .join .ensures) (omega (arith, seen-roots _ _ (s .args .seen) (s .pre) (roots .ensures)))
-    ∙ seen-join _ _ (s .args .seen) (s .pre) (roots .ensures)
+    calls .join-told (c .before .join .result) _ (c .before .join .ensures) (omega (arith, seen-roots _ _ _ (s .args .seen) (s .pre) (roots .ensures)))
+    ∙ seen-join _ _ _ (s .args .seen) (s .pre) (roots .ensures)
 
 pub contract-root-spec : {M : Type 1} → statement M
 contract-root-spec =

@@ -15,11 +15,11 @@ use Rattle.roots.proofs.sector_roots.Statement.{statement}
 use Rattle.roots.proofs.sector_roots.Tie as tie
 
 abbrev Inv-loop : tie.InvT-loop
-Inv-loop disk stage slots staged count roots₀ i₀ roots i =
-    (i ≤ count) × (length roots ≡ 2048) × (take (32 * i) roots ≡ joined (sectorRoot 4096 disk stage) (tab 0 i (spotOf slots staged)))
+Inv-loop z disk stage slots staged count roots₀ i₀ roots i =
+    (i ≤ count) × (length roots ≡ 2048) × (take (32 * i) roots ≡ joined (sectorRoot z disk stage) (tab 0 i (spotOf slots staged)))
 
 abbrev μ-loop : tie.MeasureT-loop
-μ-loop disk stage slots staged count roots₀ i₀ roots i = count - i
+μ-loop z disk stage slots staged count roots₀ i₀ roots i = count - i
 
 loop-holds : tie.Need-loop-holds Inv-loop μ-loop
 loop-holds c = (omega arith, refl, pieces-none _ _)
@@ -30,10 +30,10 @@ spot-of-requires c κs = omega (arith, c .before .before .before .before .before
 sector-root-requires : tie.Need-sector-root-requires Inv-loop μ-loop
 sector-root-requires c κs =
     let s = c .before .before .before .before .before .before .before in
-    seen-lies 4096 _ _ _ _ (s .pre) (c .before .loop-test .taken) (c .spot-of .ensures)
+    (s .pre .size, seen-lies _ _ _ _ _ (s .pre) (c .before .loop-test .taken) (c .spot-of .ensures))
 
 slice-aggregate-copy-between : tie.Need-slice-aggregate-copy-between Inv-loop μ-loop
-slice-aggregate-copy-between c = sym (ap length (c .before .sector-root .ensures) ∙ root-long 4096 _ _ _)
+slice-aggregate-copy-between c = sym (ap length (c .before .sector-root .ensures) ∙ root-long _ _ _ _)
 
 slice-aggregate-copy-between-2 : tie.Need-slice-aggregate-copy-between-2 Inv-loop μ-loop
 slice-aggregate-copy-between-2 c = sym (c .before .before .before .before .before .loop .inv .1)
@@ -48,7 +48,7 @@ copy-between-requires : tie.Need-copy-between-requires Inv-loop μ-loop
 copy-between-requires c κs =
     let l = c .before .before .before .before .before in
     let s = c .before .before .before .before .before .before .before .before .before .before in
-    let r : length (c .before .before .sector-root .result) ≡ 32 = ap length (c .before .before .sector-root .ensures) ∙ root-long 4096 _ _ _ in
+    let r : length (c .before .before .sector-root .result) ≡ 32 = ap length (c .before .before .sector-root .ensures) ∙ root-long _ _ _ _ in
     (omega (arith, r), omega (arith, l .loop .inv .1, c .before .before .before .before .loop-test .taken, s .pre .few))
 
 add-i : tie.Need-add-i Inv-loop μ-loop
@@ -68,9 +68,9 @@ loop-again c =
     let f = s .pre .few in (
       omega (arith, at-spot-of .before .loop-test .taken),
       c .before .copy-between .kept .1 .1 .0 ∙ l .loop .inv .1,
-      pieces-one (sectorRoot 4096 (s .args .disk .now) (s .args .stage .now)) (spotOf (s .args .seen .slots) (s .args .seen .staged)) (l .loop .roots) 32
-          (l .loop .i) (root-long 4096 _ _ _) (omega (arith, l .loop .inv .1, at-spot-of .before .loop-test .taken, f))
-          (root-copied 4096 _ _ _ _ (c .before .before .before .before .sector-root .ensures) (at-spot-of .spot-of .ensures)) (l .loop .inv .2)
+      pieces-one (sectorRoot (s .args .z) (s .args .disk .now) (s .args .stage .now)) (spotOf (s .args .seen .slots) (s .args .seen .staged))
+          (l .loop .roots) 32 (l .loop .i) (root-long _ _ _ _) (omega (arith, l .loop .inv .1, at-spot-of .before .loop-test .taken, f))
+          (root-copied _ _ _ _ _ (c .before .before .before .before .sector-root .ensures) (at-spot-of .spot-of .ensures)) (l .loop .inv .2)
           (c .before .copy-between .ensures),
     )
 
@@ -79,9 +79,11 @@ unfolding spotsOf
 returns c =
     let l = c .before .loop in
     let s = c .before .before .before .before .before .before in
+    let roots = sectorRoot (s .args .z) (s .args .disk .now) (s .args .stage .now) in
+    let spots = spotOf (s .args .seen .slots) (s .args .seen .staged) in
     let e : s .args .seen .count ≡ l .i = omega (arith, c .loop-test .left, l .inv .0) in
     ap (λ (n : ℕ). take (32 * n) (l .roots)) e ∙ l .inv .2
-    ∙ ap (λ (n : ℕ). joined (sectorRoot 4096 (s .args .disk .now) (s .args .stage .now)) (tab 0 n (spotOf (s .args .seen .slots) (s .args .seen .staged)))) (sym e)
+    ∙ ap (λ (n : ℕ). joined roots (tab 0 n spots)) (sym e)
 
 pub sector-roots-spec : {M : Type 1} → statement M
 sector-roots-spec =

@@ -16,7 +16,7 @@ nothing-requires c κs = search needs
 
 returns : tie.Need-returns
 returns c = (
-  c .nothing .ensures .0 ∙ seen-nothing 4096 _ (not-true _ (c .before .if1 .taken)),
+  c .nothing .ensures .0 ∙ seen-nothing _ _ (not-true _ (c .before .if1 .taken)),
   omega (arith, c .nothing .ensures .1),
 )
 
@@ -27,10 +27,10 @@ returns-2 : tie.Need-returns-2
 returns-2 c =
     let s = c .before .before .before in
     let held = not-false _ (c .before .if1 .left) in
-    let few = place-size 4096 (s .args .place) (s .pre) held .1 in (
+    let few = place-size (s .args .z) (s .args .place) (s .pre .1) held .1 in (
       c .parent-seen .ensures .0
-          ∙ seen-committed (s .args .place .slots) (replicate 64 none) (none-staged 64) 4096 (s .args .place) held refl
-          (omega (arith, few, placed (s .args .place) _ (s .good .0))),
+          ∙ seen-committed (s .args .place .slots) (replicate 64 none) (none-staged 64) _ (s .args .place) held refl
+          (omega (arith, few, placed (s .args .place) _ (s .good .1 .0))),
       omega (arith, few, c .parent-seen .ensures .1),
     )
 

@@ -14,10 +14,10 @@ first-listed-requires : tie.Need-first-listed-requires
 first-listed-requires c κs =
     let s = c .before .before in
     let all = c .slots-taken .ensures in
-    (all .1, ap (every (holds 4096 (s .args .disk .now))) (all .0) ∙ s .pre)
+    (s .pre .0, (all .1, ap (every (holds (s .args .z) (s .args .disk .now))) (all .0) ∙ s .pre .1))
 
 returns : tie.Need-returns
-returns c = (first-same 4096 _ _ (c .first-listed .ensures .0) (c .before .slots-taken .ensures .0), c .first-listed .ensures .1)
+returns c = (first-same _ _ _ (c .first-listed .ensures .0) (c .before .slots-taken .ensures .0), c .first-listed .ensures .1)
 
 pub find-root-spec : {M : Type 1} → statement M
 find-root-spec = tie.close (tie.spec slots-taken-requires first-listed-requires returns)

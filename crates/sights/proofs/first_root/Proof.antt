@@ -14,10 +14,10 @@ use Rattle.sights.proofs.first_root.Statement.{statement}
 use Rattle.sights.proofs.first_root.Tie as tie
 
 abbrev Inv-loop : tie.InvT-loop
-Inv-loop disk slots key i₀ i = firstRoot 4096 disk key (each OnDisk slots) ≡ firstRoot 4096 disk key (each OnDisk (drop i slots))
+Inv-loop z disk slots key i₀ i = firstRoot z disk key (each OnDisk slots) ≡ firstRoot z disk key (each OnDisk (drop i slots))
 
 abbrev μ-loop : tie.MeasureT-loop
-μ-loop disk slots key i₀ i = length slots - i
+μ-loop z disk slots key i₀ i = length slots - i
 
 loop-holds : tie.Need-loop-holds Inv-loop μ-loop
 loop-holds c = refl
@@ -32,8 +32,10 @@ has-root-requires : tie.Need-has-root-requires Inv-loop μ-loop
 has-root-requires c κs =
     let l = c .before .before in
     let s = l .before .before .before in
-    ap (holds 4096 (s .args .disk .now)) (c .slot-at .ensures)
-    ∙ every-get (holds 4096 (s .args .disk .now)) (s .args .slots .now) (l .loop .i) 0 (c .before .loop-test .taken) (s .pre)
+    let held = holds (s .args .z) (s .args .disk .now) in (
+      s .pre .0,
+      ap held (c .slot-at .ensures) ∙ every-get held (s .args .slots .now) (l .loop .i) 0 (c .before .loop-test .taken) (s .pre .1),
+    )
 
 one-requires : tie.Need-one-requires Inv-loop μ-loop
 one-requires c κs = tt
@@ -43,7 +45,7 @@ returns c =
     let at-slot-at = c .before .before .before in
     let l = at-slot-at .before .before in (
       c .one .ensures .0
-          ∙ first-here 4096 _ _ _ (l .loop .i) (at-slot-at .before .loop-test .taken) (at-slot-at .slot-at .ensures)
+          ∙ first-here _ _ _ _ (l .loop .i) (at-slot-at .before .loop-test .taken) (at-slot-at .slot-at .ensures)
           (sym (c .before .before .has-root .ensures) ∙ c .before .if1 .taken)
           ∙ sym (l .loop .inv),
       c .one .ensures .1,
@@ -60,7 +62,8 @@ loop-again c =
     let at-slot-at = c .before .before in
     let l = at-slot-at .before .before in
     l .loop .inv
-    ∙ first-further 4096 _ _ _ (l .loop .i) (at-slot-at .before .loop-test .taken) (at-slot-at .slot-at .ensures) (sym (c .before .has-root .ensures) ∙ c .if1 .left)
+    ∙ first-further _ _ _ _ (l .loop .i) (at-slot-at .before .loop-test .taken) (at-slot-at .slot-at .ensures)
+    (sym (c .before .has-root .ensures) ∙ c .if1 .left)
 
 nothing-requires : tie.Need-nothing-requires Inv-loop μ-loop
 nothing-requires c κs = tt
@@ -68,7 +71,7 @@ nothing-requires c κs = tt
 returns-2 : tie.Need-returns-2 Inv-loop μ-loop
 returns-2 c =
     let l = c .before .before in (
-      c .nothing .ensures .0 ∙ first-none 4096 _ _ _ (l .loop .i) (omega (arith, c .before .loop-test .left)) ∙ sym (l .loop .inv),
+      c .nothing .ensures .0 ∙ first-none _ _ _ _ (l .loop .i) (omega (arith, c .before .loop-test .left)) ∙ sym (l .loop .inv),
       c .nothing .ensures .1,
     )
 

@@ -26,8 +26,8 @@ returns : tie.Need-returns
 returns c =
     let s = c .before .before .before .before .before in
     c .agrees .ensures
-    ∙ ap (λ (x : List ℕ). same x (s .args .t3))
-    (c .before .before .before .sector-root .ensures ∙ disk-root 4096 (s .args .disk .now) (s .args .disk .now) (s .args .n))
+    ∙ ap (λ (x : List ℕ). same x (s .args .t4))
+    (c .before .before .before .sector-root .ensures ∙ disk-root (s .args .z) (s .args .disk .now) (s .args .disk .now) (s .args .n))
 
 pub has-root-spec : {M : Type 1} → statement M
 has-root-spec =

@@ -15,6 +15,7 @@ use Rattle.area.proofs.Laws.Pick.{by, never}
 use Rattle.area.proofs.Laws.Parts.{length-part}
 use Rattle.area.proofs.Laws.Puts.{length-put, part-put}
 use Rattle.area.proofs.Laws.Exchange.{part-away, put-away}
+use Rattle.area.proofs.Laws.Slots.{slot-ends, slots-apart}
 use Rattle.host.specs.Empty.{none}
 use Rattle.host.specs.Places.{freeCopy}
 use Rattle.host.specs.Order.{slotInOrder}
@@ -24,7 +25,7 @@ use Rattle.rules.proofs.Laws.Staged.{slot-none, slot-below}
 use Rattle.rules.proofs.Laws.Effects.{free-slot}
 use Rattle.rules.proofs.Laws.Spots.{every-at, either-second}
 use Rattle.staging.specs.Asks.{bare, Lent, Free, Lies, Room}
-use Rattle.staging.proofs.Laws.Slots.{slot-ends, slots-apart, New, new-slot}
+use Rattle.staging.proofs.Laws.Slots.{New, new-slot}
 use Rattle.staging.proofs.Laws.Copies.{onDisk, reads-disk, reads-stage, copied-new, copied-old}
 
 -- a position has a copy, which ends within the stage
@@ -49,6 +50,7 @@ module _ (z : ℕ) (e : Ground) (g : Staging) (p : ℕ) (lent : Lent z e g) (fre
   unfolding newCopy freeCopy
   lent-new bs =
       record {
+        size = lent .size;
         few = lent .few;
         long = length-put _ _ _ ∙ lent .long;
         slots = every-set (slotInOrder (e .copies)) (g .staged) p _ (lent .slots) (slot-below (e .copies) _ (free-slot (e .copies) (g .staged) free .below));

@@ -1,15 +1,13 @@
 -- Slots of the stage: where they begin and end, and what the lowest free one is. z is the sector size. Assumes nothing.
 use mathlib.Core.Path.{_≡_, refl, sym, ap, _∙_}
-use mathlib.Core.Logic.{_⊎_, inl, inr}
 use mathlib.Core.Bool.{false}
 use mathlib.Core.List.{List, [], _∷_}
 use Prim.Native.Nat.{ℕ, zero, suc, _+_, _*_, _/_, _%_, _≤_, _<_}
-use native.Mathlib.Nat.{suc-mul, mul-le-mul-right}
 use native.Mathlib.Omega.{arith}
 use lib.ListN.{length, getD}
-use lib.Dec.{ltb, eqb}
-use borrow.Author.Tests.{eqb-false, ltb-true, ltb-false}
-use Rattle.area.proofs.Laws.Pick.{by}
+use lib.Dec.{eqb}
+use borrow.Author.Tests.{eqb-false}
+use Rattle.area.proofs.Laws.Slots.{slot-ends}
 use Rattle.host.specs.Lists.{some}
 use Rattle.host.specs.Empty.{none}
 use Rattle.host.specs.Places.{freeCopy}
@@ -18,17 +16,6 @@ use Rattle.rules.proofs.Laws.Lists.{some-first, some-tail}
 use Rattle.rules.proofs.Laws.Effects.{free-slot}
 use Rattle.staging.specs.Parts.{placeOf}
 use Rattle.staging.specs.Asks.{Lent, Free}
-
--- a slot below a count of slots ends where they end, or before
-pub slot-ends : (z slot n : ℕ) → slot < n → slot * z + z ≤ n * z
-slot-ends z slot n h = omega (arith, mul-le-mul-right {m = suc slot} {n = n} z h, suc-mul slot z)
-
--- of two slots one ends where the other begins, or before
-pub slots-apart : (z one two : ℕ) → (one ≡ two → ⊥) → (one * z + z ≤ two * z) ⊎ (two * z + z ≤ one * z)
-slots-apart z one two ne =
-    by (ltb one two)
-    (λ e. inl (slot-ends z one two (ltb-true one two e)))
-    (λ e. let le = ltb-false one two e in let lt : two < one = omega (arith, ne) in inr (slot-ends z two one lt))
 
 -- an entry that there is, whatever stands for one that is not
 pub any-default : (l : List ℕ) (p d c : ℕ) → p < length l → getD l p d ≡ getD l p c

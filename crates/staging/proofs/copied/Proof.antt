@@ -37,7 +37,7 @@ mul-copy-between-2 c =
     let s = c .before .before .before .before .before .before in
     let free = s .pre .1 .free (sym (c .before .before .before .is-bare .ensures) ∙ not-false _ (c .before .before .if1 .left)) in
     let new = new-slot _ _ _ _ (s .pre .0) free (c .before .free-copy .ensures) in
-    omega (arith, new .small)
+    omega (arith, new .room)
 
 copy-between-requires : tie.Need-copy-between-requires
 unfolding bare

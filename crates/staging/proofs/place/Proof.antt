@@ -1,9 +1,13 @@
 -- `staging::place` meets its contract: the slot is one that there is an entry for. Assumes nothing.
 use native.Mathlib.Omega.{arith}
 use borrow.Author.Needs.{needs}
+use Rattle.area.proofs.Laws.Slots.{slot-near, offset-less}
 use Rattle.staging.proofs.Laws.Slots.{place-is}
 use Rattle.staging.proofs.place.Statement.{statement}
 use Rattle.staging.proofs.place.Tie as tie
+
+div-wide : tie.Need-div-wide
+div-wide c = search needs
 
 array-read-wide : tie.Need-array-read-wide
 array-read-wide c = search needs
@@ -12,13 +16,16 @@ wide-requires : tie.Need-wide-requires
 wide-requires c κs = tt
 
 mul-result : tie.Need-mul-result
-mul-result c = omega arith
+mul-result c = omega (arith, slot-near _ (c .before .pre .0) (c .wide .result) (omega arith))
+
+rem-result : tie.Need-rem-result
+rem-result c = search needs
 
 add-result : tie.Need-add-result
-add-result c = omega arith
+add-result c = omega (arith, slot-near _ (c .before .pre .0) (c .wide .result) (omega arith), offset-less _ (c .before .pre .0) (c .before .args .at))
 
 returns : tie.Need-returns
-returns c = place-is 4096 (c .before .args .t1) (c .before .args .at) (c .before .good .0 .1 .0 .1) (c .before .pre) (c .wide .ensures .0)
+returns c = place-is (c .before .args .z) (c .before .args .t2) (c .before .args .at) (c .before .good .1 .0 .1 .0 .1) (c .before .pre .1) (c .wide .ensures .0)
 
 pub place-spec : {M : Type 1} → statement M
-place-spec = tie.close (tie.spec array-read-wide wide-requires mul-result add-result returns)
+place-spec = tie.close (tie.spec div-wide array-read-wide wide-requires mul-result rem-result add-result returns)

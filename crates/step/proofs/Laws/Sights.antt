@@ -1,4 +1,4 @@
--- What is seen of a contract that stands, and of the parent as it is read now, lies within the areas. Assumes nothing.
+-- What is seen of a contract that stands, and of the parent as it is read now, lies within the areas. z is the sector size. Assumes nothing.
 use mathlib.Core.Path.{_≡_, refl, ap, _∙_}
 use mathlib.Core.Bool.{true}
 use mathlib.Core.List.{List, [], _∷_}
@@ -34,13 +34,14 @@ unfolding every each lies
 each-lies z disk stage [] h = refl
 each-lies z disk stage (n ∷ l) h = both-join _ _ (both-left _ _ h) (each-lies z disk stage l (both-right _ _ h))
 
-pub committed-lies : (disk stage : List ℕ) (p : Place) (v : Seen) → spotsOf v ≡ committedSpots 4096 p → Stands disk p → Lies 4096 disk stage v
+pub committed-lies : (z : ℕ) (disk stage : List ℕ) (p : Place) (v : Seen) → spotsOf v ≡ committedSpots z p → Stands z disk p → Lies z disk stage v
 unfolding committedSpots
-committed-lies disk stage p v e s = record {
-  few = omega (arith, seen-count v, ap length e, length-each (committed 4096 p), few-committed 4096 p (s .order));
-  spots = ap (every (lies 4096 disk stage)) e ∙ each-lies 4096 disk stage (committed 4096 p) (s .slots);
+committed-lies z disk stage p v e s = record {
+  size = s .size;
+  few = omega (arith, seen-count v, ap length e, length-each (committed z p), few-committed z p (s .order));
+  spots = ap (every (lies z disk stage)) e ∙ each-lies z disk stage (committed z p) (s .slots);
 }
 
-pub running-lies : (disk stage : List ℕ) (p : Place) (g : Progress) (v : Seen) → spotsOf v ≡ tab 0 (g .size / 4096) (spotOf (p .slots) (g .staged)) → v .count ≡ g .size / 4096
-    → Reads disk stage p g → Lies 4096 disk stage v
-running-lies disk stage p g v e n r = record { few = omega (arith, r .few); spots = ap (every (lies 4096 disk stage)) e ∙ r .spots }
+pub running-lies : (z : ℕ) (disk stage : List ℕ) (p : Place) (g : Progress) (v : Seen) → spotsOf v ≡ tab 0 (g .size / z) (spotOf (p .slots) (g .staged))
+    → v .count ≡ g .size / z → Reads z disk stage p g → Lies z disk stage v
+running-lies z disk stage p g v e n r = record { size = r .size; few = omega (arith, r .few); spots = ap (every (lies z disk stage)) e ∙ r .spots }

@@ -1,5 +1,5 @@
 -- What a program that is going on a host in order gives the functions that take its instruction, and how a step comes to its failure or its
--- success. Assumes nothing.
+-- success. z is the sector size. Assumes nothing.
 use mathlib.Core.Path.{_≡_, sym, ap₂, _∙_, subst}
 use mathlib.Core.List.{List, []}
 use Prim.Native.Nat.{ℕ, _+_, _≤_, _<_}
@@ -27,14 +27,15 @@ use Rattle.sia.specs.declared.Instruction.{Instruction}
 use Rattle.host.specs.declared.Place.{Place}
 use Rattle.host.specs.declared.Progress.{Progress}
 
-module _ (s : Setting) (t : Turn) (input : List ℕ) (x : Steps s t input) where
+module _ (z : ℕ) (s : Setting) (t : Turn) (input : List ℕ) (x : Steps z s t input) where
   -- the parent stands
-  pub parent-stands : {q : Place} → q ≡ whose (s .terms .head .contract) (s .places) → Stands (s .disk) q
+  pub parent-stands : {q : Place} → q ≡ whose (s .terms .head .contract) (s .places) → Stands z (s .disk) q
   parent-stands own =
-      subst (Stands (s .disk)) (sym own) (record {
-        order = whose-in-order 4096 (s .terms .head .contract) (s .places) (x .solid .small);
-        slots = whose-every (holds 4096 (s .disk)) 4096 (s .terms .head .contract) (s .places)
-            (slots-hold 4096 (s .disk) (s .sectors) (taken 4096 (s .places)) (x .solid .disk) (x .solid .slots));
+      subst (Stands z (s .disk)) (sym own) (record {
+        size = x .solid .lent .size;
+        order = whose-in-order z (s .terms .head .contract) (s .places) (x .solid .small);
+        slots = whose-every (holds z (s .disk)) z (s .terms .head .contract) (s .places)
+            (slots-hold z (s .disk) (s .sectors) (taken z (s .places)) (x .solid .disk) (x .solid .slots));
       })
 
   -- there is room for a failure
@@ -42,17 +43,17 @@ module _ (s : Setting) (t : Turn) (input : List ℕ) (x : Steps s t input) where
   failure-fits = omega (arith, x .good .orderly .fits, x .output, skips {A = ℕ} (t .progress .failed) 0 72 (not-failed s t (x .going)))
 
   pub ran-below : t .progress .ran < 32
-  ran-below = omega (arith, left-going s t (x .going) .1, within-count s t x)
+  ran-below = omega (arith, left-going s t (x .going) .1, within-count z s t x)
 
-module _ (s : Setting) (t : Turn) (i : Instruction) (l : List (List ℕ)) {n : ℕ} (number : n ≡ judged 4096 s (t .progress) i l) where
+module _ (z : ℕ) (s : Setting) (t : Turn) (i : Instruction) (l : List (List ℕ)) {n : ℕ} (number : n ≡ judged z s (t .progress) i l) where
   pub step-fails : {q : Place} {g : Progress} {out : List ℕ} → (n ≡ 0 → ⊥) → q ≡ parent s → g ≡ failedProgress (t .progress)
-      → out ≡ put (t .output) (t .progress .written) (recordBytes n 0 (pairOf 4096 (s .disk) q) 0 [] 0 []) → turn g (t .stage) out ≡ stepped 4096 s i l t
+      → out ≡ put (t .output) (t .progress .written) (recordBytes n 0 (pairOf z (s .disk) q) 0 [] 0 []) → turn g (t .stage) out ≡ stepped z s i l t
   unfolding stepped failing failureBytes startingPair
   step-fails other own p o =
       ap₂ (λ (g : Progress) (l : List ℕ). turn g (t .stage) l) p
-      (o ∙ ap₂ (λ (m : ℕ) (b : Place). put (t .output) (t .progress .written) (recordBytes m 0 (pairOf 4096 (s .disk) b) 0 [] 0 [])) number own)
-      ∙ sym (skips (eqb (judged 4096 s (t .progress) i l) 0) _ _ (ne-eqb _ 0 (λ e. other (number ∙ e))))
+      (o ∙ ap₂ (λ (m : ℕ) (b : Place). put (t .output) (t .progress .written) (recordBytes m 0 (pairOf z (s .disk) b) 0 [] 0 [])) number own)
+      ∙ sym (skips (eqb (judged z s (t .progress) i l) 0) _ _ (ne-eqb _ 0 (λ e. other (number ∙ e))))
 
-  pub step-succeeds : {w : Turn} → n ≡ 0 → w ≡ succeeding 4096 s (i .proof) (opOf (i .name)) (argsOf (opOf (i .name)) l) t → w ≡ stepped 4096 s i l t
+  pub step-succeeds : {w : Turn} → n ≡ 0 → w ≡ succeeding z s (i .proof) (opOf (i .name)) (argsOf (opOf (i .name)) l) t → w ≡ stepped z s i l t
   unfolding stepped
-  step-succeeds zero e = e ∙ sym (picks (eqb (judged 4096 s (t .progress) i l) 0) _ _ (eq-eqb _ 0 (sym number ∙ zero)))
+  step-succeeds zero e = e ∙ sym (picks (eqb (judged z s (t .progress) i l) 0) _ _ (eq-eqb _ 0 (sym number ∙ zero)))

@@ -3,6 +3,7 @@ use mathlib.Core.Path.{_≡_, sym, ap, ap₂, _∙_}
 use mathlib.Core.Bool.{not, false}
 use mathlib.Core.List.{[]}
 use Prim.Native.Nat.{ℕ, _+_, _*_, _≤_}
+use native.Mathlib.Nat.{mul-le-mul}
 use native.Mathlib.Omega.{arith}
 use lib.Dec.{ltb}
 use borrow.Author.Tests.{ltb-false, lt-ltb, le-ltb}
@@ -24,7 +25,7 @@ abbrev start-1 : tie.After-wanted → tie.Start
 start-1 c = c .before .before .before
 
 slots : (c : tie.After-wanted) → let a = start-1 c .args in
-    ltb (freeCopies (setting (a .sectors) (a .copies) (a .places) (a .terms) []) (a .p)) (wanted 4096 (a .p) (a .op) (numbers (a .args)))
+    ltb (freeCopies (setting (a .sectors) (a .copies) (a .places) (a .terms) []) (a .p)) (wanted (a .z) (a .p) (a .op) (numbers (a .args)))
     ≡ ltb (c .before .free-copies .result) (c .wanted .result)
 unfolding freeCopies
 slots c = ap₂ ltb (sym (c .before .free-copies .ensures)) (sym (c .wanted .ensures))
@@ -34,19 +35,19 @@ abbrev start-2 : tie.After-sizes-fit → tie.Start
 start-2 c = start-1 (c .before .before .before .before .before)
 
 disk : (c : tie.After-sizes-fit) → let a = start-2 c .args in
-    ltb (a .sectors * 4096) (newSize (a .p .size) (a .op) (numbers (a .args)) + others (a .terms .head .contract) (a .places)) ≡ not (c .sizes-fit .result)
+    ltb (a .sectors * a .z) (newSize (a .p .size) (a .op) (numbers (a .args)) + others (a .terms .head .contract) (a .places)) ≡ not (c .sizes-fit .result)
 disk c =
     let a = start-2 c .args in
     let rest = others (a .terms .head .contract) (a .places) in
-    ap (λ (k : ℕ). ltb (a .sectors * 4096) (k + rest)) (sym (c .before .new-size .ensures))
-    ∙ not-leb (c .before .new-size .result + rest) (a .sectors * 4096) ∙ ap not (sym (c .sizes-fit .ensures))
+    ap (λ (k : ℕ). ltb (a .sectors * a .z) (k + rest)) (sym (c .before .new-size .ensures))
+    ∙ not-leb (c .before .new-size .result + rest) (a .sectors * a .z) ∙ ap not (sym (c .sizes-fit .ensures))
 
 -- 42
 abbrev start-3 : tie.After-record-above → tie.Start
 start-3 c = start-2 (c .before .before .before .before)
 
 room : (c : tie.After-record-above) → let a = start-3 c .args in
-    ltb (a .terms .room) (a .p .written + recordCount 4096 (a .asked) (sectorsOf (a .seen)) (a .op) (numbers (a .args)) + 72) ≡ c .record-above .result
+    ltb (a .terms .room) (a .p .written + recordCount (a .z) (a .asked) (sectorsOf (a .seen)) (a .op) (numbers (a .args)) + 72) ≡ c .record-above .result
 unfolding recordCount
 room c =
     let a = start-3 c .args in
@@ -61,7 +62,7 @@ short c u =
     let a = start-3 c .args in
     let k = a .p .written + (72 + 32 * c .before .before .proof-count .result + c .before .output-count .result) + 72 in
     let fits : k ≤ a .terms .room = ltb-false (a .terms .room) k (sym (c .record-above .ensures) ∙ u) in
-    let most : a .terms .room ≤ 65536 = start-3 c .pre .1 .1 .0 in
+    let most : a .terms .room ≤ 65536 = start-3 c .pre .1 .1 .1 .0 in
     omega arith
 
 -- ---- the needs
@@ -83,7 +84,9 @@ new-size-requires : tie.Need-new-size-requires
 new-size-requires c κs = search needs
 
 mul-sizes-fit : tie.Need-mul-sizes-fit
-mul-sizes-fit c = search needs
+mul-sizes-fit c =
+    let s = start-1 (c .before .before .before .before) in
+    omega (arith, mul-le-mul (s .pre .1 .0) (s .pre .0 .most))
 
 sizes-fit-requires : tie.Need-sizes-fit-requires
 sizes-fit-requires c κs = search needs
@@ -121,14 +124,14 @@ returns-3 c =
     no _ _ _ (slots (at-if1 .before) ∙ le-ltb _ _ (at-if1 .if1 .left))
     (no _ _ _ (disk at-sizes-fit ∙ at-if2 .if2 .left) (yes _ _ _ (room at-record-above ∙ c .before .if3 .taken) (c .refused3 .ensures)))
 
-mul-t18 : tie.Need-mul-t18
-mul-t18 c = omega (arith, short (c .before) (c .if3 .left))
+mul-count : tie.Need-mul-count
+mul-count c = omega (arith, short (c .before) (c .if3 .left))
 
-add-t17 : tie.Need-add-t17
-add-t17 c = omega (arith, short (c .before) (c .if3 .left))
+add-count : tie.Need-add-count
+add-count c = omega (arith, short (c .before) (c .if3 .left))
 
-add-t22 : tie.Need-add-t22
-add-t22 c = omega (arith, short (c .before) (c .if3 .left))
+add-count-2 : tie.Need-add-count-2
+add-count-2 c = omega (arith, short (c .before) (c .if3 .left))
 
 returns-4 : tie.Need-returns-4
 unfolding fitted recordCount
@@ -154,4 +157,4 @@ fitted-spec =
     tie.close
     (tie.spec
     free-copies-requires wanted-requires refused-requires returns new-size-requires mul-sizes-fit sizes-fit-requires refused-requires-2 returns-2
-    proof-count-requires output-count-requires record-above-requires refused-requires-3 returns-3 mul-t18 add-t17 add-t22 returns-4)
+    proof-count-requires output-count-requires record-above-requires refused-requires-3 returns-3 mul-count add-count add-count-2 returns-4)

@@ -15,7 +15,7 @@ use Rattle.judging.proofs.judge.weighed.Tie as tie
 -- ---- what the calls gave, in the definitions' words
 
 -- 26
-right-spans : (c : tie.Else1) → let a = c .before .before .args in badSpans 4096 (a .p .size) (sectorsOf (a .seen)) (a .op) (numbers (a .args)) ≡ false
+right-spans : (c : tie.Else1) → let a = c .before .before .args in badSpans (a .z) (a .p .size) (sectorsOf (a .seen)) (a .op) (numbers (a .args)) ≡ false
 right-spans c = sym (c .before .bad-spans .ensures) ∙ c .if1 .left
 
 -- 27
@@ -60,7 +60,7 @@ unfolding numbers
 cost-requires c κs =
     let at-if1 = c .before .before .before .before in
     let s = at-if1 .before .before in
-    (s .pre .1 .1 .0, charged _ (sectorsOf (s .args .seen)) (s .args .op) (numbers (s .args .args)) (right-spans at-if1))
+    (s .pre .1 .1 .1 .0, charged _ (s .pre .0) _ (sectorsOf (s .args .seen)) (s .args .op) (numbers (s .args .args)) (right-spans at-if1))
 
 above-requires : tie.Need-above-requires
 above-requires c κs = search needs
@@ -81,8 +81,8 @@ fitted-requires c κs =
     let at-if2 = c .before .before .before .before .before in
     let s = at-if2 .before .before .before .before in
     let a = s .args in
-    let ranged = provable (a .p .size) (a .seen) (a .op) (a .args) (a .asked) (right-spans (at-if2 .before .before)) (asked-well at-if2) in
-    (s .pre .0, (s .pre .1 .0, (s .pre .1 .1 .1, ranged)))
+    let ranged = provable (a .z) (s .pre .0) (a .p .size) (a .seen) (a .op) (a .args) (a .asked) (right-spans (at-if2 .before .before)) (asked-well at-if2) in
+    (s .pre .0, (s .pre .1 .0, (s .pre .1 .1 .0, (s .pre .1 .1 .1 .1, ranged))))
 
 returns-4 : tie.Need-returns-4
 unfolding numbers

@@ -1,6 +1,6 @@
 -- `plan::chain::argued` meets its contract: a walk down the definition. Assumes nothing.
 use mathlib.Core.Path.{_≡_, sym, ap, _∙_}
-use mathlib.Core.Bool.{true, false, not}
+use mathlib.Core.Bool.{false, not}
 use mathlib.Core.List.{List}
 use native.Mathlib.Omega.{arith}
 use lib.ListN.{length}
@@ -32,7 +32,7 @@ abbrev the-set : tie.Start → Setting
 the-set s = setting (s .args .sectors) (s .args .copies) (s .args .places) (s .args .terms) (s .args .disk .now)
 
 abbrev the-source : tie.Start → Source
-the-source s = sourceOf 4096 (the-set s) (s .args .p) (s .args .op) (s .args .args .key)
+the-source s = sourceOf (s .args .z) (the-set s) (s .args .p) (s .args .op) (s .args .args .key)
 
 -- 24
 abbrev start-1 : tie.After-changes-nothing → tie.Start
@@ -52,7 +52,7 @@ start-2 c = start-1 (c .before .before .before)
 shown : (c : tie.After-source-of) → Shows (c .source-of .result) (the-source (start-2 c))
 shown c =
     let s = start-2 c in
-    shows-as _ _ _ (source-same 4096 (the-set s) (s .args .p) (s .args .op) (s .args .args .key)) (c .source-of .ensures)
+    shows-as _ _ _ (source-same (s .args .z) (the-set s) (s .args .p) (s .args .op) (s .args .args .key)) (c .source-of .ensures)
 
 there : (c : tie.Else2) → not (isThere (the-source (start-2 (c .before .before)))) ≡ false
 there c = ap not (sym (shown (c .before .before) .there) ∙ not-false _ (c .if2 .left))
@@ -62,13 +62,13 @@ abbrev start-3 : tie.After-weighed → tie.Start
 start-3 c = start-2 (c .before .before .before .before)
 
 valued : (c : tie.After-weighed) → let s = start-3 c in
-    c .weighed .result ≡ weighed 4096 (the-set s) (s .args .p) (s .args .asked) (the-source s) (s .args .op) (numbers (s .args .args))
+    c .weighed .result ≡ weighed (s .args .z) (the-set s) (s .args .p) (s .args .asked) (the-source s) (s .args .op) (numbers (s .args .args))
 valued c =
     let s = start-3 c in
     let at-source-of = c .before .before .before .before in
     let seen = at-source-of .source-of .result .seen in
     let many : length (spots (the-source s)) ≡ seen .count = sym (ap (λ (l : List Spot). length l) (shown at-source-of .sectors)) ∙ seen-count seen in
-    c .weighed .ensures ∙ weighed-at 4096 (the-source s) (the-set s) (s .args .p) (s .args .asked) (s .args .op) (s .args .args) (seen .count) many
+    c .weighed .ensures ∙ weighed-at (s .args .z) (the-source s) (the-set s) (s .args .p) (s .args .asked) (s .args .op) (s .args .args) (seen .count) many
 
 -- ---- the needs
 
@@ -85,7 +85,9 @@ returns c = yes _ _ _ (mode (c .before .before) ∙ c .before .if1 .taken) (c .f
 source-of-requires : tie.Need-source-of-requires
 source-of-requires c κs =
     let s = c .before .before .before .before .before .before in
-    (s .pre .0 .small, slots-hold 4096 (s .args .disk .now) (s .args .sectors) (taken 4096 (s .args .places)) (s .pre .0 .disk) (s .pre .0 .slots))
+    let solid = s .pre .1 .0 in
+    let slots = slots-hold (s .args .z) (s .args .disk .now) (s .args .sectors) (taken (s .args .z) (s .args .places)) (solid .disk) (solid .slots) in
+    (s .pre .0, (solid .small, slots))
 
 failed-requires-2 : tie.Need-failed-requires-2
 failed-requires-2 c κs = search needs
@@ -101,11 +103,16 @@ weighed-requires : tie.Need-weighed-requires
 weighed-requires c κs =
     let at-source-of = c .before .before .before in
     let s = start-2 at-source-of in
-    let few = few-spots 4096 (the-set s) (s .args .p) (s .args .op) (s .args .args .key) (s .pre .0 .small)
-    (size-few (the-set s) (s .args .p) (s .pre .0) (s .pre .1)) in
+    let solid = s .pre .1 .0 in
+    let good = s .pre .1 .1 in
+    let few = few-spots (s .args .z) (the-set s) (s .args .p) (s .args .op) (s .args .args .key) (solid .small)
+    (size-few (s .args .z) (the-set s) (s .args .p) solid good) in
     let many = sym (ap (λ (l : List Spot). length l) (shown at-source-of .sectors)) ∙ seen-count (at-source-of .source-of .result .seen) in (
-      s .pre .0 .lent .most,
-      (omega (arith, few, many), (length-most 4096 (the-set s) (s .args .p) (s .pre .1), room-most 4096 (the-set s) (s .args .p) (s .pre .1))),
+      s .pre .0,
+      (
+        solid .lent .most,
+        (omega (arith, few, many), (length-most (s .args .z) (the-set s) (s .args .p) good, room-most (s .args .z) (the-set s) (s .args .p) good)),
+      ),
     )
 
 failed-requires-3 : tie.Need-failed-requires-3

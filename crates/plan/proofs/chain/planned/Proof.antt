@@ -80,7 +80,7 @@ returns c =
     let at-op-of = at-ill-formed .before in
     let s = at-op-of .before .before .before .before in
     c .failed .ensures ∙ ap (λ (o : Op). failed o _) (at-op-of .op-of .ensures)
-    ∙ fails-21 4096 (the-set s) (s .args .p) (s .args .i) (s .args .input .now) (sym (at-ill-formed .ill-formed .ensures) ∙ c .before .if1 .taken)
+    ∙ fails-21 (s .args .z) (the-set s) (s .args .p) (s .args .i) (s .args .input .now) (sym (at-ill-formed .ill-formed .ensures) ∙ c .before .if1 .taken)
 
 past-end-requires : tie.Need-past-end-requires
 past-end-requires c κs = search needs
@@ -94,14 +94,14 @@ returns-2 c =
     let at-if1 = at-past-end .before .before in
     let s = start-2 at-if1 in
     c .failed2 .ensures ∙ ap (λ (o : Op). failed o _) (at-if1 .before .before .op-of .ensures)
-    ∙ fails-22 4096 (the-set s) (s .args .p) (s .args .i) (s .args .input .now) (formed at-if1)
+    ∙ fails-22 (s .args .z) (the-set s) (s .args .p) (s .args .i) (s .args .input .now) (formed at-if1)
     (sym (at-past-end .past-end .ensures) ∙ c .before .if2 .taken)
 
 decoded-requires : tie.Need-decoded-requires
 decoded-requires c κs =
     let at-if1 = c .before .before .before in
     let s = start-2 at-if1 in
-    (at-if1 .before .before .op-of .ensures, (formed at-if1, ap (λ (n : ℕ). pastEnd n (s .args .i)) (s .pre .1 .1) ∙ within c))
+    (at-if1 .before .before .op-of .ensures, (formed at-if1, ap (λ (n : ℕ). pastEnd n (s .args .i)) (s .pre .1 .1 .1) ∙ within c))
 
 failed-requires-3 : tie.Need-failed-requires-3
 failed-requires-3 c κs = search needs
@@ -113,11 +113,11 @@ returns-3 c =
     let at-if1 = at-if2 .before .before .before in
     let s = start-2 at-if1 in
     c .failed3 .ensures ∙ ap (λ (o : Op). failed o _) (at-if1 .before .before .op-of .ensures)
-    ∙ fails-23 4096 (the-set s) (s .args .p) (s .args .i) (s .args .input .now) (formed at-if1) (within at-if2)
+    ∙ fails-23 (s .args .z) (the-set s) (s .args .p) (s .args .i) (s .args .input .now) (formed at-if1) (within at-if2)
     (sym (well-told at-decoded) ∙ not-true _ (c .before .if3 .taken))
 
 argued-requires : tie.Need-argued-requires
-argued-requires c κs = let s = start-4 (c .before) in (s .pre .0, s .pre .1 .0)
+argued-requires c κs = let s = start-4 (c .before) in (s .pre .0, (s .pre .1 .0, s .pre .1 .1 .0))
 
 returns-4 : tie.Need-returns-4
 returns-4 c =
@@ -126,8 +126,8 @@ returns-4 c =
     let at-if1 = at-if2 .before .before .before in
     let s = start-2 at-if1 in
     c .argued .ensures
-    ∙ ap₂ (argued 4096 (the-set s) (s .args .p) (s .args .i .proof)) (at-if1 .before .before .op-of .ensures) (heard-args at-if3)
-    ∙ argued-is 4096 (the-set s) (s .args .p) (s .args .i) (s .args .input .now) (formed at-if1) (within at-if2) (told at-if3)
+    ∙ ap₂ (argued (s .args .z) (the-set s) (s .args .p) (s .args .i .proof)) (at-if1 .before .before .op-of .ensures) (heard-args at-if3)
+    ∙ argued-is (s .args .z) (the-set s) (s .args .p) (s .args .i) (s .args .input .now) (formed at-if1) (within at-if2) (told at-if3)
 
 pub planned-spec : {M : Type 1} → statement M
 planned-spec =

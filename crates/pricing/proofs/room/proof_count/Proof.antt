@@ -14,14 +14,14 @@ unfolding proofCount numbers
 returns c = no _ _ _ (not-true _ (c .if1 .taken)) refl
 
 range-count-requires : tie.Need-range-count-requires
-range-count-requires c κs = (c .before .pre .0, c .before .pre .1 (not-false _ (c .if1 .left)))
+range-count-requires c κs = (c .before .pre .0, (c .before .pre .1 .0, c .before .pre .1 .1 (not-false _ (c .if1 .left))))
 
 returns-2 : tie.Need-returns-2
 unfolding proofCount numbers
 returns-2 c =
     let s = c .before .before in
     yes _ _ _ (not-false _ (c .before .if1 .left))
-    (c .range-count .ensures ∙ count-range (spots (sectorsOf (s .args .seen))) _ (s .args .args .first) (s .args .args .len)
+    (c .range-count .ensures ∙ count-range (s .args .z) (spots (sectorsOf (s .args .seen))) _ (s .args .args .first) (s .args .args .len)
     (sym (sectors-many (s .args .seen))))
 
 pub proof-count-spec : {M : Type 1} → statement M

@@ -49,14 +49,14 @@ unfolding wanted touched numbers
 returns c =
     let s = c .before .before .before in
     none-those (λ at. eqb (getD (s .args .p .staged) at none) none)
-    ∙ sym (ap (λ (o : Op). wanted 4096 (s .args .p) o (numbers (s .args .args))) (c .enum-told .given .1))
+    ∙ sym (ap (λ (o : Op). wanted (s .args .z) (s .args .p) o (numbers (s .args .args))) (c .enum-told .given .1))
 
 returns-2 : tie.Need-returns-2
 unfolding wanted touched numbers
 returns-2 c =
     let s = c .before .before .before in
     none-those (λ at. eqb (getD (s .args .p .staged) at none) none)
-    ∙ sym (ap (λ (o : Op). wanted 4096 (s .args .p) o (numbers (s .args .args))) (c .enum-told2 .given .1))
+    ∙ sym (ap (λ (o : Op). wanted (s .args .z) (s .args .p) o (numbers (s .args .args))) (c .enum-told2 .given .1))
 
 returns-3 : tie.Need-returns-3
 unfolding wanted touched numbers
@@ -64,7 +64,7 @@ returns-3 c =
     let at-enum-told3 = c .before .before in
     let s = at-enum-told3 .before .before .before in
     c .lacks .ensures .0 ∙ one-those (λ at. eqb (getD (s .args .p .staged) at none) none) _
-    ∙ sym (ap (λ (o : Op). wanted 4096 (s .args .p) o (numbers (s .args .args))) (at-enum-told3 .enum-told3 .given .1))
+    ∙ sym (ap (λ (o : Op). wanted (s .args .z) (s .args .p) o (numbers (s .args .args))) (at-enum-told3 .enum-told3 .given .1))
 
 returns-4 : tie.Need-returns-4
 unfolding wanted touched numbers
@@ -72,26 +72,26 @@ returns-4 c =
     let at-enum-told4 = c .before .before in
     let s = at-enum-told4 .before .before .before in
     c .lacks2 .ensures .0 ∙ one-those (λ at. eqb (getD (s .args .p .staged) at none) none) _
-    ∙ sym (ap (λ (o : Op). wanted 4096 (s .args .p) o (numbers (s .args .args))) (at-enum-told4 .enum-told4 .given .1))
+    ∙ sym (ap (λ (o : Op). wanted (s .args .z) (s .args .p) o (numbers (s .args .args))) (at-enum-told4 .enum-told4 .given .1))
 
 returns-5 : tie.Need-returns-5
 unfolding wanted touched numbers
 returns-5 c =
     let s = c .before .before .before .before in
-    c .wanted-swap .ensures ∙ sym (ap (λ (o : Op). wanted 4096 (s .args .p) o (numbers (s .args .args))) (c .before .enum-told5 .given .1))
+    c .wanted-swap .ensures ∙ sym (ap (λ (o : Op). wanted (s .args .z) (s .args .p) o (numbers (s .args .args))) (c .before .enum-told5 .given .1))
 
 returns-6 : tie.Need-returns-6
 unfolding wanted touched numbers
 returns-6 c =
     let s = c .before .before .before .before in
-    c .wanted-size .ensures ∙ sym (ap (λ (o : Op). wanted 4096 (s .args .p) o (numbers (s .args .args))) (c .before .enum-told6 .given .1))
+    c .wanted-size .ensures ∙ sym (ap (λ (o : Op). wanted (s .args .z) (s .args .p) o (numbers (s .args .args))) (c .before .enum-told6 .given .1))
 
 returns-7 : tie.Need-returns-7
 unfolding wanted touched numbers
 returns-7 c =
     let s = c .before .before .before in
     none-those (λ at. eqb (getD (s .args .p .staged) at none) none)
-    ∙ sym (ap (λ (o : Op). wanted 4096 (s .args .p) o (numbers (s .args .args))) (c .enum-told7 .given .1))
+    ∙ sym (ap (λ (o : Op). wanted (s .args .z) (s .args .p) o (numbers (s .args .args))) (c .enum-told7 .given .1))
 
 pub wanted-spec : {M : Type 1} → statement M
 wanted-spec =
@@ -100,8 +100,10 @@ wanted-spec =
     enum-told
     enum-told-2
     enum-told-3
+    (λ c. search needs)
     lacks-requires
     enum-told-4
+    (λ c. search needs)
     lacks-requires-2
     enum-told-5
     wanted-swap-requires

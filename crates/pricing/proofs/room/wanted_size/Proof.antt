@@ -34,4 +34,4 @@ returns-2 c =
     ∙ ap (λ (l : List ℕ). length (those (λ at. eqb (getD (s .args .p .staged) at none) none) l)) (no _ _ _ (le-ltb _ _ (c .if1 .left)) refl)
 
 pub wanted-size-spec : {M : Type 1} → statement M
-wanted-size-spec = tie.close (tie.spec lacks-requires returns returns-2)
+wanted-size-spec = tie.close (tie.spec (λ c. search needs) lacks-requires returns returns-2)

@@ -46,4 +46,4 @@ returns-2 c =
 pub wanted-swap-spec : {M : Type 1} → statement M
 wanted-swap-spec =
     tie.close
-    (tie.spec lacks-requires returns lacks-requires-2 lacks-requires-3 add-result returns-2)
+    (tie.spec (λ c. search needs) (λ c. search needs) lacks-requires returns lacks-requires-2 lacks-requires-3 add-result returns-2)

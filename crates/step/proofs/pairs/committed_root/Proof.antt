@@ -13,10 +13,10 @@ slice-aggregate-contract-root : tie.Need-slice-aggregate-contract-root
 slice-aggregate-contract-root c = search needs
 
 contract-root-requires : tie.Need-contract-root-requires
-contract-root-requires c κs = committed-lies _ _ _ _ (c .before .committed-seen .ensures .0) (c .before .before .before .pre)
+contract-root-requires c κs = committed-lies _ _ _ _ _ (c .before .committed-seen .ensures .0) (c .before .before .before .pre)
 
 returns : tie.Need-returns
-returns c = c .contract-root .ensures ∙ ap (contractRoot 4096 _ _) (c .before .before .committed-seen .ensures .0)
+returns c = c .contract-root .ensures ∙ ap (contractRoot _ _ _) (c .before .before .committed-seen .ensures .0)
 
 pub committed-root-spec : {M : Type 1} → statement M
 committed-root-spec =

@@ -34,8 +34,14 @@ same-length c = search needs
 returns : tie.Need-returns
 unfolding failedProgress pairOf
 returns c =
-    let a = c .before .before .before .before .before .before .before .before .args in
-    (refl, lent _ _ _ (c .before .before .before .put-failure .ensures) ∙ ap (λ (r : List ℕ). put (a .output .now) (a .progress .written) (recordBytes (a .number) 0 (pairing (a .parent .size) r) 0 [] 0 [])) (c .before .before .before .before .before .committed-root .ensures))
+    let laid = c .before .before .before in
+    let rooted = laid .before .before in
+    let a = rooted .before .before .before .args in (
+      refl,
+      lent _ _ _ (laid .put-failure .ensures)
+          ∙ ap (λ (r : List ℕ). put (a .output .now) (a .progress .written) (recordBytes (a .number) 0 (pairing (a .parent .size) r) 0 [] 0 []))
+          (rooted .committed-root .ensures),
+    )
 
 pub fail-spec : {M : Type 1} → statement M
 fail-spec =

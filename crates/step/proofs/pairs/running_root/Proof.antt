@@ -10,10 +10,10 @@ parent-seen-requires : tie.Need-parent-seen-requires
 parent-seen-requires c κs = search needs
 
 contract-root-requires : tie.Need-contract-root-requires
-contract-root-requires c κs = running-lies _ _ _ _ _ (c .parent-seen .ensures .0) (c .parent-seen .ensures .1) (c .before .before .before .before .pre)
+contract-root-requires c κs = running-lies _ _ _ _ _ _ (c .parent-seen .ensures .0) (c .parent-seen .ensures .1) (c .before .before .before .before .pre)
 
 returns : tie.Need-returns
-returns c = c .contract-root .ensures ∙ ap (contractRoot 4096 _ _) (c .before .parent-seen .ensures .0)
+returns c = c .contract-root .ensures ∙ ap (contractRoot _ _ _) (c .before .parent-seen .ensures .0)
 
 pub running-root-spec : {M : Type 1} → statement M
 running-root-spec = tie.close (tie.spec parent-seen-requires contract-root-requires returns)

@@ -12,11 +12,14 @@ use borrow.Author.Needs.{needs}
 use Rattle.step.proofs.taking.step.Statement.{statement}
 use Rattle.step.proofs.taking.step.Tie as tie
 
+abbrev at-start : tie.After-list → tie.Start
+at-start c = c .before .before .before .before .before .before
+
 mul-i : tie.Need-mul-i
-mul-i c = let b = ran-below _ _ _ (c .before .before .before .before .before .before .pre) in omega arith
+mul-i c = let below = ran-below _ _ _ _ (at-start c .pre) in omega arith
 
 array-copy-out-i : tie.Need-array-copy-out-i
-array-copy-out-i c = ran-below _ _ _ (c .before .before .before .before .before .before .pre)
+array-copy-out-i c = ran-below _ _ _ _ (at-start c .pre)
 
 taken-requires : tie.Need-taken-requires
 taken-requires c κs = search needs
@@ -30,11 +33,14 @@ same-length-2 c = search needs
 returns : tie.Need-returns
 unfolding step current
 returns c =
-    let a = c .before .before .before .before .before .before .before .before .before .before .before .before .before .before .args in
-    let below = ran-below _ _ _ (c .before .before .before .before .before .before .before .before .before .before .before .before .before .before .pre) in
-    c .before .before .before .before .taken .ensures
-    ∙ ap (λ (i : Instruction). stepped 4096 (setting (a .sectors) (a .copies) (a .places) (a .terms) (a .disk .now)) i (inputsOf i (a .input .now)) (turn (a .progress) (a .stage .now) (a .output .now)))
-    (entry (a .terms .head .instructions) (a .progress .ran) _ noInstruction (omega (arith, known-terms (a .terms) _ (c .before .before .before .before .before .before .before .before .before .before .before .before .before .before .good .1 .1 .1 .0) .1)))
+    let done = c .before .before .before .before in
+    let s = at-start (done .before .before .before .before) in
+    let a = s .args in
+    let below = ran-below _ _ _ _ (s .pre) in
+    let long = known-terms (a .terms) _ (s .good .1 .1 .1 .1 .0) .1 in
+    done .taken .ensures
+    ∙ ap (λ (i : Instruction). stepped (a .z) (setting (a .sectors) (a .copies) (a .places) (a .terms) (a .disk .now)) i (inputsOf i (a .input .now))
+    (turn (a .progress) (a .stage .now) (a .output .now))) (entry (a .terms .head .instructions) (a .progress .ran) _ noInstruction (omega (arith, long)))
 
 pub step-spec : {M : Type 1} → statement M
 step-spec =

@@ -15,7 +15,7 @@ root-requires c κs = search needs
 returns : tie.Need-returns
 returns c =
     let at-sector = c .before .before in
-    root-is 4096 _ _ _ (at-sector .sector .ensures .0)
+    root-is _ _ _ _ (at-sector .sector .ensures .0)
     (calls .root-told (c .before .root .result) _ (c .before .root .ensures) (omega (arith, at-sector .sector .ensures .1)))
 
 pub sector-root-spec : {M : Type 1} → statement M

@@ -10,13 +10,13 @@ use Rattle.view.proofs.sectors.sector.Reads as reads
 use Rattle.view.proofs.sectors.sector.Lts as lts
 
 -- the slot lies within the area
-disk-holds : (c : lts.After-known-told reads.Pre reads.Post)
-    → c .before .spot .given .0 .0 * 4096 + 4096 ≤ length (c .before .before .before .args .disk .now)
-disk-holds c = on-disk 4096 _ _ _ (c .before .spot .given .1) (c .before .before .before .pre)
+disk-holds : (c : lts.After-known-told reads.Pre reads.Post) → let a = c .before .before .before .args in
+    c .before .spot .given .0 .0 * a .z + a .z ≤ length (a .disk .now)
+disk-holds c = on-disk _ _ _ _ (c .before .spot .given .1) (c .before .before .before .pre)
 
-stage-holds : (c : lts.After-known-told2 reads.Pre reads.Post)
-    → c .before .spot2 .given .0 .0 * 4096 + 4096 ≤ length (c .before .before .before .args .stage .now)
-stage-holds c = in-stage 4096 _ _ _ (c .before .spot2 .given .1) (c .before .before .before .pre)
+stage-holds : (c : lts.After-known-told2 reads.Pre reads.Post) → let a = c .before .before .before .args in
+    c .before .spot2 .given .0 .0 * a .z + a .z ≤ length (a .stage .now)
+stage-holds c = in-stage _ _ _ _ (c .before .spot2 .given .1) (c .before .before .before .pre)
 
 enum-known-spot : tie.Need-enum-known-spot
 enum-known-spot c = search needs
@@ -55,10 +55,10 @@ part-result-end-2 : tie.Need-part-result-end-2
 part-result-end-2 c = omega (arith, stage-holds c)
 
 returns : tie.Need-returns
-returns c = disk-sector 4096 _ _ _ _ (c .before .before .spot .given .1) (c .before .before .before .before .pre)
+returns c = disk-sector _ _ _ _ _ (c .before .before .spot .given .1) (c .before .before .before .before .pre)
 
 returns-2 : tie.Need-returns-2
-returns-2 c = stage-sector 4096 _ _ _ _ (c .before .before .spot2 .given .1) (c .before .before .before .before .pre)
+returns-2 c = stage-sector _ _ _ _ _ (c .before .before .spot2 .given .1) (c .before .before .before .before .pre)
 
 pub sector-spec : {M : Type 1} → statement M
 sector-spec =
