@@ -74,7 +74,7 @@ fn same_pair(one: Pair, two: Pair) -> bool
 // Staged sectors go to the parent's slots on the disk, and the parent takes its final size.
 fn commit(host: Host, disk: &mut [u8], stage: &[u8]) -> Closing
     requires { ⌜ Ready (now disk) host (now stage) ⌝ }
-    ensures { λ r. ⌜ closeLeaves r (now (disk .exit)) ≡ Says.commit 4096 (now (disk .entry)) host (now (stage .entry)) ⌝ }
+    ensures { λ r. ⌜ closeLeaves r (now (disk .exit)) ≡ Says.commit (now (disk .entry)) host (now (stage .entry)) ⌝ }
 {
     let program = host.program;
     let terms = program.terms;
@@ -85,11 +85,12 @@ fn commit(host: Host, disk: &mut [u8], stage: &[u8]) -> Closing
     let size = progress.size;
     let staged = progress.staged;
     let old = host::place_of(places, id);
-    let slots = commit::final_slots(host.disk, places, old, size);
+    let z = host.sector;
+    let slots = commit::final_slots(z, host.disk, places, old, size);
     let new = commit::final_place(old, size, slots);
     let after_places = host::replaced_in(places, id, new);
     let growth = commit::growth(size, old.size);
-    commit::copy_back(stage, staged, slots, (size / Host::SECTOR) as usize, disk);
+    commit::copy_back(z, stage, staged, slots, (size / z) as usize, disk);
     let mut after = host;
     after.places = after_places;
     let none = Program::none();
@@ -105,7 +106,7 @@ fn commit(host: Host, disk: &mut [u8], stage: &[u8]) -> Closing
 // An agreement. Where nothing changed there is nothing to agree, and nothing to commit; else 14 drops the changes, and closes.
 fn agree_to(host: Host, disk: &mut [u8], stage: &[u8], named: Pair) -> Closing
     requires { ⌜ Ready (now disk) host (now stage) ⌝ }
-    ensures { λ r. ⌜ closeLeaves r (now (disk .exit)) ≡ Says.agreed 4096 (now (disk .entry)) host (now (stage .entry)) named ⌝ }
+    ensures { λ r. ⌜ closeLeaves r (now (disk .exit)) ≡ Says.agreed (now (disk .entry)) host (now (stage .entry)) named ⌝ }
 {
     let starting = turns::starting_pair(host, &*disk);
     let running = turns::running_pair(host, &*disk, stage);
@@ -127,12 +128,12 @@ pub fn close(
     size: u64,
     root: [u8; 32],
 ) -> Closing
-    ensures { λ r. ⌜ closeLeaves r (now (disk .exit)) ≡ Says.close 4096 (now (disk .entry)) host (now (stage .entry)) agree size root ⌝ }
+    ensures { λ r. ⌜ closeLeaves r (now (disk .exit)) ≡ Says.close (now (disk .entry)) host (now (stage .entry)) agree size root ⌝ }
 {
     if !order::in_order(host) {
         return refused(1, host);
     }
-    if !turns::areas_right(host.disk, host.stage, &*disk, stage) {
+    if !turns::areas_right(host.sector, host.disk, host.stage, &*disk, stage) {
         return refused(2, host);
     }
     let program = host.program;

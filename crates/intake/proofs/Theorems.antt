@@ -28,13 +28,13 @@ use Rattle.host.specs.declared.Host.{Host}
 
 module _ (all : List ℕ) (front : 80 ≤ length all) (whole : cutShort all ≡ false) where
   -- the contracts formed
-  same-ids : (z d s : ℕ) → formedInTurn z (freshed z d s .host) (idsIn (idsBytes (kept all))) ≡ formedInTurn z (freshed z d s .host) (idsIn (idsBytes all))
+  same-ids : (z d s : ℕ) → formedInTurn (freshed z d s .host) (idsIn (idsBytes (kept all))) ≡ formedInTurn (freshed z d s .host) (idsIn (idsBytes all))
   unfolding idsBytes idsKept
   same-ids z d s =
       let h : Host = freshed z d s .host in
-      ap (λ (l : List ℕ). formedInTurn z h (idsIn l)) (ids-kept all front whole)
-      ∙ ap (formedInTurn z h) (sym (ids-first all (numberAt all 72) (ids-there all front whole)))
-      ∙ sym (first-ids z 8 h (idsIn (idsBytes all)) (fresh-free z d s))
+      ap (λ (l : List ℕ). formedInTurn h (idsIn l)) (ids-kept all front whole)
+      ∙ ap (formedInTurn h) (sym (ids-first all (numberAt all 72) (ids-there all front whole)))
+      ∙ sym (first-ids 8 h (idsIn (idsBytes all)) (fresh-free z d s))
 
   -- the head read
   same-head : decode (headBytes (kept all)) ≡ decode (headBytes all)

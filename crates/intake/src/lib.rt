@@ -7,6 +7,7 @@ ghost use mathlib.Core.List.{[], _∷_};
 ghost use Rattle.intake.specs.Reader as Says;
 ghost use Rattle.intake.specs.Reader.{state, fresh, idsFrom, headFrom, dataFrom, numberTo, fedByte, inData};
 ghost use Rattle.intake.specs.Gathered.{readsOn, Feeds, Gathered};
+use libc::STDOUT_FILENO;
 
 // Which section the next byte belongs to.
 pub enum Section {
@@ -313,4 +314,11 @@ pub fn gather(left: u64, follows: bool, all: &mut [u8]) -> usize
     }
     let last = turn.reader;
     last.held()
+}
+
+// Writes the first n bytes of what is to be written out.
+pub fn show(output: &[u8], n: usize) {
+    if n <= output.len() {
+        io::write_all(STDOUT_FILENO, &output[0..n]);
+    }
 }

@@ -45,7 +45,7 @@ fn main() {
 fn formed(front: &[u8; 96]) -> Course {
     let mut id = [0u8; 32];
     area::copy_between(front, 0, &mut id, 0, 32);
-    let made = forming::fresh(262_144, 65_536);
+    let made = forming::fresh(Host::LEAST, 262_144, 65_536);
     let bare = made.host;
     let told = forming::form(bare, id);
     let host = told.host;

@@ -93,7 +93,7 @@ pub fn refused(number: u64, host: Host) -> Answer
 
 // Opens a program under a head in its bytes: 1, 2, 3, 9 and 10 in reading order, 7, 11; with 0 the start price is tallied.
 pub fn open(host: Host, bytes: &[u8], budget: u64, prices: Prices, room: u64) -> Answer
-    ensures { λ r. ⌜ r ≡ opened 4096 host (now (bytes .entry)) budget prices room ⌝ }
+    ensures { λ r. ⌜ r ≡ opened host (now (bytes .entry)) budget prices room ⌝ }
 {
     if !order::in_order(host) {
         return refused(1, host);

@@ -2,3 +2,4 @@
 pub mod Turns
 pub mod Plays
 pub mod Input
+pub mod Spoken

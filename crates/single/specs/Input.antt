@@ -1,5 +1,5 @@
 -- The whole input in its bytes: "the price count 7, prices in the order above, budget, contract count (8-byte numbers) and ids, head
--- length, head, data to the end". z is the sector size. Assumes nothing.
+-- length, head, data to the end". z is the sector size of the host that is made. Assumes nothing.
 use mathlib.Core.Bool.{Bool, not}
 use mathlib.Core.List.{List}
 use Prim.Native.Nat.{ℕ, _+_, _*_}

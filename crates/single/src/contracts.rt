@@ -20,7 +20,7 @@ fn id_at(ids: &[u8], at: usize) -> [u8; 32]
 
 // Forms the contracts of ids that stand one behind another, up to the first refusal: 0; or its number.
 pub fn form_in_turn(host: Host, ids: &[u8]) -> Answer
-    ensures { λ r. ⌜ r ≡ formedInTurn 4096 host (idsIn (now (ids .entry))) ⌝ }
+    ensures { λ r. ⌜ r ≡ formedInTurn host (idsIn (now (ids .entry))) ⌝ }
 {
     let n = ids.len() / Place::ID;
     let mut made = host;

@@ -8,11 +8,13 @@ ghost use Rattle.single.specs.Input.{answered};
 mod contracts; // contracts.rt: contracts formed in turn
 mod playing; // playing.rt: opening, the piece and the close
 mod reading; // reading.rt: the whole input in its bytes
+mod speaking; // speaking.rt: what is written out
 
 use host::Host;
 use host::Prices;
 pub use playing::begin;
 pub use playing::least;
+pub use speaking::play;
 
 // What a run answers: document 01's number, how many bytes of the output area are records to be written out, and the host.
 pub struct Outcome {
@@ -26,9 +28,10 @@ impl Outcome {
     pub const FRONT: usize = 80;
 }
 
-// Plays one program on a fresh host for the areas that are lent: 2 for their lengths; 5, 6, 8 of the first id that is refused; opening's 2,
+// Plays one program on a fresh host with sectors of that size for the areas that are lent: 2 for the size and their lengths; 5, 15, 6, 8 of the first id that is refused; opening's 2,
 // 9, 10, 7, 11; the piece's 2, 12; closing's 13. The ids stand one behind another, 32 bytes each.
 pub fn run(
+    sector: u64,
     prices: Prices,
     budget: u64,
     ids: &[u8],
@@ -40,9 +43,9 @@ pub fn run(
     output: &mut [u8],
 ) -> Outcome
     ensures { λ r. ⌜ leaves r (now (disk .exit)) (now (stage .exit)) (now (input .exit)) (now (output .exit)) ≡
-        Says.run 4096 prices budget (now (ids .entry)) (now (head .entry)) (now (bytes .entry)) (now (disk .entry)) (now (stage .entry)) (now (input .entry)) (now (output .entry)) ⌝ }
+        Says.run sector prices budget (now (ids .entry)) (now (head .entry)) (now (bytes .entry)) (now (disk .entry)) (now (stage .entry)) (now (input .entry)) (now (output .entry)) ⌝ }
 {
-    let fresh = forming::fresh(disk.len() as u64, stage.len() as u64);
+    let fresh = forming::fresh(sector, disk.len() as u64, stage.len() as u64);
     let empty = fresh.host;
     if fresh.number != 0 {
         return playing::refused(fresh.number, empty);
@@ -67,6 +70,7 @@ pub fn run(
 
 // Plays what the whole input asks for: 9 if bytes ahead of the data are missing, the price count is not 7 or a price passes 65,535.
 pub fn answer(
+    sector: u64,
     all: &[u8],
     disk: &mut [u8],
     stage: &mut [u8],
@@ -74,10 +78,10 @@ pub fn answer(
     output: &mut [u8],
 ) -> Outcome
     ensures { λ r. ⌜ leaves r (now (disk .exit)) (now (stage .exit)) (now (input .exit)) (now (output .exit)) ≡
-        answered 4096 (now (all .entry)) (now (disk .entry)) (now (stage .entry)) (now (input .entry)) (now (output .entry)) ⌝ }
+        answered sector (now (all .entry)) (now (disk .entry)) (now (stage .entry)) (now (input .entry)) (now (output .entry)) ⌝ }
 {
     if reading::wrong(all) {
-        let fresh = forming::fresh(disk.len() as u64, stage.len() as u64);
+        let fresh = forming::fresh(sector, disk.len() as u64, stage.len() as u64);
         let empty = fresh.host;
         return playing::refused(9, empty);
     }
@@ -87,6 +91,7 @@ pub fn answer(
     let from = ids + 8;
     let end = reading::head_end(all);
     run(
+        sector,
         prices,
         budget,
         &all[80..ids],

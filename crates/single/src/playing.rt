@@ -22,7 +22,7 @@ pub fn refused(number: u64, host: Host) -> Outcome
 
 // Agrees to the pair reached; gives up after a failure.
 fn finish(host: Host, disk: &mut [u8], stage: &[u8]) -> Closing
-    ensures { λ r. ⌜ closeLeaves r (now (disk .exit)) ≡ ended 4096 (now (disk .entry)) host (now (stage .entry)) ⌝ }
+    ensures { λ r. ⌜ closeLeaves r (now (disk .exit)) ≡ ended (now (disk .entry)) host (now (stage .entry)) ⌝ }
 {
     let program = host.program;
     let progress = program.progress;
@@ -61,7 +61,7 @@ fn give(
     output: &mut [u8],
 ) -> Outcome
     ensures { λ r. ⌜ leaves r (now (disk .exit)) (now (stage .exit)) (now (input .exit)) (now (output .exit)) ≡
-        given 4096 host (now (bytes .entry)) (now (disk .entry)) (now (stage .entry)) (now (input .entry)) (now (output .entry)) ⌝ }
+        given host (now (bytes .entry)) (now (disk .entry)) (now (stage .entry)) (now (input .entry)) (now (output .entry)) ⌝ }
 {
     let program = host.program;
     let terms = program.terms;
@@ -96,7 +96,7 @@ pub fn begin(
     output: &mut [u8],
 ) -> Outcome
     ensures { λ r. ⌜ leaves r (now (disk .exit)) (now (stage .exit)) (now (input .exit)) (now (output .exit)) ≡
-        begun 4096 host prices budget (now (head .entry)) (now (bytes .entry)) (now (disk .entry)) (now (stage .entry)) (now (input .entry)) (now (output .entry)) ⌝ }
+        begun host prices budget (now (head .entry)) (now (bytes .entry)) (now (disk .entry)) (now (stage .entry)) (now (input .entry)) (now (output .entry)) ⌝ }
 {
     let opened = opening::open(host, head, budget, prices, output.len() as u64);
     let after = opened.host;

@@ -14,8 +14,8 @@ use Rattle.turns.specs.Asks.{Ready}
 
 -- a host in order with an open program that is going, its disk and the output area as stated
 pub record Stops (d : List ℕ) (h : Host) (out : List ℕ) : Type 0 where
-  pub order : inOrder 4096 h ≡ true
-  pub disk : diskRight 4096 h d ≡ true
+  pub order : inOrder h ≡ true
+  pub disk : diskRight h d ≡ true
   pub live : h .program .active ≡ true
   pub output : outputRight h out ≡ true
   pub going : going (h .program .terms) (h .program .progress) ≡ true

@@ -1,14 +1,7 @@
 // Interrupting a program.
 ghost use mathlib.Core.Path.{_≡_};
-ghost use mathlib.Core.Bool.{true, not};
-ghost use Prim.Native.Nat.{_+_, _≤_};
-ghost use lib.ListN.{length};
-ghost use Rattle.area.specs.Pick.{both};
-ghost use Rattle.host.specs.Order.{inOrder};
-ghost use Rattle.rules.specs.View.{diskRight};
 ghost use Rattle.rules.specs.Calls as Says;
 ghost use Rattle.rules.specs.Calls.{stopped};
-ghost use Rattle.rules.specs.Run as Run;
 ghost use Rattle.taking.specs.Asks.{Stops, interruptLeaves};
 use host::Host;
 use rules::Answer;
@@ -16,12 +9,12 @@ use rules::Answer;
 // Record 20, for the first instruction not run.
 fn stop(host: Host, disk: &[u8], output: &mut [u8]) -> Answer
     requires { ⌜ Stops (now disk) host (now output) ⌝ }
-    ensures { λ r. ⌜ interruptLeaves r (now (output .exit)) ≡ stopped 4096 (now (disk .entry)) host (now (output .entry)) ⌝ }
+    ensures { λ r. ⌜ interruptLeaves r (now (output .exit)) ≡ stopped (now (disk .entry)) host (now (output .entry)) ⌝ }
 {
     let mut program = host.program;
     let parent = turns::parent(host);
     let progress = program.progress;
-    let failed = step::fail(20, disk, parent, progress, output);
+    let failed = step::fail(host.sector, 20, disk, parent, progress, output);
     program.progress = failed;
     let mut after = host;
     after.program = program;
@@ -34,12 +27,12 @@ fn stop(host: Host, disk: &[u8], output: &mut [u8]) -> Answer
 
 // Interrupts the program: 1, 2, 4. Where it has ended or failed nothing changes.
 pub fn interrupt(host: Host, disk: &[u8], output: &mut [u8]) -> Answer
-    ensures { λ r. ⌜ interruptLeaves r (now (output .exit)) ≡ Says.interrupt 4096 (now (disk .entry)) host (now (output .entry)) ⌝ }
+    ensures { λ r. ⌜ interruptLeaves r (now (output .exit)) ≡ Says.interrupt (now (disk .entry)) host (now (output .entry)) ⌝ }
 {
     if !order::in_order(host) {
         return opening::refused(1, host);
     }
-    if !turns::lent(host.disk, disk) {
+    if !turns::lent(host.sector, host.disk, disk) {
         return opening::refused(2, host);
     }
     let program = host.program;

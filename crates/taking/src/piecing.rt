@@ -40,7 +40,7 @@ fn accept(
 ) -> Answer
     requires { ⌜ Takes (now disk) host (now stage) (now input) (now output) (now bytes) ⌝ }
     ensures { λ r. ⌜ pieceLeaves r (now (stage .exit)) (now (input .exit)) (now (output .exit)) ≡
-        accepted 4096 (now (disk .entry)) host (now (stage .entry)) (now (input .entry)) (now (output .entry)) (now (bytes .entry)) ⌝ }
+        accepted (now (disk .entry)) host (now (stage .entry)) (now (input .entry)) (now (output .entry)) (now (bytes .entry)) ⌝ }
 {
     let mut program = host.program;
     let terms = program.terms;
@@ -50,6 +50,7 @@ fn accept(
     area::copy_between(bytes, 0, input, came as usize, bytes.len());
     let k = came + bytes.len() as u64;
     let progress = turns::run(
+        host.sector,
         host.disk,
         host.stage,
         places,
@@ -82,12 +83,12 @@ pub fn piece(
     bytes: &[u8],
 ) -> Answer
     ensures { λ r. ⌜ pieceLeaves r (now (stage .exit)) (now (input .exit)) (now (output .exit)) ≡
-        Says.piece 4096 (now (disk .entry)) host (now (stage .entry)) (now (input .entry)) (now (output .entry)) (now (bytes .entry)) ⌝ }
+        Says.piece (now (disk .entry)) host (now (stage .entry)) (now (input .entry)) (now (output .entry)) (now (bytes .entry)) ⌝ }
 {
     if !order::in_order(host) {
         return opening::refused(1, host);
     }
-    if !turns::areas_right(host.disk, host.stage, disk, &*stage) {
+    if !turns::areas_right(host.sector, host.disk, host.stage, disk, &*stage) {
         return opening::refused(2, host);
     }
     let program = host.program;

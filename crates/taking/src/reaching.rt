@@ -20,7 +20,7 @@ fn unreached(number: u64) -> Reached
 // The pair that an agreement would name; after a failure the starting pair.
 fn reach<'a>(host: Host, disk: &'a [u8], stage: &'a [u8]) -> Reached
     requires { ⌜ Ready (now disk) host (now stage) ⌝ }
-    ensures { λ r. ⌜ r ≡ reachedAt 0 (reachedPair 4096 (now (disk .entry)) host (now (stage .entry))) ⌝ }
+    ensures { λ r. ⌜ r ≡ reachedAt 0 (reachedPair (now (disk .entry)) host (now (stage .entry))) ⌝ }
 {
     let program = host.program;
     let progress = program.progress;
@@ -44,12 +44,12 @@ fn reach<'a>(host: Host, disk: &'a [u8], stage: &'a [u8]) -> Reached
 
 // The size and root that the program has reached: 1, 2, 4. It changes nothing.
 pub fn reached<'a>(host: Host, disk: &'a [u8], stage: &'a [u8]) -> Reached
-    ensures { λ r. ⌜ r ≡ Says.reached 4096 (now (disk .entry)) host (now (stage .entry)) ⌝ }
+    ensures { λ r. ⌜ r ≡ Says.reached (now (disk .entry)) host (now (stage .entry)) ⌝ }
 {
     if !order::in_order(host) {
         return unreached(1);
     }
-    if !turns::areas_right(host.disk, host.stage, disk, stage) {
+    if !turns::areas_right(host.sector, host.disk, host.stage, disk, stage) {
         return unreached(2);
     }
     let program = host.program;

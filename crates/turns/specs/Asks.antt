@@ -1,4 +1,4 @@
--- What functions ask of their callers. Assumes nothing.
+-- What functions ask of their callers. z is the sector size. Assumes nothing.
 use mathlib.Core.Path.{_≡_}
 use mathlib.Core.Bool.{Bool, true}
 use mathlib.Core.List.{List}
@@ -18,16 +18,16 @@ use Rattle.host.specs.declared.Host.{Host}
 
 -- a host in order with an open program, and its areas as stated
 pub record Ready (disk : List ℕ) (h : Host) (stage : List ℕ) : Type 0 where
-  pub order : inOrder 4096 h ≡ true
-  pub areas : areasRight 4096 h disk stage ≡ true
+  pub order : inOrder h ≡ true
+  pub areas : areasRight h disk stage ≡ true
   pub live : h .program .active ≡ true
 
 -- a program in order and its areas as stated: what instructions in turn ask
-pub record Runs (s : Setting) (t : Turn) (a : List ℕ) : Type 0 where
-  pub solid : Solid 4096 s
-  pub good : Good 4096 s (t .progress)
+pub record Runs (z : ℕ) (s : Setting) (t : Turn) (a : List ℕ) : Type 0 where
+  pub solid : Solid z s
+  pub good : Good z s (t .progress)
   pub input : length a ≡ s .terms .head .length
-  pub stage : length (t .stage) ≡ s .copies * 4096
+  pub stage : length (t .stage) ≡ s .copies * z
   pub output : length (t .output) ≡ s .terms .room
 
 -- rules' `ready`, of terms and progress alone

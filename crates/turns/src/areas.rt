@@ -5,26 +5,29 @@ ghost use Prim.Native.Nat.{_*_, _≤_};
 ghost use lib.ListN.{length};
 ghost use lib.Dec.{eqb};
 ghost use Rattle.area.specs.Pick.{both};
-use host::Host;
+ghost use Rattle.area.specs.Slots.{Size};
 
-// Whether an area is so many sectors.
-pub fn lent(sectors: u64, area: &[u8]) -> bool
+// Whether an area is so many sectors of z bytes.
+pub fn lent(z: u64, sectors: u64, area: &[u8]) -> bool
+    requires { ⌜ Size z ⌝ }
     requires { ⌜ sectors ≤ 64 ⌝ }
-    ensures { λ r. ⌜ r ≡ eqb (length (now (area .entry))) (sectors * 4096) ⌝ }
+    ensures { λ r. ⌜ r ≡ eqb (length (now (area .entry))) (sectors * z) ⌝ }
 {
-    area.len() == (sectors * Host::SECTOR) as usize
+    let bytes = sectors * z;
+    area.len() == bytes as usize
 }
 
 // Whether disk and stage are.
-pub fn areas_right(sectors: u64, copies: u64, disk: &[u8], stage: &[u8]) -> bool
+pub fn areas_right(z: u64, sectors: u64, copies: u64, disk: &[u8], stage: &[u8]) -> bool
+    requires { ⌜ Size z ⌝ }
     requires { ⌜ sectors ≤ 64 ⌝ }
     requires { ⌜ copies ≤ 64 ⌝ }
-    ensures { λ r. ⌜ r ≡ both (eqb (length (now (disk .entry))) (sectors * 4096)) (eqb (length (now (stage .entry))) (copies * 4096)) ⌝ }
+    ensures { λ r. ⌜ r ≡ both (eqb (length (now (disk .entry))) (sectors * z)) (eqb (length (now (stage .entry))) (copies * z)) ⌝ }
 {
-    if !lent(sectors, disk) {
+    if !lent(z, sectors, disk) {
         return false;
     }
-    lent(copies, stage)
+    lent(z, copies, stage)
 }
 
 // Whether a program is open and an area is not as long as it states.

@@ -24,12 +24,12 @@ pub fn parent(host: Host) -> Place
 
 // What the program started from; 0 and zeros in read-only mode.
 pub fn starting_pair(host: Host, disk: &[u8]) -> Pair
-    requires { ⌜ inOrder 4096 host ≡ true ⌝ }
-    requires { ⌜ diskRight 4096 host (now disk) ≡ true ⌝ }
-    ensures { λ r. ⌜ r ≡ Says.startingPair 4096 (settingOf host (now (disk .entry))) ⌝ }
+    requires { ⌜ inOrder host ≡ true ⌝ }
+    requires { ⌜ diskRight host (now disk) ≡ true ⌝ }
+    ensures { λ r. ⌜ r ≡ Says.startingPair (host .sector) (settingOf host (now (disk .entry))) ⌝ }
 {
     let parent = parent(host);
-    let root = step::committed_root(disk, parent);
+    let root = step::committed_root(host.sector, disk, parent);
     Pair {
         size: parent.size,
         root,
@@ -39,12 +39,12 @@ pub fn starting_pair(host: Host, disk: &[u8]) -> Pair
 // What it has reached.
 pub fn running_pair<'a>(host: Host, disk: &'a [u8], stage: &'a [u8]) -> Pair
     requires { ⌜ Ready (now disk) host (now stage) ⌝ }
-    ensures { λ r. ⌜ r ≡ Says.runningPair 4096 (settingOf host (now (disk .entry))) (host .program .progress) (now (stage .entry)) ⌝ }
+    ensures { λ r. ⌜ r ≡ Says.runningPair (host .sector) (settingOf host (now (disk .entry))) (host .program .progress) (now (stage .entry)) ⌝ }
 {
     let program = host.program;
     let progress = program.progress;
     let parent = parent(host);
-    let root = step::running_root(disk, stage, parent, progress);
+    let root = step::running_root(host.sector, disk, stage, parent, progress);
     Pair {
         size: progress.size,
         root,

@@ -27,6 +27,7 @@ fn ready(terms: Terms, k: u64, progress: Progress) -> bool
 
 // At most as many as the head has.
 pub fn run(
+    z: u64,
     sectors: u64,
     copies: u64,
     places: [Place; 8],
@@ -38,13 +39,14 @@ pub fn run(
     stage: &mut [u8],
     output: &mut [u8],
 ) -> Progress
-    requires { ⌜ Runs (setting sectors copies places terms (now disk)) (turn start (now stage) (now output)) (now input) ⌝ }
+    requires { ⌜ Runs z (setting sectors copies places terms (now disk)) (turn start (now stage) (now output)) (now input) ⌝ }
     ensures { λ r. ⌜ turn r (now (stage .exit)) (now (output .exit)) ≡
-        Says.run 4096 (setting sectors copies places terms (now (disk .entry))) (now (input .entry)) k (turn start (now (stage .entry)) (now (output .entry))) ⌝ }
+        Says.run z (setting sectors copies places terms (now (disk .entry))) (now (input .entry)) k (turn start (now (stage .entry)) (now (output .entry))) ⌝ }
 {
     let mut progress = start;
     while ready(terms, k, progress) {
         progress = step::step(
+            z,
             sectors,
             copies,
             places,

@@ -38,9 +38,9 @@ formed-at-free id (p ∷ ps) e =
     ∙ ap suc (sym (picks true (free ps) (suc (free ps)) refl))
     ∙ ap (λ (l : List Place). suc (free l)) (sym (skips (p .held) (p ∷ formedAt id ps) (newPlace id ∷ ps) u)))
 
-formed-free : (z : ℕ) (h : Host) (id : List ℕ) → formed z h id .number ≡ 0 → free (h .places) ≡ suc (free (formed z h id .host .places))
+formed-free : (h : Host) (id : List ℕ) → formed h id .number ≡ 0 → free (h .places) ≡ suc (free (formed h id .host .places))
 unfolding formed withPlaces
-formed-free z h id a =
+formed-free h id a =
     let c1 = passes (λ r. r .number) _ (answered 1 h) _ (λ n. absurd (omega arith)) a in
     let c3 = passes (λ r. r .number) _ (answered 3 h) _ (λ n. absurd (omega arith)) (c1 .1) in
     let c5 = passes (λ r. r .number) _ (answered 5 h) _ (λ n. absurd (omega arith)) (c3 .1) in
@@ -51,25 +51,25 @@ formed-free z h id a =
     ∙ ap (λ (r : Answer). suc (free (r .host .places))) (sym (c1 .2 ∙ c3 .2 ∙ c5 .2 ∙ c15 .2 ∙ c6 .2 ∙ c8 .2))
 
 -- with k places free, the first k + 1 ids are enough
-pub first-ids : (z k : ℕ) (h : Host) (ids : List (List ℕ)) → free (h .places) ≤ k → formedInTurn z h ids ≡ formedInTurn z h (take (suc k) ids)
+pub first-ids : (k : ℕ) (h : Host) (ids : List (List ℕ)) → free (h .places) ≤ k → formedInTurn h ids ≡ formedInTurn h (take (suc k) ids)
 unfolding formedInTurn
-first-ids z k h [] f = refl
-first-ids z zero h (id ∷ ids) f =
-    by (eqb (formed z h id .number) 0)
-    (λ e. absurd (omega (arith, formed-free z h id (eqb-true _ 0 e))))
+first-ids k h [] f = refl
+first-ids zero h (id ∷ ids) f =
+    by (eqb (formed h id .number) 0)
+    (λ e. absurd (omega (arith, formed-free h id (eqb-true _ 0 e))))
     (λ e. picks _ _ _ (ap not e) ∙ sym (picks _ _ _ (ap not e)))
-first-ids z (suc k) h (id ∷ ids) f =
-    by (eqb (formed z h id .number) 0)
-    (λ e. skips _ _ _ (ap not e) ∙ first-ids z k (formed z h id .host) ids (omega (arith, formed-free z h id (eqb-true _ 0 e))) ∙ sym (skips _ _ _ (ap not e)))
+first-ids (suc k) h (id ∷ ids) f =
+    by (eqb (formed h id .number) 0)
+    (λ e. skips _ _ _ (ap not e) ∙ first-ids k (formed h id .host) ids (omega (arith, formed-free h id (eqb-true _ 0 e))) ∙ sym (skips _ _ _ (ap not e)))
     (λ e. picks _ _ _ (ap not e) ∙ sym (picks _ _ _ (ap not e)))
 
 -- "A fresh host holds no contract", and "At most 8 contracts"
-bare-free : (d s : ℕ) → free (bare d s .places) ≤ 8
+bare-free : (z d s : ℕ) → free (bare z d s .places) ≤ 8
 unfolding free bare noPlace pick
-bare-free d s = omega arith
+bare-free z d s = omega arith
 
 pub fresh-free : (z d s : ℕ) → free (freshed z d s .host .places) ≤ 8
 unfolding freshed
 fresh-free z d s =
-    either-way (λ (r : Answer). free (r .host .places) ≤ 8) _ _ _ (λ _. bare-free 0 0)
-    (λ _. either-way (λ (r : Answer). free (r .host .places) ≤ 8) _ _ _ (λ _. bare-free 0 0) (λ _. bare-free _ _))
+    let way = either-way (λ (r : Answer). free (r .host .places) ≤ 8) in
+    way _ _ _ (λ _. bare-free 0 0 0) (λ _. way _ _ _ (λ _. bare-free 0 0 0) (λ _. way _ _ _ (λ _. bare-free 0 0 0) (λ _. bare-free _ _ _)))

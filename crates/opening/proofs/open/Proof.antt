@@ -67,7 +67,7 @@ returns-4 c =
     (no _ _ _ (c .before .before .before .before .if3 .left)
     (yes _ _ _ (ap not (ne-eqb _ 0 (c .before .if4 .taken)))
     (c .refused4 .ensures)))))
-    ∙ ap (λ (t : Told). openedHead 4096 (a .host) (t .number) (t .head) (a .budget) (a .prices) (a .room)) (c .before .before .before .read-head .ensures)
+    ∙ ap (λ (t : Told). openedHead (a .host) (t .number) (t .head) (a .budget) (a .prices) (a .room)) (c .before .before .before .read-head .ensures)
 
 absent-requires : tie.Need-absent-requires
 absent-requires c κs = search needs
@@ -85,7 +85,7 @@ returns-5 c =
     (no _ _ _ (ap not (eq-eqb _ 0 (c .before .before .before .before .before .before .if4 .left)))
     (yes _ _ _ (sym (c .before .before .absent .ensures) ∙ c .before .if5 .taken)
     (c .refused5 .ensures))))))
-    ∙ ap (λ (t : Told). openedHead 4096 (a .host) (t .number) (t .head) (a .budget) (a .prices) (a .room)) (c .before .before .before .before .before .before .before .before .read-head .ensures)
+    ∙ ap (λ (t : Told). openedHead (a .host) (t .number) (t .head) (a .budget) (a .prices) (a .room)) (c .before .before .before .before .before .before .before .before .read-head .ensures)
 
 wide-requires : tie.Need-wide-requires
 wide-requires c κs = search needs
@@ -104,7 +104,7 @@ returns-6 c =
     (no _ _ _ (sym (c .before .before .before .before .absent .ensures) ∙ c .before .before .before .if5 .left)
     (yes _ _ _ (lt-ltb (a .budget) (a .prices .init) (omega (arith, c .before .before .wide .ensures, c .before .if6 .taken)))
     (c .refused6 .ensures)))))))
-    ∙ ap (λ (t : Told). openedHead 4096 (a .host) (t .number) (t .head) (a .budget) (a .prices) (a .room)) (c .before .before .before .before .before .before .before .before .before .before .read-head .ensures)
+    ∙ ap (λ (t : Told). openedHead (a .host) (t .number) (t .head) (a .budget) (a .prices) (a .room)) (c .before .before .before .before .before .before .before .before .before .before .read-head .ensures)
 
 begin-requires : tie.Need-begin-requires
 begin-requires c κs = search needs
@@ -120,7 +120,7 @@ returns-7 c =
     (no _ _ _ (sym (c .before .before .before .before .absent .ensures) ∙ c .before .before .before .if5 .left)
     (no _ _ _ (le-ltb (a .budget) (a .prices .init) (omega (arith, c .before .before .wide .ensures, c .before .if6 .left)))
     (ap₂ (λ (n : ℕ) (g : Program). answered 0 n (withProgram (c .before .before .before .before .before .before .before .before .before .before .before .before .before .before .before .before .before .before .args .host) g)) (c .before .before .wide .ensures) (c .begin .ensures))))))))
-    ∙ ap (λ (t : Told). openedHead 4096 (a .host) (t .number) (t .head) (a .budget) (a .prices) (a .room)) (c .before .before .before .before .before .before .before .before .before .before .read-head .ensures)
+    ∙ ap (λ (t : Told). openedHead (a .host) (t .number) (t .head) (a .budget) (a .prices) (a .room)) (c .before .before .before .before .before .before .before .before .before .before .read-head .ensures)
 
 pub open-spec : {M : Type 1} → statement M
 open-spec =

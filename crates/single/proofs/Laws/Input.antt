@@ -120,16 +120,16 @@ module _ (all : List ℕ) where
 
 -- ---- 9, or what the input asks for
 
-module _ (all disk stage input output : List ℕ) where
-  pub answered-nine : {f : Answer} {o : Outcome} → wrong all ≡ true → f ≡ freshed 4096 (length disk) (length stage) → o ≡ without 9 (f .host)
-      → leaves o disk stage input output ≡ answered 4096 all disk stage input output
+module _ (z : ℕ) (all disk stage input output : List ℕ) where
+  pub answered-nine : {f : Answer} {o : Outcome} → wrong all ≡ true → f ≡ freshed z (length disk) (length stage) → o ≡ without 9 (f .host)
+      → leaves o disk stage input output ≡ answered z all disk stage input output
   unfolding answered
   answered-nine w e q =
       yes _ _ _ w
       (ap (λ (x : Outcome). leaves x disk stage input output) q ∙ ap (λ (x : Answer). ran 9 0 (x .host) disk stage input output) e)
 
   pub answered-run : {prices : Prices} {budget : ℕ} {ids head bytes : List ℕ} {x : Ran} → wrong all ≡ false → prices ≡ pricesIn all → budget ≡ budgetIn all
-      → ids ≡ idsBytes all → head ≡ headBytes all → bytes ≡ dataBytes all → x ≡ run 4096 prices budget ids head bytes disk stage input output
-      → x ≡ answered 4096 all disk stage input output
+      → ids ≡ idsBytes all → head ≡ headBytes all → bytes ≡ dataBytes all → x ≡ run z prices budget ids head bytes disk stage input output
+      → x ≡ answered z all disk stage input output
   unfolding answered
-  answered-run w p b d h t q = no _ _ _ w (q ∙ (λ i. run 4096 (p i) (b i) (d i) (h i) (t i) disk stage input output))
+  answered-run w p b d h t q = no _ _ _ w (q ∙ (λ i. run z (p i) (b i) (d i) (h i) (t i) disk stage input output))

@@ -39,10 +39,10 @@ module _ {A : Type 0} (number : A → ℕ) where
 
 -- ---- the close, with the pair reached
 
-pub ended-is : (disk : List ℕ) (h : Host) (stage : List ℕ) {pair : Reached} {x : Closed} → pair ≡ reached 4096 disk h stage
-    → x ≡ close 4096 disk h stage (not (h .program .progress .failed)) (pair .size) (pair .root) → x ≡ ended 4096 disk h stage
+pub ended-is : (disk : List ℕ) (h : Host) (stage : List ℕ) {pair : Reached} {x : Closed} → pair ≡ reached disk h stage
+    → x ≡ close disk h stage (not (h .program .progress .failed)) (pair .size) (pair .root) → x ≡ ended disk h stage
 unfolding ended
-ended-is disk h stage e q = q ∙ ap (λ (p : Reached). close 4096 disk h stage (not (h .program .progress .failed)) (p .size) (p .root)) e
+ended-is disk h stage e q = q ∙ ap (λ (p : Reached). close disk h stage (not (h .program .progress .failed)) (p .size) (p .root)) e
 
 -- ---- the piece, with the front part of the input area, and the close
 
@@ -56,56 +56,56 @@ rest-is d n input e = by (leb d (length input))
     (λ u. drop-of-length-le input {i = n - 0} (omega (arith, leb-false d (length input) u)) ∙ sym (drop-of-length-le input {i = d} (omega (arith, leb-false d (length input) u))))
 
 module _ (h : Host) (bytes disk stage input output : List ℕ) {r : Answer} {st inp out lent rest : List ℕ} (l : lent ≡ take (h .program .terms .head .length) input)
-    (p : pieceLeaves r st inp out ≡ piece 4096 disk h stage lent output bytes) (b : rest ≡ drop (h .program .terms .head .length) input) where
-  pub given-refused : {o : Outcome} → o ≡ without (r .number) (r .host) → (r .number ≡ 0 → ⊥) → leaves o disk st (inp ++ rest) out ≡ given 4096 h bytes disk stage input output
+    (p : pieceLeaves r st inp out ≡ piece disk h stage lent output bytes) (b : rest ≡ drop (h .program .terms .head .length) input) where
+  pub given-refused : {o : Outcome} → o ≡ without (r .number) (r .host) → (r .number ≡ 0 → ⊥) → leaves o disk st (inp ++ rest) out ≡ given h bytes disk stage input output
   unfolding given
   given-refused q w =
       ap₂ (λ (x : Outcome) (y : List ℕ). leaves x disk st (inp ++ y) out) q b
       ∙ halts (λ (x : Pieced). x .number) (λ (x : Pieced). ran (x .number) 0 (x .host) disk (x .stage) (x .input ++ drop (h .program .terms .head .length) input) (x .output)) _
-      (p ∙ ap (λ (x : List ℕ). piece 4096 disk h stage x output bytes) l) w
+      (p ∙ ap (λ (x : List ℕ). piece disk h stage x output bytes) l) w
 
-  pub given-closed : {c : Closing} {left : List ℕ} {n : ℕ} → r .number ≡ 0 → closeLeaves c left ≡ ended 4096 disk (r .host) st → n ≡ shown (c .number) (r .host .program .progress .written)
-      → ran (c .number) n (c .host) left st (inp ++ rest) out ≡ given 4096 h bytes disk stage input output
+  pub given-closed : {c : Closing} {left : List ℕ} {n : ℕ} → r .number ≡ 0 → closeLeaves c left ≡ ended disk (r .host) st → n ≡ shown (c .number) (r .host .program .progress .written)
+      → ran (c .number) n (c .host) left st (inp ++ rest) out ≡ given h bytes disk stage input output
   unfolding given
   given-closed {c} {left} {n} w e q =
       goes (λ (x : Pieced). x .number) _
-      (λ (x : Pieced). let d = ended 4096 disk (x .host) (x .stage) in
+      (λ (x : Pieced). let d = ended disk (x .host) (x .stage) in
       ran (d .number) (shown (d .number) (x .host .program .progress .written)) (d .host) (d .disk) (x .stage) (x .input ++ drop (h .program .terms .head .length) input) (x .output))
-      (p ∙ ap (λ (x : List ℕ). piece 4096 disk h stage x output bytes) l) w
+      (p ∙ ap (λ (x : List ℕ). piece disk h stage x output bytes) l) w
       (ap₂ (λ (x : List ℕ) (m : ℕ). ran (c .number) m (c .host) left st (inp ++ x) out) b q
       ∙ ap (λ (d : Closed). ran (d .number) (shown (d .number) (r .host .program .progress .written)) (d .host) (d .disk) st (inp ++ drop (h .program .terms .head .length) input) out) e)
 
 -- ---- opening
 
-module _ (h : Host) (prices : Prices) (budget : ℕ) (head bytes disk stage input output : List ℕ) {r : Answer} (e : r ≡ opened 4096 h head budget prices (length output)) where
-  pub begun-refused : {o : Outcome} → o ≡ without (r .number) (r .host) → (r .number ≡ 0 → ⊥) → leaves o disk stage input output ≡ begun 4096 h prices budget head bytes disk stage input output
+module _ (h : Host) (prices : Prices) (budget : ℕ) (head bytes disk stage input output : List ℕ) {r : Answer} (e : r ≡ opened h head budget prices (length output)) where
+  pub begun-refused : {o : Outcome} → o ≡ without (r .number) (r .host) → (r .number ≡ 0 → ⊥) → leaves o disk stage input output ≡ begun h prices budget head bytes disk stage input output
   unfolding begun
   begun-refused t w = ap (λ (x : Outcome). leaves x disk stage input output) t ∙ halts (λ (x : Answer). x .number) (λ (x : Answer). ran (x .number) 0 (x .host) disk stage input output) _ e w
 
-  pub begun-goes : {x : Ran} → r .number ≡ 0 → x ≡ given 4096 (r .host) bytes disk stage input output → x ≡ begun 4096 h prices budget head bytes disk stage input output
+  pub begun-goes : {x : Ran} → r .number ≡ 0 → x ≡ given (r .host) bytes disk stage input output → x ≡ begun h prices budget head bytes disk stage input output
   unfolding begun
-  begun-goes w q = goes (λ (x : Answer). x .number) _ (λ (x : Answer). given 4096 (x .host) bytes disk stage input output) e w q
+  begun-goes w q = goes (λ (x : Answer). x .number) _ (λ (x : Answer). given (x .host) bytes disk stage input output) e w q
 
 -- ---- a fresh host, and its contracts
 
-module _ (prices : Prices) (budget : ℕ) (ids head bytes disk stage input output : List ℕ) {f : Made.Answer} (e : f ≡ freshed 4096 (length disk) (length stage)) where
-  pub run-unmade : {o : Outcome} → o ≡ without (f .number) (f .host) → (f .number ≡ 0 → ⊥) → leaves o disk stage input output ≡ run 4096 prices budget ids head bytes disk stage input output
+module _ (z : ℕ) (prices : Prices) (budget : ℕ) (ids head bytes disk stage input output : List ℕ) {f : Made.Answer} (e : f ≡ freshed z (length disk) (length stage)) where
+  pub run-unmade : {o : Outcome} → o ≡ without (f .number) (f .host) → (f .number ≡ 0 → ⊥) → leaves o disk stage input output ≡ run z prices budget ids head bytes disk stage input output
   unfolding run
   run-unmade t w = ap (λ (x : Outcome). leaves x disk stage input output) t ∙ halts (λ (x : Made.Answer). x .number) (λ (x : Made.Answer). ran (x .number) 0 (x .host) disk stage input output) _ e w
 
-  module _ {r : Made.Answer} (g : f .number ≡ 0) (q : r ≡ formedInTurn 4096 (f .host) (idsIn ids)) where
-    formed-on : r ≡ formedInTurn 4096 (freshed 4096 (length disk) (length stage) .host) (idsIn ids)
-    formed-on = q ∙ ap (λ (x : Made.Answer). formedInTurn 4096 (x .host) (idsIn ids)) e
+  module _ {r : Made.Answer} (g : f .number ≡ 0) (q : r ≡ formedInTurn (f .host) (idsIn ids)) where
+    formed-on : r ≡ formedInTurn (freshed z (length disk) (length stage) .host) (idsIn ids)
+    formed-on = q ∙ ap (λ (x : Made.Answer). formedInTurn (x .host) (idsIn ids)) e
 
-    pub run-unformed : {o : Outcome} → o ≡ without (r .number) (r .host) → (r .number ≡ 0 → ⊥) → leaves o disk stage input output ≡ run 4096 prices budget ids head bytes disk stage input output
+    pub run-unformed : {o : Outcome} → o ≡ without (r .number) (r .host) → (r .number ≡ 0 → ⊥) → leaves o disk stage input output ≡ run z prices budget ids head bytes disk stage input output
     unfolding run
     run-unformed t w =
         ap (λ (x : Outcome). leaves x disk stage input output) t
         ∙ no _ _ _ (ap not (eq-eqb _ 0 (sym (ap (λ (x : Made.Answer). x .number) e) ∙ g)))
         (halts (λ (x : Made.Answer). x .number) (λ (x : Made.Answer). ran (x .number) 0 (x .host) disk stage input output) _ formed-on w)
 
-    pub run-goes : {x : Ran} → r .number ≡ 0 → x ≡ begun 4096 (r .host) prices budget head bytes disk stage input output → x ≡ run 4096 prices budget ids head bytes disk stage input output
+    pub run-goes : {x : Ran} → r .number ≡ 0 → x ≡ begun (r .host) prices budget head bytes disk stage input output → x ≡ run z prices budget ids head bytes disk stage input output
     unfolding run
     run-goes w s =
         no _ _ _ (ap not (eq-eqb _ 0 (sym (ap (λ (x : Made.Answer). x .number) e) ∙ g)))
-        (goes (λ (x : Made.Answer). x .number) _ (λ (x : Made.Answer). begun 4096 (x .host) prices budget head bytes disk stage input output) formed-on w s)
+        (goes (λ (x : Made.Answer). x .number) _ (λ (x : Made.Answer). begun (x .host) prices budget head bytes disk stage input output) formed-on w s)

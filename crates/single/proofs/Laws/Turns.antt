@@ -15,20 +15,20 @@ use Rattle.host.specs.declared.Answer.{Answer}
 
 module _ (f : ℕ → List ℕ) (h : Host) (i n : ℕ) where
   -- the first refusal ends them
-  pub turn-refused : {r : Answer} → i < n → r ≡ formed 4096 h (f i) → (r .number ≡ 0 → ⊥) → r ≡ formedInTurn 4096 h (tab i (n - i) f)
+  pub turn-refused : {r : Answer} → i < n → r ≡ formed h (f i) → (r .number ≡ 0 → ⊥) → r ≡ formedInTurn h (tab i (n - i) f)
   unfolding formedInTurn tab
   turn-refused l e w =
       let k : n - i ≡ suc (n - (i + 1)) = omega arith in
       rw k (yes _ _ _ (ap not (ne-eqb _ 0 (λ q. w (ap (λ (a : Answer). a .number) e ∙ q)))) e)
 
   -- a contract that is formed leaves the others
-  pub turn-formed : {r : Answer} → i < n → r ≡ formed 4096 h (f i) → r .number ≡ 0
-      → formedInTurn 4096 h (tab i (n - i) f) ≡ formedInTurn 4096 (r .host) (tab (i + 1) (n - (i + 1)) f)
+  pub turn-formed : {r : Answer} → i < n → r ≡ formed h (f i) → r .number ≡ 0
+      → formedInTurn h (tab i (n - i) f) ≡ formedInTurn (r .host) (tab (i + 1) (n - (i + 1)) f)
   unfolding formedInTurn tab
   turn-formed {r} l e w =
       let k : n - i ≡ suc (n - (i + 1)) = omega arith in
-      rw (k, add-one i) (sym (no _ _ _ (ap not (eq-eqb _ 0 (sym (ap (λ (a : Answer). a .number) e) ∙ w))) (ap (λ (a : Answer). formedInTurn 4096 (a .host) (tab (suc i) (n - suc i) f)) e)))
+      rw (k, add-one i) (sym (no _ _ _ (ap not (eq-eqb _ 0 (sym (ap (λ (a : Answer). a .number) e) ∙ w))) (ap (λ (a : Answer). formedInTurn (a .host) (tab (suc i) (n - suc i) f)) e)))
 
-  pub turn-none : n ≤ i → answered 0 h ≡ formedInTurn 4096 h (tab i (n - i) f)
+  pub turn-none : n ≤ i → answered 0 h ≡ formedInTurn h (tab i (n - i) f)
   unfolding formedInTurn tab
   turn-none l = let k : n - i ≡ 0 = omega arith in rw k

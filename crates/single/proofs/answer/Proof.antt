@@ -17,7 +17,7 @@ refused-requires : tie.Need-refused-requires
 refused-requires c κs = search needs
 
 returns : tie.Need-returns
-returns c = answered-nine _ _ _ _ _ (sym (c .before .before .before .before .wrong .ensures) ∙ c .before .before .before .if1 .taken) (c .before .before .fresh .ensures) (c .refused .ensures)
+returns c = answered-nine _ _ _ _ _ _ (sym (c .before .before .before .before .wrong .ensures) ∙ c .before .before .before .if1 .taken) (c .before .before .fresh .ensures) (c .refused .ensures)
 
 prices-requires : tie.Need-prices-requires
 prices-requires c κs = (sym (c .before .wrong .ensures) ∙ c .if1 .left)
@@ -80,7 +80,7 @@ returns-2 : tie.Need-returns-2
 unfolding numberAt
 returns-2 c =
     let all = c .before .before .before .before .before .before .before .before .before .before .before .before .before .before .before .before .before .before .before .before .before .before .before .before .before .before .before .args .all .now in
-    answered-run all _ _ _ _ (sym (c .before .before .before .before .before .before .before .before .before .before .before .before .before .before .before .before .before .before .before .before .before .wrong .ensures) ∙ c .before .before .before .before .before .before .before .before .before .before .before .before .before .before .before .before .before .before .before .before .if1 .left) (c .before .before .before .before .before .before .before .before .before .before .before .before .before .before .before .before .before .before .before .prices .ensures) (c .before .before .before .before .before .before .before .before .before .before .before .before .before .before .before .before .before .before .load .ensures) (ids-is all (c .before .before .before .before .before .before .before .before .before .before .before .before .before .before .before .before .before .ids-end .ensures))
+    answered-run _ all _ _ _ _ (sym (c .before .before .before .before .before .before .before .before .before .before .before .before .before .before .before .before .before .before .before .before .before .wrong .ensures) ∙ c .before .before .before .before .before .before .before .before .before .before .before .before .before .before .before .before .before .before .before .before .if1 .left) (c .before .before .before .before .before .before .before .before .before .before .before .before .before .before .before .before .before .before .before .prices .ensures) (c .before .before .before .before .before .before .before .before .before .before .before .before .before .before .before .before .before .before .load .ensures) (ids-is all (c .before .before .before .before .before .before .before .before .before .before .before .before .before .before .before .before .before .ids-end .ensures))
     (head-is all (c .before .before .before .before .before .before .before .before .before .before .before .before .before .before .before .before .before .ids-end .ensures) (c .before .before .before .before .before .before .before .before .before .before .before .before .before .before .before .before .head-end .ensures)) (data-is all (c .before .before .before .before .before .before .before .before .before .before .before .before .before .before .before .before .head-end .ensures)) (c .before .before .before .before .before .before .before .before .run .ensures)
 
 pub answer-spec : {M : Type 1} → statement M

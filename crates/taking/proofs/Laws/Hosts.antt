@@ -28,7 +28,7 @@ right-if active right a e = not-false _ (sym (picks active (not right) false a) 
 pub room-left : {disk : List ℕ} {output : List ℕ} (h : Host) → Stops disk h output → h .program .progress .written + 72 ≤ length output
 unfolding outputRight going
 room-left {disk} {output} h s =
-    let f = order-facts 4096 h (s .order) .running (s .live) .progress in
+    let f = order-facts h (s .order) .running (s .live) .progress in
     let failed : h .program .progress .failed ≡ false = not-true _ (both-left _ _ (s .going)) in
     let long : length output ≡ h .program .terms .room = eqb-true _ _ (s .output) in
     omega (arith, f .fits, skips {A = ℕ} (h .program .progress .failed) 0 72 failed)
@@ -55,16 +55,16 @@ input-long h input e = eqb-true _ _ e
 
 -- a piece, from what its functions left
 pub accepted-is : (disk : List ℕ) (h : Host) (stage input output bytes : List ℕ) {area : List ℕ} {g : Progress} {st out : List ℕ} {k : ℕ} → area ≡ put input (h .program .came) bytes
-    → k ≡ h .program .came + length bytes → turn g st out ≡ run 4096 (settingOf h disk) area k (turnOf h stage output)
-    → pieced 0 (g .tally) (withRun h k g) st area out ≡ accepted 4096 disk h stage input output bytes
+    → k ≡ h .program .came + length bytes → turn g st out ≡ run (h .sector) (settingOf h disk) area k (turnOf h stage output)
+    → pieced 0 (g .tally) (withRun h k g) st area out ≡ accepted disk h stage input output bytes
 unfolding accepted
 accepted-is disk h stage input output bytes {area} {g} {st} {out} {k} a e t =
     ap (λ (x : Turn). pieced 0 (x .progress .tally) (withRun h k (x .progress)) (x .stage) area (x .output)) t
-    ∙ ap₂ (λ (n : ℕ) (l : List ℕ). let x = run 4096 (settingOf h disk) l n (turnOf h stage output) in pieced 0 (x .progress .tally) (withRun h n (x .progress)) (x .stage) l (x .output)) e a
+    ∙ ap₂ (λ (n : ℕ) (l : List ℕ). let x = run (h .sector) (settingOf h disk) l n (turnOf h stage output) in pieced 0 (x .progress .tally) (withRun h n (x .progress)) (x .stage) l (x .output)) e a
 
-pub declared-most : (h : Host) → inOrder 4096 h ≡ true → h .program .active ≡ true → h .program .terms .head .length ≤ 65536
+pub declared-most : (h : Host) → inOrder h ≡ true → h .program .active ≡ true → h .program .terms .head .length ≤ 65536
 unfolding within
-declared-most h o live = leb-true _ _ (both-left _ _ (both-right _ _ (order-facts 4096 h o .running live .terms .head)))
+declared-most h o live = leb-true _ _ (both-left _ _ (both-right _ _ (order-facts h o .running live .terms .head)))
 
-pub came-within : (h : Host) → inOrder 4096 h ≡ true → h .program .active ≡ true → h .program .came ≤ h .program .terms .head .length
-came-within h o live = order-facts 4096 h o .running live .came
+pub came-within : (h : Host) → inOrder h ≡ true → h .program .active ≡ true → h .program .came ≤ h .program .terms .head .length
+came-within h o live = order-facts h o .running live .came

@@ -21,45 +21,45 @@ pub ready-with : (s : Setting) (k : ℕ) (t : Turn) → readyWith (s .terms) k (
 unfolding readyWith ready current
 ready-with s k t = refl
 
-pub few-instructions : (s : Setting) (t : Turn) (a : List ℕ) → Runs s t a → s .terms .head .count ≤ 32
+pub few-instructions : (z : ℕ) (s : Setting) (t : Turn) (a : List ℕ) → Runs z s t a → s .terms .head .count ≤ 32
 unfolding termsInOrder within
-few-instructions s t a r = leb-true _ _ (both-left _ _ (both-left _ _ (both-right _ _ (r .good .terms))))
+few-instructions z s t a r = leb-true _ _ (both-left _ _ (both-left _ _ (both-right _ _ (r .good .terms))))
 
-module _ (s : Setting) (a : List ℕ) (k : ℕ) where
+module _ (z : ℕ) (s : Setting) (a : List ℕ) (k : ℕ) where
   -- a turn that is ready is the run's first
-  turns : (n : ℕ) (t : Turn) → left s t ≤ n → ready s k t ≡ true → runs 4096 s a k n t ≡ runs 4096 s a k n (step 4096 s a t)
+  turns : (n : ℕ) (t : Turn) → left s t ≤ n → ready s k t ≡ true → runs z s a k n t ≡ runs z s a k n (step z s a t)
   turns zero t h r = never (sym r ∙ none-left s k t (omega arith))
   turns (suc n) t h r =
-      let d = step-left 4096 s a k t r in
-      runs-go 4096 s a k n t r ∙ sym (runs-enough 4096 s a k n (step 4096 s a t) (omega arith))
+      let d = step-left z s a k t r in
+      runs-go z s a k n t r ∙ sym (runs-enough z s a k n (step z s a t) (omega arith))
 
   -- the turn reached from t₀ when so many have run
   pub record Reached (t₀ t : Turn) : Type 0 where
-    pub ends : run 4096 s a k t₀ ≡ run 4096 s a k t
-    pub kept : Runs s t a
+    pub ends : run z s a k t₀ ≡ run z s a k t
+    pub kept : Runs z s t a
 
-  pub steps : (t : Turn) → Runs s t a → ready s k t ≡ true → Steps s t a
+  pub steps : (t : Turn) → Runs z s t a → ready s k t ≡ true → Steps z s t a
   steps t r h = record { solid = r .solid; good = r .good; going = ready-going s k t h; input = r .input; stage = r .stage; output = r .output }
 
-  pub further : (t₀ t : Turn) {u : Turn} → Reached t₀ t → ready s k t ≡ true → u ≡ step 4096 s a t → Reached t₀ u
+  pub further : (t₀ t : Turn) {u : Turn} → Reached t₀ t → ready s k t ≡ true → u ≡ step z s a t → Reached t₀ u
   unfolding run step
   further t₀ t x h e =
       let r = x .kept in
-      let same = stepped-alike 4096 s (current s t) (inputsOf (current s t) a) t in
+      let same = stepped-alike z s (current s t) (inputsOf (current s t) a) t in
       subst (Reached t₀) (sym e) (record {
         ends = x .ends ∙ turns (s .terms .head .count) t (left-most s t) h;
         kept = record {
           solid = r .solid;
-          good = stepped-good 4096 s (current s t) (inputsOf (current s t) a) t (r .solid .lent) (ready-going s k t h) (r .good);
+          good = stepped-good z s (current s t) (inputsOf (current s t) a) t (r .solid .lent) (ready-going s k t h) (r .good);
           input = r .input;
           stage = same .stage ∙ r .stage;
           output = same .output ∙ r .output;
         };
       })
 
-  pub fewer : (t : Turn) {u : Turn} → ready s k t ≡ true → u ≡ step 4096 s a t → left s u < left s t
-  fewer t h e = subst (λ (u : Turn). left s u < left s t) (sym e) (step-left 4096 s a k t h)
+  pub fewer : (t : Turn) {u : Turn} → ready s k t ≡ true → u ≡ step z s a t → left s u < left s t
+  fewer t h e = subst (λ (u : Turn). left s u < left s t) (sym e) (step-left z s a k t h)
 
-  pub ended : (t₀ t : Turn) → Reached t₀ t → ready s k t ≡ false → t ≡ run 4096 s a k t₀
+  pub ended : (t₀ t : Turn) → Reached t₀ t → ready s k t ≡ false → t ≡ run z s a k t₀
   unfolding run
-  ended t₀ t x h = sym (runs-stop 4096 s a k (s .terms .head .count) t h) ∙ sym (x .ends)
+  ended t₀ t x h = sym (runs-stop z s a k (s .terms .head .count) t h) ∙ sym (x .ends)

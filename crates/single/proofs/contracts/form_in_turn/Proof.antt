@@ -14,7 +14,7 @@ use Rattle.single.proofs.contracts.form_in_turn.Statement.{statement}
 use Rattle.single.proofs.contracts.form_in_turn.Tie as tie
 
 abbrev Inv-loop : tie.InvT-loop
-Inv-loop ids n made₀ i₀ made i = formedInTurn 4096 made₀ (tab 0 n (λ k. part ids (k * 32) 32)) ≡ formedInTurn 4096 made (tab i (n - i) (λ k. part ids (k * 32) 32))
+Inv-loop ids n made₀ i₀ made i = formedInTurn made₀ (tab 0 n (λ k. part ids (k * 32) 32)) ≡ formedInTurn made (tab i (n - i) (λ k. part ids (k * 32) 32))
 
 abbrev μ-loop : tie.MeasureT-loop
 μ-loop ids n made₀ i₀ made i = n - i
@@ -23,7 +23,7 @@ loop-holds : tie.Need-loop-holds Inv-loop μ-loop
 loop-holds c =
     let ids = c .before .args .ids .now in
     let e : length ids / 32 ≡ length ids / 32 - 0 = omega arith in
-    ap (λ (n : ℕ). formedInTurn 4096 (c .before .args .host) (tab 0 n (λ k. part ids (k * 32) 32))) e
+    ap (λ (n : ℕ). formedInTurn (c .before .args .host) (tab 0 n (λ k. part ids (k * 32) 32))) e
 
 mul-id-at : tie.Need-mul-id-at Inv-loop μ-loop
 mul-id-at c = omega (arith, div-add-mod' (length (c .before .before .before .args .ids .now)) 32)
@@ -36,7 +36,7 @@ form-requires c κs = search needs
 
 returns : tie.Need-returns Inv-loop μ-loop
 unfolding idsIn
-returns c = turn-refused _ _ _ _ (c .before .before .before .before .loop-test .taken) (c .before .before .form .ensures ∙ ap (formed 4096 _) (c .before .before .before .id-at .ensures)) (c .if1 .taken) ∙ sym (c .before .before .before .before .before .loop .inv)
+returns c = turn-refused _ _ _ _ (c .before .before .before .before .loop-test .taken) (c .before .before .form .ensures ∙ ap (formed _) (c .before .before .before .id-at .ensures)) (c .if1 .taken) ∙ sym (c .before .before .before .before .before .loop .inv)
 
 add-i : tie.Need-add-i Inv-loop μ-loop
 add-i c = omega arith
@@ -45,7 +45,7 @@ loop-less : tie.Need-loop-less Inv-loop μ-loop
 loop-less c = omega arith
 
 loop-again : tie.Need-loop-again Inv-loop μ-loop
-loop-again c = c .before .before .before .before .before .before .loop .inv ∙ turn-formed _ _ _ _ (c .before .before .before .before .before .loop-test .taken) (c .before .before .before .form .ensures ∙ ap (formed 4096 _) (c .before .before .before .before .id-at .ensures)) (c .before .if1 .left)
+loop-again c = c .before .before .before .before .before .before .loop .inv ∙ turn-formed _ _ _ _ (c .before .before .before .before .before .loop-test .taken) (c .before .before .before .form .ensures ∙ ap (formed _) (c .before .before .before .before .id-at .ensures)) (c .before .if1 .left)
 
 returns-2 : tie.Need-returns-2 Inv-loop μ-loop
 unfolding idsIn

@@ -26,7 +26,9 @@ returns c =
     (ap (λ (r : Answer). interruptLeaves r (c .before .before .before .before .before .args .output .now)) (c .refused .ensures))
 
 lent-requires : tie.Need-lent-requires
-lent-requires c κs = order-facts 4096 _ (sym (c .before .in-order .ensures) ∙ not-false _ (c .if1 .left)) .diskMost
+lent-requires c κs =
+    let o = order-facts _ (sym (c .before .in-order .ensures) ∙ not-false _ (c .if1 .left)) in
+    (o .size, o .diskMost)
 
 refused-requires-2 : tie.Need-refused-requires-2
 refused-requires-2 c κs = search needs

@@ -35,7 +35,7 @@ returns c =
     let found = failed .before .before .before in
     let a = found .before .before .before .before .args in
     let e = failed .fail .ensures in
-    let out : Place → List ℕ = λ p. put (a .output .now) (a .host .program .progress .written) (recordBytes 20 0 (pairOf 4096 (a .disk .now) p) 0 [] 0 []) in
+    let out : Place → List ℕ = λ p. put (a .output .now) (a .host .program .progress .written) (recordBytes 20 0 (pairOf (a .host .sector) (a .disk .now) p) 0 [] 0 []) in
     let left : Progress → List ℕ → Interrupted = λ p o. interrupted 0 (p .tally) (withRun (a .host) (a .host .program .came) p) o in
     ap₂ left (e .0) (e .1 ∙ ap out (found .parent .ensures))
 

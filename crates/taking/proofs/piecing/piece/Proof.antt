@@ -28,8 +28,8 @@ returns c =
 
 areas-right-requires : tie.Need-areas-right-requires
 areas-right-requires c κs =
-    let o = order-facts 4096 _ (sym (c .before .before .in-order .ensures) ∙ not-false _ (c .before .if1 .left)) in
-    (o .diskMost, omega (arith, o .stageMost))
+    let o = order-facts _ (sym (c .before .before .in-order .ensures) ∙ not-false _ (c .before .if1 .left)) in
+    (o .size, (o .diskMost, omega (arith, o .stageMost)))
 
 refused-requires-2 : tie.Need-refused-requires-2
 refused-requires-2 c κs = search needs

@@ -25,8 +25,8 @@ returns c =
 
 areas-right-requires : tie.Need-areas-right-requires
 areas-right-requires c κs =
-    let o = order-facts 4096 _ (sym (c .before .in-order .ensures) ∙ not-false _ (c .if1 .left)) in
-    (o .diskMost, omega (arith, o .stageMost))
+    let o = order-facts _ (sym (c .before .in-order .ensures) ∙ not-false _ (c .if1 .left)) in
+    (o .size, (o .diskMost, omega (arith, o .stageMost)))
 
 unreached-requires-2 : tie.Need-unreached-requires-2
 unreached-requires-2 c κs = search needs

@@ -27,8 +27,9 @@ unfolding runningPair parentSpots parent settingOf
 returns c =
     let program = c .before .before .before in
     let a = program .before .before .before .args in
+    let z = a .host .sector in
     let p = a .host .program .progress in
-    let root : Place → List ℕ = λ q. contractRoot 4096 (a .disk .now) (a .stage .now) (tab 0 (p .size / 4096) (spotOf (q .slots) (p .staged))) in
+    let root : Place → List ℕ = λ q. contractRoot z (a .disk .now) (a .stage .now) (tab 0 (p .size / z) (spotOf (q .slots) (p .staged))) in
     ap (pairing (p .size)) (c .running-root .ensures ∙ ap root (c .before .parent .ensures))
 
 pub running-pair-spec : {M : Type 1} → statement M

@@ -18,7 +18,7 @@ unfolding startingPair pairOf parent settingOf
 returns c =
     let found = c .before in
     let disk = found .before .before .args .disk .now in
-    ap (pairing (found .parent .result .size)) (c .committed-root .ensures) ∙ ap (pairOf 4096 disk) (found .parent .ensures)
+    ap (pairing (found .parent .result .size)) (c .committed-root .ensures) ∙ ap (pairOf (found .before .before .args .host .sector) disk) (found .parent .ensures)
 
 pub starting-pair-spec : {M : Type 1} → statement M
 starting-pair-spec = tie.close (tie.spec parent-requires committed-root-requires returns)

@@ -1,9 +1,9 @@
--- `depot::play` meets its contract: the records stand in the output area; a number is laid over its front. Assumes nothing.
+-- `single::speaking::play` meets its contract: the records stand in the output area; a number is laid over its front. Assumes nothing.
 use native.Mathlib.Omega.{arith}
 use borrow.Author.Needs.{needs}
-use Rattle.depot.proofs.Spoken.{speaks-number, speaks-records}
-use Rattle.depot.proofs.play.Statement.{statement}
-use Rattle.depot.proofs.play.Tie as tie
+use Rattle.single.proofs.Laws.Spoken.{speaks-number, speaks-records}
+use Rattle.single.proofs.speaking.play.Statement.{statement}
+use Rattle.single.proofs.speaking.play.Tie as tie
 
 answer-requires : tie.Need-answer-requires
 answer-requires c κs = search needs

@@ -1,2 +1,0 @@
--- What is written out.
-pub mod Spoken
