@@ -16,7 +16,7 @@ pub struct Checker {}
 
 impl Checker {
     // The largest count of segments.
-    pub const LIMIT: usize = 4096;
+    pub const LIMIT: usize = 4_194_304;
 }
 
 // A root rebuilt, and the byte at which the next hash stands.

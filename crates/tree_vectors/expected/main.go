@@ -1,6 +1,7 @@
 // Writes what `tree_vectors` must write, by the Sia team's own Merkle tree over golang.org/x/crypto's BLAKE2b: every root, and every hash of a
 // proof, is the root of a run of segments as `merkletree.Tree` gives it. The walk and the checker are document 01's sentences. A proof of one
-// segment is also held against the library's own proof set.
+// segment is also held against the library's own proof set. The lines of the counts 4194304 and 4194305 are ../make_large.py's: they stand behind
+// that of 4097.
 //
 // Debian: golang-go golang-github-nebulouslabs-merkletree-dev golang-golang-x-crypto-dev, then
 // GO111MODULE=off GOPATH=/usr/share/gocode go run main.go > ../stdout
@@ -141,7 +142,7 @@ func tested(test string) bool {
 // "The checker (root, count 1 to 4,096, first, end, bytes, hashes) says yes exactly when first < end ≤ count, the bytes number
 // 64 × (end - first), and the same walk rebuilds the root using up all hash bytes; else no."
 func check(root []byte, n, first, end int, given, hashes []byte) bool {
-	if tested("zero") && n < 1 || tested("limit") && 4096 < n {
+	if tested("zero") && n < 1 || tested("limit") && 4194304 < n {
 		return false
 	}
 	if tested("empty") && end <= first || tested("past") && n < end {

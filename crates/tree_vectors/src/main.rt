@@ -3,6 +3,7 @@
 // and range wants, but for the one thing that its line names.
 ghost use Prim.Native.Nat.{_+_, _≤_};
 ghost use lib.ListN.{length};
+use libc::STDIN_FILENO;
 use libc::STDOUT_FILENO;
 
 // The counts of segments whose roots and proofs are written.
@@ -388,12 +389,58 @@ fn passed(bytes: &[u8], all: &mut [u8]) {
     given_line(b"range past the count", all, 32, 200, 199, 201, 128, hashes);
 }
 
-// The largest count, and one segment more, each with the root and the proof of that many segments.
-fn limits(bytes: &[u8], all: &mut [u8]) {
+// A full tree, and one segment more, each with the root and the proof of that many segments.
+fn wholes(bytes: &[u8], all: &mut [u8]) {
     let most = lay(bytes, 4096, 4094, 4096, all);
     given_line(b"count 4096", all, 32, 4096, 4094, 4096, 128, most);
     let over = lay(bytes, 4097, 4095, 4097, all);
     given_line(b"count 4097", all, 32, 4097, 4095, 4097, 128, over);
+}
+
+// The area takes from standard input a root, a segment, and a proof of so many bytes. Whether all of it came.
+fn comes(all: &mut [u8], hashes: usize) -> bool {
+    if all.len() < 160 {
+        return false;
+    }
+    if all.len() - 160 < hashes {
+        return false;
+    }
+    let total = 160 + hashes;
+    let front = io::read_full(STDIN_FILENO, &mut all[0..96]);
+    let proof = io::read_full(STDIN_FILENO, &mut all[160..total]);
+    if front != 96 {
+        return false;
+    }
+    proof == hashes
+}
+
+// One segment among 4,194,304, the largest count, and among one more, each with the root and the proof of that many segments
+// (make_large.py).
+fn limits(all: &mut [u8]) {
+    if comes(all, 704) {
+        given_line(
+            b"count 4194304",
+            all,
+            32,
+            4_194_304,
+            2_718_281,
+            2_718_282,
+            64,
+            704,
+        );
+    }
+    if comes(all, 736) {
+        given_line(
+            b"count 4194305",
+            all,
+            32,
+            4_194_305,
+            2_718_281,
+            2_718_282,
+            64,
+            736,
+        );
+    }
 }
 
 // Where the walk asks for one hash in place of the whole tree, and that hash is the root.
@@ -462,6 +509,7 @@ fn main() {
     withins(&bytes, &mut roots, &mut out);
     damaged(&bytes, &mut out);
     passed(&bytes, &mut out);
-    limits(&bytes, &mut out);
+    wholes(&bytes, &mut out);
+    limits(&mut out);
     tops(&bytes, &mut out);
 }
