@@ -1,14 +1,24 @@
 #!/usr/bin/env python3
-"""Makes `stdin`: a host of 8 sectors, a contract, a program that grows it by a sector and writes to it, given in two pieces, what it has
-reached, and the agreement to that; then a program that writes the same bytes again, so that it closes with 0 though its agreement names
-another pair. `stdout` is what the model makes of it: `target/model/model calls < stdin > stdout`."""
-import hashlib, pathlib, struct
+"""Makes `stdin` and `stdout`. The script: a host of 8 sectors, a contract, a program that grows it by a sector and writes to it, given in two
+pieces, what it has reached, and the agreement to that; then a program that writes the same bytes again, so that it closes with 0 though its
+agreement names another pair. Then sector sizes and lengths that are refused, and a host of sectors of 8,192 bytes: a contract that is grown,
+written across the edge at 4,096 and read there with a proof, and committed; the proof for the checker, as it is and changed; a sector size put
+into the host's record, with the program open and after it; and a proof among 4,194,304 segments,
+and one among one more, which no proof covers. `stdout` is what the model makes of it.
+`model/run check` builds the model."""
+import hashlib, pathlib, struct, subprocess
+
+here = pathlib.Path(__file__).parent
+model = here.parent.parent / "target" / "model" / "model"
 
 def number(*ns):
     return struct.pack(f"<{len(ns)}Q", *ns)
 
 def digest(message):
     return hashlib.blake2b(message, digest_size=32).digest()
+
+def parts(b):
+    return [b[i : i + 64] for i in range(0, len(b), 64)]
 
 def root(parts):
     if len(parts) == 1:
@@ -18,8 +28,18 @@ def root(parts):
         k *= 2
     return digest(b"\1" + root(parts[:k]) + root(parts[k:]))
 
-def instruction(name, *operands):
-    return name.ljust(16, b"\0") + number(len(operands)) + b"".join(number(*o) for o in operands) + b"\0"
+def proof(parts, at, first, end):
+    if at + len(parts) <= first or end <= at:
+        return root(parts)
+    if first <= at and at + len(parts) <= end:
+        return b""
+    k = 1
+    while 2 * k < len(parts):
+        k *= 2
+    return proof(parts[:k], at, first, end) + proof(parts[k:], at + k, first, end)
+
+def instruction(name, *operands, proof=b"\0"):
+    return name.ljust(16, b"\0") + number(len(operands)) + b"".join(number(*o) for o in operands) + proof
 
 disk, stage, room = 8 * 4096, 4 * 4096, 16384
 contract = bytes(range(1, 33))
@@ -29,7 +49,7 @@ data = number(4096) + again
 head = contract + number(2) + instruction(b"Truncate", (0, 8)) + instruction(b"Write", (8, 8), (16, 72)) + number(len(data))
 second = contract + number(1) + instruction(b"Write", (0, 8), (8, 72)) + number(len(again))
 sector = bytes(100) + written + bytes(4096 - 164)
-final = root([sector[i:i + 64] for i in range(0, 4096, 64)])
+final = root(parts(sector))
 
 def opened(head):
     return b"o" + number(room, 10**9, 7, 1, 3, 2, 5, 4, 6, len(head)) + head
@@ -44,4 +64,48 @@ script = (b"F" + number(disk, stage) + b"\xaa"
     + b"a" + number(disk, stage, 4096) + final
     + opened(second) + piece(again, again)
     + b"a" + number(disk, stage, 0) + bytes(32))
-pathlib.Path(__file__).with_name("stdin").write_bytes(script)
+
+# sectors of 8,192 bytes
+disk, stage = 4 * 8192, 2 * 8192
+
+def fresh(*ns):
+    return b"N" + number(*ns) + b"\x33"
+
+def size(value):
+    return b"x" + number(25, 0, 0, value)
+
+def check(root, count, first, end, b, hashes):
+    return b"k" + root + number(count, first, end, len(b), len(b) + len(hashes)) + b + hashes
+
+sector = bytes(4070) + written + bytes(8192 - 4134)
+final = root(parts(sector))
+data = number(8192) + number(4070) + number(64) + written + contract + number(4032) + number(128)
+head = (contract + number(3) + instruction(b"Truncate", (0, 8)) + instruction(b"Write", (8, 8), (16, 72))
+    + instruction(b"Read", (88, 32), (120, 8), (128, 8), proof=b"\1") + number(len(data)))
+wrong = number(4096)
+wrong_head = contract + number(1) + instruction(b"Truncate", (0, 8)) + number(len(wrong))
+given, hashes = sector[4032:4160], proof(parts(sector), 0, 63, 65)
+reached = b"r" + number(disk, stage)
+
+# among 4,194,304 segments that are all alike: a hash a level
+alike, levels = written, [digest(b"\0" + written)]
+for _ in range(22):
+    levels.append(digest(b"\1" + 2 * levels[-1]))
+
+script += (fresh(6144, 4 * 6144, 6144) + fresh(2048, 8192, 4096) + fresh(8_388_608, 8_388_608, 8_388_608) + fresh(8192, 12288, 8192)
+    + reached
+    + fresh(4_194_304, 64 * 4_194_304, 16 * 4_194_304) + reached
+    + fresh(8192, disk, stage) + b"f" + contract
+    + opened(wrong_head) + piece(wrong, wrong) + b"g" + number(disk, stage)
+    + opened(head) + piece(data[:88], data) + size(2048) + piece(data[88:], data) + size(8192) + piece(data[88:], data)
+    + b"r" + number(4 * 4096, 2 * 4096) + reached
+    + b"a" + number(disk, stage, 8192) + final
+    + check(final, 128, 63, 65, given, hashes)
+    + check(final, 128, 62, 64, given, hashes)
+    + check(final, 128, 63, 65, given, hashes + bytes(32))
+    + check(final, 64, 63, 65, given, hashes)
+    + size(0) + reached + size(4096) + reached + size(8192) + reached
+    + check(levels[22], 4_194_304, 0, 1, alike, b"".join(levels[:22]))
+    + check(digest(b"\1" + levels[22] + levels[0]), 4_194_305, 4_194_304, 4_194_305, alike, levels[22]))
+here.joinpath("stdin").write_bytes(script)
+here.joinpath("stdout").write_bytes(subprocess.run([model, "calls"], input=script, capture_output=True, check=True).stdout)

@@ -7,8 +7,9 @@ here = pathlib.Path(__file__).parent
 model = here.parent.parent / "target" / "model" / "model"
 SEED, MADE = 20, 8000
 TIMES = 3  # each thing that can be reached is reached by so many cases, where the generator has them
+SIZED_TIMES = 1  # the same for an answer or a record number on hosts of larger sectors
 # inputs of the generator that notice mistakes which the others do not (model/mutants.py)
-ALSO = {845, 1113, 1455, 2078, 2603, 2683, 2989, 3974, 4659}
+ALSO = {11, 1089, 1257, 1299, 3244, 3703, 4033, 4933, 6232, 6453}
 DEPOTS, SCRIPTS = 280, 70  # at least so many of the generator's
 
 def number(*ns):
@@ -38,7 +39,7 @@ def chosen(inputs):
     times, kept = {}, {i for i in order if inputs[i][3] in ALSO}
     for thing in sorted(set().union(*(reached for _, _, reached, *_ in inputs))):
         for i in order:
-            if times.get(thing, 0) >= TIMES:
+            if times.get(thing, 0) >= (SIZED_TIMES if thing[1].startswith("larger sectors: ") else TIMES):
                 break
             if i not in kept and thing in inputs[i][2]:
                 kept.add(i)
@@ -274,6 +275,149 @@ def still_scripts():
     short = b"a" + number(DISK, STAGE - 4096, size) + hash
     yield ready + program + poke(0, 0, 0, 65) + named(*pair) + poke(0, 0, 0, 8) + short + named(1, bytes(32)) + named(*pair) + every
 
+SIZES = [2**n for n in range(12, 23)]
+BAD_SIZES = [0, 1, 64, 2048, 4095, 4097, 6144, 12_288, 4_194_303, 4_194_305, 2**23, 2**32 + 4096, 2**44, 2**63, 2**64 - 1]
+
+class Sized:
+    """The items of a script whose host has sectors of `z` bytes, as many of disk and stage as these."""
+    def __init__(self, z, disk, stage):
+        self.z, self.disk, self.stage = z, disk * z, stage * z
+        self.fresh = fresh_of(z, self.disk, self.stage)
+        self.reached = b"r" + number(self.disk, self.stage)
+        self.give_up = b"g" + number(self.disk, self.stage)
+
+    def opened(self, contract, *steps):
+        head, data = head_and_data(contract, steps)
+        start = b"o" + number(65_536, 10**10, 7, 1, 3, 2, 5, 4, 6, len(head)) + head
+        return start, b"p" + number(self.disk, self.stage, len(data), 65_536, len(data)) + data
+
+    def visit(self, contract, after, *steps):
+        return b"".join(self.opened(contract, *steps)) + b"a" + number(self.disk, self.stage, len(after)) + root(after)
+
+    def failed(self, contract, *steps):
+        """Programs of one step each, given up."""
+        return b"".join(b"".join(self.opened(contract, step)) + self.give_up for step in steps)
+
+    def grow(self, n):
+        return b"Truncate", number(self.z * n)
+
+def fresh_of(z, disk, stage):
+    return b"N" + number(z, disk, stage) + b"\x55"
+
+def size(z):
+    return poke(25, 0, 0, z)
+
+def proof(b, first, end):
+    """What the checker is given: the root of these bytes, their count of segments, the range, its bytes, the hashes."""
+    def walk(b, at):
+        count = len(b) // 64
+        if at + count <= first or end <= at:
+            return root(b)
+        if first <= at and at + count <= end:
+            return b""
+        k = 1
+        while 2 * k < count:
+            k *= 2
+        return walk(b[: 64 * k], at) + walk(b[64 * k :], at + k)
+    return root(b), len(b) // 64, first, end, b[64 * first : 64 * end], walk(b, 0)
+
+def check(root, count, first, end, b, hashes):
+    return b"k" + root + number(count, first, end, len(b), len(b) + len(hashes)) + b + hashes
+
+def sized_scripts():
+    """Scripts of `calls` on hosts of other sector sizes (M-103): sizes and lengths taken and refused, programs on each size that a script's areas
+    fit, sizes put into the record of a host that holds sectors or an open program."""
+    one, two = MANY[:2]
+    # sizes and lengths; a host that is made answers 4, one that is not 1, and one too large for the areas 2
+    ask = b"r" + number(262_144, 65_536)
+    yield b"".join(fresh_of(z, z, z) for z in SIZES) + form(one) + ask
+    yield b"".join(fresh_of(z, 64 * z, 16 * z) for z in SIZES) + form(one) + ask + size(4096) + ask
+    yield b"".join(fresh_of(z, z % 2**61 * 8, z % 2**61 * 4) for z in BAD_SIZES) + form(one) + ask
+    yield b"".join(fresh_of(z, 8192, 4096) for z in BAD_SIZES) + form(one)
+    for z in (8192, 65_536, 4_194_304):
+        lengths = [0, 4096, z // 2, z - 1, z + 1, z + 4096, 65 * z, 2**63, 2**64 - 1]
+        yield b"".join(fresh_of(z, n, z) + fresh_of(z, z, n) for n in lengths) + fresh_of(z, z, 17 * z) + form(one)
+    # a size of no host where no other condition of order fails, ahead of the others, and with a program open
+    yield FRESH + form(one) + b"".join(size(z) + form(two) for z in BAD_SIZES) + size(4096) + form(two)
+    yield FRESH + form(one) + opened(one, grow(1))[0] + b"".join(size(z) + item for z in (0, 2048, 6144, 2**23) for item in (REACHED, GIVE_UP))
+    calls = form(one) + drop(one) + b"".join(opened(WORD, grow(1))) + b"i" + number(DISK, ROOM) + REACHED + named(0, bytes(32)) + GIVE_UP
+    yield FRESH + size(2048) + calls + poke(0, 0, 0, 2**64 - 1) + poke(2, 0, 0, 1) + poke(4, 0, 0, 2**64 - 1) + calls
+    # the lengths lent follow the size
+    ready = FRESH + form(one) + visit(one, bytes(8192), grow(1), grow(2))
+    for z in (8192, 16_384, 32_768, 65_536):
+        lent = number(8 * z % 262_145, 4 * z % 65_537)
+        yield ready + size(z) + b"r" + lent + REACHED + size(4096) + REACHED
+    larger = Sized(8192, 8, 4)
+    yield ready + size(8192) + larger.visit(one, bytes(4090) + b"crisps and nuts" + bytes(8192 - 4105), write(4090, b"crisps and nuts"))
+    # sectors of 4 MiB that pokes put there: no area fits, but forming and dropping do
+    host = Sized(4_194_304, 64, 16)
+    yield host.fresh + poke(3, 3, 5, 1) + poke(4, 3, 0, 2 * host.z) + poke(5, 3, 1, 63) + poke(2, 3, 0, 1) + form(one) + ask + drop(ONE[5])
+    for z, disk, stage in ((8192, 4, 2), (16_384, 3, 3), (32_768, 3, 2), (65_536, 4, 1)):
+        host = Sized(z, disk, stage)
+        ready = host.fresh + form(one, two)
+        # Truncate by one sector of this size, and by nothing else
+        tries = [(b"Truncate", number(n)) for n in (4096, z - 4096, z // 2, z - 1, z + 1, z + 4096, 2 * z)]
+        yield ready + host.failed(one, *tries) + host.visit(one, bytes(z), host.grow(1)) + host.failed(one, (b"Truncate", number(z - 4096)))
+        # written across edges of 4,096 and at the sector's ends, committed, read with proofs, looked up by its root
+        filled = bytearray(z)
+        filled[4090:4105], filled[z - 5 :], filled[z // 2 - 30 : z // 2 + 34] = b"crisps and nuts", b"salty", bytes(range(64))
+        filled = bytes(filled)
+        writes = write(4090, filled[4090:4105]), write(z - 5, b"salty"), write(z // 2 - 30, filled[z // 2 - 30 : z // 2 + 34])
+        ready += host.visit(one, filled, host.grow(1), *writes)
+        reads = [read(one, 4032, 128), (b"ReadSector", root(filled), number(4032), number(192)), read(one, z - 64, 64), read(one, 4095, 2)]
+        start, data = host.opened(WORD, *reads)
+        proved = bytearray(start)
+        for i in range(3):
+            proved[81 + 40 + 73 * (i + 1) - 1] = 1
+        checked = proof(filled, 63, 65)
+        yield ready + bytes(proved) + data + host.reached + host.give_up + check(*checked) + check(checked[0], z // 128, *checked[2:])
+        # spans at the edges of a sector and across them
+        spans = [read(one, z - 1, 1), read(one, z - 1, 2), read(one, z - 4096, 4097), (b"ReadSector", root(filled), number(z - 1), number(2))]
+        spans += [write(z - 2, b"abc"), (b"Copy", number(z - 4), number(0), number(5)), (b"Swap", number(0), number(z - 4), number(5))]
+        yield ready + host.failed(one, *spans)
+        # lent by 4,096 instead
+        yield ready + b"r" + number(4096 * disk, 4096 * stage) + b"r" + number(host.disk, 4096 * stage) + b"r" + number(4096 * disk, host.stage)
+        if stage > 1:
+            # across sectors; whole sectors are staged and committed
+            after = bytearray(filled + filled)
+            after[z : z + z] = bytes(z)
+            after[z + 4090 : z + 4105] = filled[4090:4105]
+            after[100:150], after[2 * z - 50 :] = after[2 * z - 50 :], after[100:150]
+            steps = host.grow(2), (b"Copy", *map(number, (z + 4090, 4090, 15))), (b"Swap", *map(number, (100, 2 * z - 50, 50)))
+            yield ready + host.visit(one, bytes(after), *steps) + host.visit(two, bytes(z), host.grow(1)) + host.failed(two, host.grow(2))
+
+def checked_scripts():
+    """Scripts of `calls` for the checker: proofs that are right, and with something changed; counts up to 4,194,304; long tails."""
+    segments = bytes(i * 7 // 64 % 256 for i in range(64 * 13))
+    for first, end in ((0, 13), (0, 1), (12, 13), (3, 9), (7, 8)):
+        right = hash, count, _, _, b, hashes = proof(segments, first, end)
+        late = hash[:31] + bytes([hash[31] ^ 1])
+        wrong = [(late, *right[1:]), (hash, 14, *right[2:]), (hash, 12, *right[2:]), (hash, 0, *right[2:])]
+        wrong += [(hash, count, first + 1, end + 1, b, hashes), (hash, count, end, first, b, hashes), (hash, count, first, first, b"", hashes)]
+        wrong += [(hash, count, first, end, *rest) for rest in ((b[:-1], hashes), (b + b"\0", hashes), (b[:-64], hashes), (b + bytes(64), hashes))]
+        wrong += [(hash, count, first, end, b, other) for other in (hashes + b"\0", hashes + bytes(32), hashes[:-1], hashes[:-32], hashes[32:])]
+        yield b"".join(check(*one) for one in (right, *wrong))
+    # all segments alike: a hash a level
+    segment, level = bytes(range(64)), [root(bytes(range(64)))]
+    for _ in range(23):
+        level.append(hashlib.blake2b(b"\1" + level[-1] * 2, digest_size=32).digest())
+    most = 4_194_304
+    up, down = b"".join(level[:22]), b"".join(level[21::-1])
+    joined = lambda k: hashlib.blake2b(b"\1" + level[k] + level[0], digest_size=32).digest()
+    yield check(level[22], most, 0, 1, segment, up) + check(level[22], most, most - 1, most, segment, down) + check(level[22], most, 2, 3, segment, up)
+    yield check(joined(22), most + 1, most, most + 1, segment, level[22]) + check(joined(21), most // 2 + 1, most // 2, most // 2 + 1, segment, level[21])
+    yield check(level[23], 2 * most, 0, 1, segment, up + level[22]) + check(joined(12), 4097, 4096, 4097, segment, level[12])
+    yield b"".join(check(level[22], n, 0, 1, segment, up) + check(level[22], most, 0, n, segment, up) for n in (0, 2**32, 2**63, 2**64 - 1))
+    yield b"".join(check(level[22], most, n, n + 1, segment, up) for n in (most, 2**63, 2**64 - 2))
+    # tails of 131,072 bytes, and of a hash more, which would be right
+    long = segment * 2048
+    yield check(root(long), 2048, 0, 2048, long, b"")
+    yield check(*proof(long + segment, 0, 2048))
+    # data lengths above the tail's
+    right = check(*proof(segments, 3, 9))
+    for n in (len(right) - 73, len(right) - 72, 2**64 - 1):
+        yield FRESH + right[:57] + number(n) + right[65:] + REACHED
+
 def scripts():
     """Scripts of `calls` that are cut off, that lend too much, or that poke past an array or a width."""
     example = (here.parent / "calls" / "stdin").read_bytes()
@@ -287,7 +431,7 @@ def scripts():
         yield fresh + item(lengths) + item([0] * len(lengths))
         yield from (fresh + item([n + (j == k) for j, n in enumerate(lengths)]) for k in range(len(lengths)))
     any = 2**64 - 1
-    for field in range(26):
+    for field in range(27):
         last_i = {2: 7, 3: 7, 4: 7, 5: 7, 13: 63, 16: 31, 19: 31, 20: 31, 21: 31, 22: 31, 23: 31, 24: 6}.get(field, any)
         last_j = {3: 31, 5: 63, 19: 15, 21: 3, 22: 3}.get(field, any)
         most = {2: 1, 6: 1, 11: 1, 23: 1, 3: 255, 5: 255, 13: 255, 16: 255, 19: 255, 24: 65_535}.get(field, any)
@@ -318,6 +462,8 @@ def cut_items(fresh):
     ready = fresh + b"f" + contract
     whole = {
         "F": fresh,
+        "N": b"N" + number(8192, 262_144, 65_536) + b"\x55",
+        "k": check(*proof(bytes(range(192)), 1, 2)),
         "f": b"f" + contract,
         "d": b"d" + contract,
         "o": open_(head),
@@ -328,7 +474,7 @@ def cut_items(fresh):
         "r": reached,
         "x": b"x" + number(9, 0, 0, 1),
     }
-    fixed = {"o": 81, "p": 41}
+    fixed = {"o": 81, "p": 41, "k": 73}
     for kind, item in whole.items():
         ahead = ready + (open_(head) if kind in "piga" else b"")
         end = fixed.get(kind, len(item))
@@ -349,7 +495,7 @@ def cut_items(fresh):
     yield from (opened + piece(long[:n], 65_539) for n in (65_536, 65_537, 65_538))
     yield from (opened + piece(long[:9], n) for n in (65_536, 65_537, 65_538, 2**64 - 1))
 
-cases = chosen(generated()) + [("d", b) for f in (depots, short_depots) for b in f()] + [("c", b) for f in (scripts, short_scripts, still_scripts) for b in f()]
+cases = chosen(generated()) + [("d", b) for f in (depots, short_depots) for b in f()] + [("c", b) for f in (scripts, short_scripts, still_scripts, sized_scripts, checked_scripts) for b in f()]
 given = b"".join(kind.encode() + number(len(b)) + b for kind, b in cases)
 here.joinpath("stdin").write_bytes(given)
 lines = subprocess.run([model, "cases"], input=given, capture_output=True, check=True).stdout

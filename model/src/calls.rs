@@ -2,21 +2,27 @@
 
 use crate::blake2b::hash32;
 use crate::coverage;
+use crate::depot;
 use crate::head::Reader;
-use crate::host::{self, Host, NONE, SECTOR};
+use crate::host::{self, Host, NONE};
+use crate::tree;
 
 /// "Four areas stand behind it: disk 262,144 bytes, stage 65,536, input 65,536, output 65,536."
 pub const DISK: usize = 262_144;
 pub const STAGE: usize = 65_536;
 pub const INPUT: usize = 65_536;
 pub const OUTPUT: usize = 65_536;
+/// "A tail of `k` has at most 131,072 bytes; of a longer one the answer is no."
+pub const MOST_TAIL: usize = 131_072;
 
 /// Whether `fill` is an 8-byte number (of a byte's value) or one byte: "fills all four areas with the byte `fill`".
 const FILL_IS_A_NUMBER: bool = false;
 
+/// An item of a script. In a `Check` the tail's first `data` bytes are those that the proof is of, the others its hashes.
 #[derive(Clone, Debug)]
 pub enum Item {
     Fresh { disk: u64, stage: u64, fill: u8 },
+    FreshOfSize { sector: u64, disk: u64, stage: u64, fill: u8 },
     Form { id: [u8; 32] },
     Drop { id: [u8; 32] },
     Open { output_length: u64, budget: u64, prices: [u16; 7], head: Vec<u8> },
@@ -26,6 +32,7 @@ pub enum Item {
     Agree { disk: u64, stage: u64, size: u64, root: [u8; 32] },
     Reached { disk: u64, stage: u64 },
     Poke { field: u64, i: u64, j: u64, value: u64 },
+    Check { root: [u8; 32], count: u64, first: u64, end: u64, data: u64, tail: Vec<u8> },
 }
 
 /// What a call answered.
@@ -64,6 +71,12 @@ pub fn read_item(reader: &mut Reader) -> Option<Item> {
     let [kind] = reader.array::<1>().ok()?;
     Some(match kind {
         b'F' => Item::Fresh { disk: reader.number().ok()?, stage: reader.number().ok()?, fill: fill(reader)? },
+        b'N' => Item::FreshOfSize {
+            sector: reader.number().ok()?,
+            disk: reader.number().ok()?,
+            stage: reader.number().ok()?,
+            fill: fill(reader)?,
+        },
         b'f' => Item::Form { id: reader.array().ok()? },
         b'd' => Item::Drop { id: reader.array().ok()? },
         b'o' => read_open(reader)?,
@@ -78,6 +91,7 @@ pub fn read_item(reader: &mut Reader) -> Option<Item> {
         },
         b'r' => Item::Reached { disk: lent(reader, DISK)?, stage: lent(reader, STAGE)? },
         b'x' => read_poke(reader)?,
+        b'k' => read_check(reader)?,
         _ => return None,
     })
 }
@@ -106,6 +120,17 @@ fn read_piece(reader: &mut Reader) -> Option<Item> {
     Some(Item::Piece { disk, stage, input, output, piece })
 }
 
+/// "root (32 bytes), count, first, end, data length, tail length, tail (the bytes, then the hashes; a data length above the tail's is
+/// malformed)"
+fn read_check(reader: &mut Reader) -> Option<Item> {
+    let root = reader.array().ok()?;
+    let (count, first, end) = (reader.number().ok()?, reader.number().ok()?, reader.number().ok()?);
+    let data = reader.number().ok()?;
+    let tail_length = reader.number().ok().filter(|&length| data <= length)?;
+    let tail = reader.bytes(tail_length).ok()?.to_vec();
+    Some(Item::Check { root, count, first, end, data, tail })
+}
+
 /// How many values i, j and the value itself can take; 0 where i or j is not looked at.
 pub fn poke_ranges(field: u64) -> Option<(u64, u64, u128)> {
     const NUMBER: u128 = 1 << 64;
@@ -128,6 +153,7 @@ pub fn poke_ranges(field: u64) -> Option<(u64, u64, u128)> {
         21 | 22 => (32, 4, NUMBER),
         23 => (32, 0, 2),
         24 => (7, 0, 65_536),
+        25 => (0, 0, NUMBER),
         _ => return None,
     })
 }
@@ -153,6 +179,10 @@ pub fn item_bytes(item: &Item) -> Vec<u8> {
     match item {
         Item::Fresh { disk, stage, fill } => {
             numbers(&mut bytes, b'F', &[*disk, *stage]);
+            bytes.extend(&(*fill as u64).to_le_bytes()[..if FILL_IS_A_NUMBER { 8 } else { 1 }]);
+        }
+        Item::FreshOfSize { sector, disk, stage, fill } => {
+            numbers(&mut bytes, b'N', &[*sector, *disk, *stage]);
             bytes.extend(&(*fill as u64).to_le_bytes()[..if FILL_IS_A_NUMBER { 8 } else { 1 }]);
         }
         Item::Form { id } => {
@@ -181,6 +211,12 @@ pub fn item_bytes(item: &Item) -> Vec<u8> {
         }
         Item::Reached { disk, stage } => numbers(&mut bytes, b'r', &[*disk, *stage]),
         Item::Poke { field, i, j, value } => numbers(&mut bytes, b'x', &[*field, *i, *j, *value]),
+        Item::Check { root, count, first, end, data, tail } => {
+            bytes.push(b'k');
+            bytes.extend(root);
+            bytes.extend([*count, *first, *end, *data, tail.len() as u64].iter().flat_map(|number| number.to_le_bytes()));
+            bytes.extend(tail);
+        }
     }
     bytes
 }
@@ -194,9 +230,9 @@ pub struct Player {
     pub output: Vec<u8>,
 }
 
-/// Before the first `F`: a host with no slots, which every call refuses with 1.
+/// Before the first `F` or `N`: a host with sector size 0 and no slots, which every call refuses with 1.
 pub fn new_player() -> Player {
-    let (_, host) = host::fresh(0, 0);
+    let (_, host) = host::fresh(0, 0, 0);
     Player { host, disk: vec![0; DISK], stage: vec![0; STAGE], input: vec![0; INPUT], output: vec![0; OUTPUT] }
 }
 
@@ -204,8 +240,14 @@ impl Player {
     /// Makes the item's call.
     pub fn make(&mut self, item: &Item) -> Answered {
         self.note_events(item);
+        let sector = self.host.sector;
         let answered = self.call(item);
         coverage::answer(item_name(item), answered.answer);
+        match item {
+            Item::Fresh { .. } | Item::FreshOfSize { .. } => coverage::sized(self.host.sector, item_name(item), answered.answer),
+            Item::Poke { .. } | Item::Check { .. } => {}
+            _ => coverage::sized(sector, item_name(item), answered.answer),
+        }
         self.note_ids(item, answered.answer);
         answered
     }
@@ -213,14 +255,9 @@ impl Player {
     fn call(&mut self, item: &Item) -> Answered {
         let front = |length: &u64| ..*length as usize;
         match item {
-            Item::Fresh { disk, stage, fill } => {
-                let (answer, host) = host::fresh(*disk, *stage);
-                self.host = host;
-                for area in [&mut self.disk, &mut self.stage, &mut self.input, &mut self.output] {
-                    area.fill(*fill);
-                }
-                only(answer)
-            }
+            // "`F` stays and means 4,096"
+            Item::Fresh { disk, stage, fill } => self.fresh(depot::SECTOR, *disk, *stage, *fill),
+            Item::FreshOfSize { sector, disk, stage, fill } => self.fresh(*sector, *disk, *stage, *fill),
             Item::Form { id } => only(self.host.form(id)),
             Item::Drop { id } => only(self.host.drop(id)),
             Item::Open { output_length, budget, prices, head } => {
@@ -253,14 +290,34 @@ impl Player {
                 poke(&mut self.host, *field, *i as usize, *j as usize, *value);
                 only(0)
             }
+            Item::Check { root, count, first, end, data, tail } => {
+                let (bytes, hashes) = tail.split_at(*data as usize);
+                only((tail.len() <= MOST_TAIL && tree::check(root, *count, *first, *end, bytes, hashes)) as u64)
+            }
         }
+    }
+
+    /// "makes the host and fills all four areas with that byte"
+    fn fresh(&mut self, sector: u64, disk: u64, stage: u64, fill: u8) -> Answered {
+        let (answer, host) = host::fresh(sector, disk, stage);
+        self.host = host;
+        for area in [&mut self.disk, &mut self.stage, &mut self.input, &mut self.output] {
+            area.fill(fill);
+        }
+        only(answer)
     }
 
     /// Counts, for the coverage that `run` prints.
     fn note_events(&self, item: &Item) {
         let program = &self.host.program;
+        if let Item::Check { root, count, first, end, data, tail } = item {
+            return note_check(root, *count, *first, *end, *data as usize, tail);
+        }
         if let Some(condition) = self.host.disorder() {
             return coverage::disorder(condition);
+        }
+        if self.host.disk_length() > DISK as u64 || self.host.stage_length() > STAGE as u64 {
+            coverage::event("host in order whose areas are longer than those that stand behind the script");
         }
         if !program.open {
             return;
@@ -342,16 +399,33 @@ impl Player {
             std::cmp::Ordering::Equal => "commit, same size",
             std::cmp::Ordering::Greater => "commit, larger",
         });
-        let slots = &self.host.places[place].slots[..(before / SECTOR) as usize];
+        let slots = &self.host.places[place].slots[..(before / self.host.sector) as usize];
         if slots.windows(2).any(|pair| pair[1] != pair[0] + 1) {
             coverage::event("commit, disk slots not in line");
         }
-        if size == 64 * SECTOR {
+        if size == 64 * self.host.sector {
             coverage::event("contract at 64 sectors");
         }
         if host::padded(&self.host.places[place].id) {
             coverage::event("padded id held: committed");
         }
+    }
+}
+
+/// Counts of what the checker says, and of its grounds.
+fn note_check(root: &[u8; 32], count: u64, first: u64, end: u64, data: usize, tail: &[u8]) {
+    let (bytes, hashes) = tail.split_at(data);
+    let fault = tree::fault(root, count, first, end, bytes, hashes);
+    coverage::event(match (fault, count) {
+        (None, _) if tail.len() > MOST_TAIL => "k no: right but for a tail above 131,072 bytes",
+        (None, 1) => "k yes, one segment in all",
+        (None, ..=4_096) => "k yes, count up to 4,096",
+        (None, tree::MOST_SEGMENTS) => "k yes, count 4,194,304",
+        (None, _) => "k yes, count above 4,096",
+        (Some(fault), _) => fault,
+    });
+    if fault.is_none() && tail.len() == MOST_TAIL {
+        coverage::event("k yes, tail of 131,072 bytes");
     }
 }
 
@@ -362,6 +436,7 @@ fn closed(closed: crate::program::Closed) -> Answered {
 pub fn item_name(item: &Item) -> &'static str {
     match item {
         Item::Fresh { .. } => "fresh",
+        Item::FreshOfSize { .. } => "fresh of a size",
         Item::Form { .. } => "form",
         Item::Drop { .. } => "drop",
         Item::Open { .. } => "open",
@@ -371,6 +446,7 @@ pub fn item_name(item: &Item) -> &'static str {
         Item::Agree { .. } => "agree",
         Item::Reached { .. } => "reached",
         Item::Poke { .. } => "poke",
+        Item::Check { .. } => "check",
     }
 }
 
@@ -403,6 +479,7 @@ fn poke(host: &mut Host, field: u64, i: usize, j: usize, value: u64) {
         22 => program.head.instructions[i].operands[j].length = value,
         23 => program.head.instructions[i].proof = value == 1,
         24 => program.prices[i] = value as u16,
+        25 => host.sector = value,
         _ => unreachable!(),
     }
 }
@@ -436,6 +513,7 @@ pub fn peek(host: &Host, field: u64, i: usize, j: usize) -> u64 {
         22 => program.head.instructions[i].operands[j].length,
         23 => program.head.instructions[i].proof as u64,
         24 => program.prices[i] as u64,
+        25 => host.sector,
         _ => unreachable!(),
     }
 }
@@ -483,11 +561,13 @@ fn report(player: &Player, answered: &Answered, out: &mut Vec<u8>) {
     }
 }
 
-/// "the host: disk sectors, stage sectors; for each of the 8 places 0, or 1 with id (32 bytes), size and the slots of its
-/// positions (size / 4,096 of them, at most 64; 8 bytes each); then 0 if no program is open, or 1 with came, ran, tally, written,
+/// "The report's host starts with the sector size (M-103), and a place shows the slots of size / sector size positions, at most 64 (none
+/// where the sector size is 0)." "the host: disk sectors, stage sectors; for each of the 8 places 0, or 1 with id (32 bytes), size and
+/// the slots of its positions (8 bytes each); then 0 if no program is open, or 1 with came, ran, tally, written,
 /// failed (0 or 1), running size and 64 staged slots (8 bytes each; none: 255)"
 fn report_host(host: &Host, out: &mut Vec<u8>) {
     let number = |out: &mut Vec<u8>, value: u64| out.extend(value.to_le_bytes());
+    number(out, host.sector);
     number(out, host.disk_sectors);
     number(out, host.stage_sectors);
     for place in &host.places {
@@ -495,7 +575,7 @@ fn report_host(host: &Host, out: &mut Vec<u8>) {
         if place.held {
             out.extend(place.id);
             number(out, place.size);
-            let positions = (place.size / SECTOR).min(64) as usize;
+            let positions = place.size.checked_div(host.sector).unwrap_or(0).min(64) as usize;
             place.slots[..positions].iter().for_each(|&slot| number(out, slot as u64));
         }
     }

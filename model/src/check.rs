@@ -4,8 +4,9 @@
 use crate::blake2b::{hash, hash32};
 use crate::calls::{self, Item};
 use crate::depot;
+use crate::depot::SECTOR;
 use crate::head::{self, filled, Head, Instruction, Operand};
-use crate::host::{self, Host, NONE, SECTOR};
+use crate::host::{self, Host, NONE};
 use crate::program::Closed;
 use crate::tree;
 
@@ -16,7 +17,7 @@ const A: [u8; 32] = [0xA1; 32];
 const B: [u8; 32] = [0xB2; 32];
 
 pub fn run() {
-    let tests: [(&str, fn()); 29] = [
+    let tests: [(&str, fn()); 36] = [
         ("RFC 7693: abc", abc),
         ("RFC 7693: Appendix E self-test", self_test),
         ("hash: lengths refused", hash_lengths),
@@ -46,6 +47,13 @@ pub fn run() {
         ("nothing changed", nothing_changed),
         ("order of hosts", orders),
         ("the script player", script),
+        ("M-103: sector sizes taken and refused", sizes_taken),
+        ("M-103: hosts of larger sectors", larger_sectors),
+        ("M-103: commits of larger sectors", larger_commits),
+        ("M-103: a damaged sector size", damaged_sizes),
+        ("M-103: sector sizes in scripts", sized_scripts),
+        ("M-103: proofs of up to 4,194,304 segments", large_proofs),
+        ("M-103: the checker in scripts", checker_in_scripts),
     ];
     for (name, test) in tests {
         test();
@@ -145,9 +153,9 @@ fn proofs_accepted() {
         }
     }
     assert!(!tree::check(&[0; 32], 0, 0, 0, &[], &[]));
-    let most = segments(4097);
-    assert!(tree::check(&tree::root(&most[..4096 * 64]), 4096, 0, 4096, &most[..4096 * 64], &[]));
-    assert!(!tree::check(&tree::root(&most), 4097, 0, 4097, &most, &[]));
+    let more = segments(4097);
+    assert!(tree::check(&tree::root(&more[..4096 * 64]), 4096, 0, 4096, &more[..4096 * 64], &[]));
+    assert!(tree::check(&tree::root(&more), 4097, 0, 4097, &more, &[]));
 }
 
 // Heads
@@ -259,12 +267,17 @@ fn counted(data: &[u8]) -> Vec<u8> {
 }
 
 fn bench(disk: u64, stage: u64, ids: &[[u8; 32]]) -> Bench {
-    let (answer, mut host) = host::fresh(disk * SECTOR, stage * SECTOR);
+    bench_of(SECTOR, disk, stage, ids)
+}
+
+/// A host of sectors of this size.
+fn bench_of(sector: u64, disk: u64, stage: u64, ids: &[[u8; 32]]) -> Bench {
+    let (answer, mut host) = host::fresh(sector, disk * sector, stage * sector);
     assert_eq!(answer, 0);
     for id in ids {
         assert_eq!(host.form(id), 0);
     }
-    let area = |sectors: u64| vec![0u8; (sectors * SECTOR) as usize];
+    let area = |sectors: u64| vec![0u8; (sectors * sector) as usize];
     Bench { host, disk: area(disk), stage: area(stage), input: vec![], output: vec![0; 16_384] }
 }
 
@@ -305,7 +318,7 @@ impl Bench {
         self.host.give_up(&self.disk, &self.stage)
     }
     fn slots(&self, place: usize) -> Vec<u8> {
-        self.host.places[place].slots[..(self.host.places[place].size / SECTOR) as usize].to_vec()
+        self.host.places[place].slots[..(self.host.places[place].size / self.host.sector) as usize].to_vec()
     }
 }
 
@@ -326,7 +339,11 @@ fn parse_records(mut bytes: &[u8]) -> Vec<Record> {
 }
 
 fn grow(sizes: &[u64]) -> Layout {
-    sizes.iter().fold(Layout::default(), |layout, &size| layout.numbers("Truncate", &[size * SECTOR]))
+    grow_of(SECTOR, sizes)
+}
+
+fn grow_of(sector: u64, sizes: &[u64]) -> Layout {
+    sizes.iter().fold(Layout::default(), |layout, &size| layout.numbers("Truncate", &[size * sector]))
 }
 
 fn truncate_alone() {
@@ -415,11 +432,11 @@ fn close_ids() {
 }
 
 fn forming() {
-    assert_eq!(host::fresh(4096, 0).0, 2);
-    assert_eq!(host::fresh(65 * 4096, 4096).0, 2);
-    assert_eq!(host::fresh(4097, 4096).0, 2);
-    assert_eq!(host::fresh(4096, 17 * 4096).0, 2);
-    let (_, mut none) = host::fresh(0, 0);
+    assert_eq!(host::fresh(4096, 4096, 0).0, 2);
+    assert_eq!(host::fresh(4096, 65 * 4096, 4096).0, 2);
+    assert_eq!(host::fresh(4096, 4097, 4096).0, 2);
+    assert_eq!(host::fresh(4096, 4096, 17 * 4096).0, 2);
+    let (_, mut none) = host::fresh(4096, 0, 0);
     assert_eq!(none.form(&A), 1);
     let mut bench = bench(8, 4, &[A, B]);
     let read_only = head::read_only_word();
@@ -449,7 +466,7 @@ fn one_byte(at: usize) -> [u8; 32] {
 /// 5."
 fn padded_ids() {
     let short: [[u8; 32]; 6] = [[0; 32], filled(b"old1"), filled(&[255; 4]), filled(b"Read"), one_byte(0), one_byte(3)];
-    let (_, mut none) = host::fresh(0, 0);
+    let (_, mut none) = host::fresh(4096, 0, 0);
     for id in &short {
         assert!(host::padded(id));
         assert_eq!(none.form(id), 1);
@@ -796,8 +813,8 @@ fn script() {
     let mut bytes = calls::item_bytes(&fresh);
     bytes.extend(calls::item_bytes(&Item::Form { id: A }));
     let out = calls::play(&bytes);
-    // answer, tally, growth; disk, stage; 8 places; no program; 4 digests
-    let first = 3 * 8 + 2 * 8 + 8 * 8 + 8 + 4 * 32;
+    // answer, tally, growth; sector size, disk, stage; 8 places; no program; 4 digests
+    let first = 3 * 8 + 3 * 8 + 8 * 8 + 8 + 4 * 32;
     assert_eq!(out.len(), first + first + 32 + 8);
     assert_eq!(out[first - 128..first - 96], hash32(&[7; 262_144]));
     assert_eq!(out[first - 32..first], hash32(&[7; 65_536]));
@@ -806,4 +823,263 @@ fn script() {
     bytes.pop();
     bytes.extend(calls::item_bytes(&Item::Reached { disk: 262_145, stage: 0 }));
     assert_eq!(calls::play(&bytes), out);
+}
+
+// M-103
+
+/// Sizes that are no power of two, too small or too large.
+const BAD_SIZES: [u64; 17] = [
+    0,
+    1,
+    64,
+    2_048,
+    4_095,
+    4_097,
+    6_144,
+    12_288,
+    4_194_303,
+    4_194_305,
+    6_291_456,
+    1 << 23,
+    1 << 32,
+    1 << 44,
+    1 << 63,
+    (1 << 63) + 1,
+    u64::MAX,
+];
+
+/// "any power of two from 4,096 to 4,194,304, else 2"
+fn sizes_taken() {
+    let made = |host: &Host| (host.sector, host.disk_sectors, host.stage_sectors);
+    for bits in 12..=22 {
+        let z = 1u64 << bits;
+        for (disk, stage) in [(1, 1), (64, 16), (8, 4)] {
+            let (answer, mut host) = host::fresh(z, disk * z, stage * z);
+            assert_eq!((answer, made(&host)), (0, (z, disk, stage)));
+            assert_eq!((host.in_order(), host.form(&A)), (true, 0));
+        }
+        let bad = [0, 1, z - 1, z + 1, z / 2, 65 * z, 64 * z + 1, u64::MAX, 1 << 63];
+        for (disk, stage) in bad.iter().flat_map(|&length| [(length, z), (z, length), (length, length)]).chain([(z, 17 * z)]) {
+            let (answer, mut host) = host::fresh(z, disk, stage);
+            assert_eq!((answer, made(&host)), (2, (0, 0, 0)));
+            assert_eq!((host.in_order(), host.form(&A)), (false, 1));
+        }
+    }
+    for z in BAD_SIZES {
+        for length in [z, z.saturating_mul(8), 4_096, 8_192, 0, 4_194_304, 12_288] {
+            let (answer, host) = host::fresh(z, length, length);
+            assert_eq!((answer, made(&host), host.in_order()), (2, (0, 0, 0), false));
+        }
+    }
+}
+
+/// "In 01, read "4,096" in 26, Truncate and commit as the host's size."
+fn larger_sectors() {
+    for z in [8_192, 65_536, 1_048_576, 4_194_304] {
+        let mut bench = bench_of(z, 3, 2, &[A, B]);
+        // grown by one sector, not by 4,096 and not by two
+        for (size, number) in [(4_096, 26), (z / 2, 26), (z - 1, 26), (z + 4_096, 26), (2 * z, 26), (z, 0), (0, 0)] {
+            assert_eq!(bench.run(A, &Layout::default().numbers("Truncate", &[size]))[0].0, number, "{z}: {size}");
+            bench.give_up();
+        }
+        // across edges of 4,096 bytes, within a sector
+        let long: Vec<u8> = (0..5_000).map(|i| (i % 251) as u8).collect();
+        let layout = grow_of(z, &[1, 2]).write(4_090, b"crisps and nuts").write(z + z - 5_000, &long).write(z - 1, b"!");
+        assert_eq!(bench.run_and_commit(A, &layout).growth, 2 * z as i64);
+        assert_eq!(bench.disk[4_090..4_105], *b"crisps and nuts");
+        assert_eq!((bench.disk[z as usize - 1], &bench.disk[2 * z as usize - 5_000..2 * z as usize]), (b'!', &long[..]));
+        // spans at the sector's edge and across it
+        for (offset, length, number) in [
+            (z - 1, 1, 0),
+            (z - 1, 2, 26),
+            (z, 1, 0),
+            (z - 4_096, 4_096, 0),
+            (z - 4_096, 4_097, 26),
+            (4_095, 2, 0),
+            (2 * z - 1, 1, 0),
+            (2 * z, 1, 26),
+            (2 * z - 1, 2, 26),
+        ] {
+            assert_eq!(bench.run(A, &Layout::default().read(A, offset, length))[0].0, number, "{z}: {offset}, {length}");
+            bench.give_up();
+            let copy = Layout::default().numbers("Copy", &[offset, 0, length]);
+            assert_eq!(bench.run(A, &copy)[0].0, if number == 0 { 0 } else { 26 });
+            bench.give_up();
+        }
+        // proofs: of the contract, and of a sector found by its root, across an edge of 4,096
+        let sector_root = tree::root(&bench.disk[..z as usize]);
+        let root = tree::root(&bench.disk[..2 * z as usize]);
+        let layout = Layout::default().read(A, 4_032, 128).proved().read_sector(sector_root, 4_032, 128).proved();
+        let layout = layout.read(A, z - 64, 64).proved().read_sector(sector_root, z - 1, 2);
+        let records = bench.run(A, &layout);
+        assert_eq!(records.iter().map(|record| record.0).collect::<Vec<u64>>(), [0, 0, 0, 26]);
+        assert_eq!((records[0].2, records[0].3), (2 * z, root));
+        assert!(tree::check(&root, 2 * z / 64, 63, 65, &records[0].5, &records[0].4));
+        assert!(tree::check(&sector_root, z / 64, 63, 65, &records[1].5, &records[1].4));
+        assert!(tree::check(&root, 2 * z / 64, z / 64 - 1, z / 64, &records[2].5, &records[2].4));
+        bench.give_up();
+        // areas of other lengths
+        for length in [3 * 4_096, z as usize, 3 * z as usize - 1] {
+            assert_eq!(bench.host.reached(&bench.disk[..length], &bench.stage).0, 2);
+        }
+        assert_eq!(bench.host.reached(&bench.disk, &bench.stage[..2 * 4_096]).0, 2);
+        assert_eq!(bench.host.reached(&bench.disk, &bench.stage).0, 4);
+    }
+}
+
+/// "Commit: positions past the final size free their slots; ... staged sectors are copied there", whole sectors of the host's size.
+fn larger_commits() {
+    let z = 16_384;
+    let mut bench = bench_of(z, 4, 2, &[A, B]);
+    bench.disk.fill(7);
+    bench.stage.fill(9);
+    assert_eq!(bench.run_and_commit(A, &grow_of(z, &[1, 2])).growth, 2 * z as i64);
+    assert_eq!(bench.run_and_commit(B, &grow_of(z, &[1]).write(z - 3, b"end")).growth, z as i64);
+    assert_eq!((bench.slots(0), bench.slots(1)), (vec![0, 1], vec![2]));
+    assert!(bench.disk[..3 * 16_384 - 3].iter().all(|&byte| byte == 0) && bench.disk[3 * 16_384..].iter().all(|&byte| byte == 7));
+    // swapped across sectors; the stage takes offset 2's sector first
+    let layout = Layout::default().write(z + 5, b"raisins").numbers("Swap", &[z + 4, z - 9, 9]).read(A, z - 9, 9);
+    assert_eq!(bench.run(A, &layout)[2].5, *b"\0raisins\0");
+    assert_eq!(bench.host.program.staged[..2], [1, 0]);
+    assert_eq!(bench.agree().answer, 0);
+    assert_eq!(bench.disk[16_384 - 9..16_384], *b"\0raisins\0");
+    assert_eq!(bench.run(A, &grow_of(z, &[1, 2, 3]))[2].0, 0);
+    assert_eq!(bench.agree().growth, z as i64);
+    assert_eq!(bench.run(B, &grow_of(z, &[2]))[0].0, 41);
+    bench.give_up();
+    assert_eq!(bench.run(A, &Layout::default().write(0, b"x").write(z, b"y").write(2 * z, b"z"))[2].0, 40);
+}
+
+/// "a host holding another is not in order": ahead of all other conditions, and of 2.
+fn damaged_sizes() {
+    let mut bench = bench(8, 4, &[A]);
+    assert_eq!(bench.open(A, &grow(&[1, 2]), BUDGET), 0);
+    for z in BAD_SIZES {
+        let mut host = bench.host.clone();
+        host.sector = z;
+        (host.disk_sectors, host.stage_sectors) = (u64::MAX, u64::MAX);
+        host.places[0].size = u64::MAX;
+        host.program.running = u64::MAX;
+        assert_eq!(host.disorder(), Some("sector size a power of two from 4,096 to 4,194,304"));
+        for mut host in [host, Host { sector: z, ..bench.host.clone() }] {
+            assert_eq!((host.form(&B), host.drop(&A), host.open(72, 7, PRICES, &[])), (1, 1, 1));
+            assert_eq!(host.piece(&[], &mut [], &mut [], &mut [], &[]), 1);
+            assert_eq!(host.interrupt(&[], &mut []), 1);
+            assert_eq!(host.reached(&[], &[]), (1, 0, [0; 32]));
+            assert_eq!((host.give_up(&[], &[]).answer, host.agree(&mut [], &[], 0, &[0; 32]).answer), (1, 1));
+        }
+    }
+    // another size that hosts have: in order, with other lengths to lend, and other edges
+    bench.give_up();
+    bench.run_and_commit(A, &grow(&[1, 2]).write(0, b"old"));
+    bench.host.sector = 8_192;
+    assert!(bench.host.in_order());
+    assert_eq!((bench.host.disk_length(), bench.host.reached(&bench.disk, &bench.stage).0), (65_536, 2));
+    bench.disk.resize(65_536, 0);
+    bench.stage.resize(32_768, 0);
+    assert_eq!(bench.run(A, &Layout::default().read(A, 4_090, 12))[0].0, 0);
+    bench.give_up();
+    bench.host.sector = 16_384;
+    assert_eq!(bench.host.disorder(), Some("sizes whole sectors"));
+}
+
+/// `N`, poke 25, and the report's sector size.
+fn sized_scripts() {
+    let fresh = |sector, disk, stage| calls::item_bytes(&Item::FreshOfSize { sector, disk, stage, fill: 7 });
+    let same = calls::item_bytes(&Item::Fresh { disk: 8_192, stage: 4_096, fill: 7 });
+    assert_eq!(calls::play(&fresh(4_096, 8_192, 4_096)), calls::play(&same));
+    let number = |out: &[u8], at: usize| u64::from_le_bytes(out[8 * at..8 * at + 8].try_into().unwrap());
+    // answer, then sector size, disk and stage sectors behind tally and growth
+    let first = |script: &[u8]| {
+        let out = calls::play(script);
+        [0, 3, 4, 5].map(|at| number(&out, at))
+    };
+    assert_eq!(first(&fresh(65_536, 262_144, 65_536)), [0, 65_536, 4, 1]);
+    assert_eq!(first(&fresh(4_194_304, 64 << 22, 16 << 22)), [0, 4_194_304, 64, 16]);
+    assert_eq!(first(&fresh(6_144, 12_288, 6_144)), [2, 0, 0, 0]);
+    assert_eq!(first(&fresh(8_192, 12_288, 8_192)), [2, 0, 0, 0]);
+    assert_eq!(first(&calls::item_bytes(&Item::Form { id: A })), [1, 0, 0, 0]);
+    // the areas are filled, whatever is answered
+    assert_eq!(calls::play(&fresh(1, 1, 1))[14 * 8 + 8..][..32], hash32(&[7; 262_144]));
+    // slots shown: size / sector size, at most 64, none where that is 0
+    let poke = |field, i, value| calls::item_bytes(&Item::Poke { field, i, j: 0, value });
+    for (sector, size, slots) in
+        [(4_096, 40_960, 10), (8_192, 40_960, 5), (16_384, 40_960, 2), (1, 40_960, 64), (0, 40_960, 0), (u64::MAX, u64::MAX, 1)]
+    {
+        let script = [fresh(4_096, 8_192, 4_096), poke(2, 0, 1), poke(4, 0, size)].concat();
+        let before = calls::play(&script).len();
+        let out = calls::play(&[script, poke(25, 0, sector)].concat());
+        assert_eq!(out.len() - before, 3 * 8 + 3 * 8 + 8 * 8 + 40 + 8 * slots + 8 + 4 * 32, "{sector}");
+        assert_eq!(number(&out[before..], 3), sector);
+    }
+    assert_eq!(calls::play(&poke(26, 0, 0)), Vec::<u8>::new());
+}
+
+/// "A proof may now cover 4,194,304 segments, and the checker's count limit rises to that."
+fn large_proofs() {
+    let most = 4_194_304u64;
+    // every segment alike, so that a level has one hash, or two where the last part is another
+    let segment = [5u8; 64];
+    let mut level = vec![hash32(&[&[0u8][..], &segment].concat())];
+    for _ in 0..22 {
+        let last = level[level.len() - 1];
+        level.push(hash32(&[&[1u8][..], &last, &last].concat()));
+    }
+    let root = level[22];
+    let bottom_up: Vec<u8> = level[..22].concat();
+    let top_down: Vec<u8> = level[..22].iter().rev().copied().collect::<Vec<_>>().concat();
+    assert!(tree::check(&root, most, 0, 1, &segment, &bottom_up));
+    assert!(tree::check(&root, most, most - 1, most, &segment, &top_down));
+    assert!(!tree::check(&root, most, 2, 3, &segment, &bottom_up));
+    assert!(!tree::check(&root, most, most, most + 1, &segment, &top_down));
+    assert!(!tree::check(&root, most / 2, 0, 1, &segment, &bottom_up));
+    // one above: the node of that tree and one more segment
+    let above = hash32(&[&[1u8][..], &root, &level[0]].concat());
+    assert!(!tree::check(&above, most + 1, most, most + 1, &segment, &root));
+    let below = hash32(&[&[1u8][..], &level[21], &level[0]].concat());
+    assert!(tree::check(&below, most / 2 + 1, most / 2, most / 2 + 1, &segment, &level[21]));
+    for count in [0, 1 << 32, 1 << 63, u64::MAX] {
+        assert!(!tree::check(&root, count, 0, 1, &segment, &bottom_up));
+        assert!(!tree::check(&root, most, count, 1, &segment, &bottom_up) || count == 0);
+        assert!(!tree::check(&root, most, 0, count, &segment, &bottom_up));
+    }
+    // a contract of two sectors of the largest size
+    let mut bytes = vec![0u8; 2 << 22];
+    bytes[123_456] = 1;
+    let (first, end) = (65_535, 65_537);
+    let hashes = tree::proof(&bytes, first, end).concat();
+    let root = tree::root(&bytes);
+    assert_eq!(hashes.len(), 32 * 32);
+    assert!(tree::check(&root, 131_072, first, end, &bytes[first as usize * 64..end as usize * 64], &hashes));
+}
+
+/// `k`: yes or no, and a tail of at most 131,072 bytes.
+fn checker_in_scripts() {
+    let said = |item: &Item| {
+        let out = calls::play(&calls::item_bytes(item));
+        assert_eq!(out.len(), 3 * 8 + 3 * 8 + 8 * 8 + 8 + 4 * 32);
+        out[0]
+    };
+    let tree = segments(5);
+    let (first, end) = (1, 3);
+    let hashes = tree::proof(&tree, first, end).concat();
+    let tail = [&tree[64..192], &hashes].concat();
+    let proof = |data: u64, tail: &[u8]| Item::Check { root: tree::root(&tree), count: 5, first, end, data, tail: tail.to_vec() };
+    assert_eq!(said(&proof(128, &tail)), 1);
+    assert_eq!(said(&proof(127, &tail)), 0);
+    assert_eq!(said(&proof(128, &[&tail[..], &[0]].concat())), 0);
+    assert_eq!(said(&proof(128, &tail[..tail.len() - 1])), 0);
+    assert_eq!(said(&proof(0, &[])), 0);
+    // malformed: a data length above the tail's, and a tail that is cut
+    assert_eq!(calls::play(&calls::item_bytes(&proof(tail.len() as u64 + 1, &tail))), Vec::<u8>::new());
+    let bytes = calls::item_bytes(&proof(128, &tail));
+    assert_eq!(calls::play(&bytes[..bytes.len() - 1]), Vec::<u8>::new());
+    // long tails, the last of which would be right
+    let long = segments(2_049);
+    let (root, tail) = (tree::root(&long[..131_072]), long[..131_072].to_vec());
+    assert_eq!(said(&Item::Check { root, count: 2_048, first: 0, end: 2_048, data: 131_072, tail }), 1);
+    let hashes = tree::proof(&long, 0, 2_048).concat();
+    assert!(tree::check(&tree::root(&long), 2_049, 0, 2_048, &long[..131_072], &hashes));
+    let tail = [&long[..131_072], &hashes].concat();
+    assert_eq!(said(&Item::Check { root: tree::root(&long), count: 2_049, first: 0, end: 2_048, data: 131_072, tail }), 0);
 }

@@ -10,6 +10,8 @@ thread_local! {
     static RECORDS: Counts<(&'static str, u64)> = Counts::default();
     static EVENTS: Counts<&'static str> = Counts::default();
     static DISORDERS: Counts<&'static str> = Counts::default();
+    /// Answers and record numbers by the host's sector size.
+    static SIZED: Counts<(u64, &'static str, u64)> = Counts::default();
 }
 
 pub fn answer(call: &'static str, number: u64) {
@@ -24,14 +26,20 @@ pub fn event(name: &'static str) {
     EVENTS.with(|counts| *counts.borrow_mut().entry(name).or_insert(0) += 1);
 }
 
+/// A call of this name, or an instruction, had this answer or record number on a host of this sector size.
+pub fn sized(sector: u64, name: &'static str, number: u64) {
+    SIZED.with(|counts| *counts.borrow_mut().entry((sector, name, number)).or_insert(0) += 1);
+}
+
 /// A call met a host of which this condition of order does not hold.
 pub fn disorder(condition: &'static str) {
     DISORDERS.with(|counts| *counts.borrow_mut().entry(condition).or_insert(0) += 1);
 }
 
 /// The answers that each call can give.
-const ANSWERS_POSSIBLE: [(&str, &[u64]); 12] = [
+const ANSWERS_POSSIBLE: [(&str, &[u64]); 14] = [
     ("fresh", &[0, 2]),
+    ("fresh of a size", &[0, 2]),
     ("form", &[0, 1, 3, 5, 6, 8, 15]),
     ("drop", &[0, 1, 3, 5, 7]),
     ("open", &[0, 1, 2, 3, 7, 9, 10, 11]),
@@ -41,6 +49,7 @@ const ANSWERS_POSSIBLE: [(&str, &[u64]); 12] = [
     ("agree", &[0, 1, 2, 4, 13, 14]),
     ("reached", &[0, 1, 2, 4]),
     ("poke", &[0]),
+    ("check", &[0, 1]),
     ("(malformed item)", &[0]),
     ("depot", &[0, 5, 6, 7, 8, 9, 10, 11, 12, 13, 15]),
 ];
@@ -56,7 +65,7 @@ const RECORDS_POSSIBLE: [(&str, &[u64]); 7] = [
     ("(unknown)", &[20, 21]),
 ];
 
-const EVENTS_POSSIBLE: [&str; 52] = [
+const EVENTS_POSSIBLE: [&str; 73] = [
     "Read of the parent",
     "Read of another contract",
     "ReadSector found in another contract",
@@ -109,9 +118,31 @@ const EVENTS_POSSIBLE: [&str; 52] = [
     "padded id held: committed",
     "padded id held: read by another program",
     "padded id held: dropped",
+    "Read across a 4,096 edge",
+    "ReadSector across a 4,096 edge",
+    "Write across a 4,096 edge",
+    "Copy to a span across a 4,096 edge",
+    "Copy from a span across a 4,096 edge",
+    "Swap of a span across a 4,096 edge",
+    "26: Truncate by 4,096, sectors are larger",
+    "26: Truncate by two sectors",
+    "host in order whose areas are longer than those that stand behind the script",
+    "k yes, one segment in all",
+    "k yes, count up to 4,096",
+    "k yes, count above 4,096",
+    "k yes, count 4,194,304",
+    "k yes, tail of 131,072 bytes",
+    "k no: root's length or count",
+    "k no: first < end <= count",
+    "k no: number of bytes",
+    "k no: hashes missing",
+    "k no: hash bytes left over",
+    "k no: another root",
+    "k no: right but for a tail above 131,072 bytes",
 ];
 
-const DISORDERS_POSSIBLE: [&str; 23] = [
+const DISORDERS_POSSIBLE: [&str; 24] = [
+    "sector size a power of two from 4,096 to 4,194,304",
     "disk length as above",
     "stage length as above",
     "ids differ",
@@ -143,6 +174,7 @@ pub fn clear() {
     RECORDS.with(|counts| counts.borrow_mut().clear());
     EVENTS.with(|counts| counts.borrow_mut().clear());
     DISORDERS.with(|counts| counts.borrow_mut().clear());
+    SIZED.with(|counts| counts.borrow_mut().clear());
 }
 
 /// The names of all that occurred.
@@ -152,8 +184,17 @@ pub fn reached() -> Vec<String> {
     RECORDS.with(|counts| all.extend(counts.borrow().keys().map(|(name, number)| format!("record {name} {number}"))));
     EVENTS.with(|counts| all.extend(counts.borrow().keys().map(|name| name.to_string())));
     DISORDERS.with(|counts| all.extend(counts.borrow().keys().map(|name| format!("not in order: {name}"))));
+    SIZED.with(|counts| {
+        let counts = counts.borrow();
+        let larger = counts.keys().filter(|(sector, _, _)| SIZES.contains(sector)).map(|(_, name, number)| (*name, *number));
+        let larger: std::collections::BTreeSet<(&str, u64)> = larger.collect();
+        all.extend(larger.iter().map(|(name, number)| format!("larger sectors: {name} {number}")));
+    });
     all
 }
+
+/// The sizes of hosts whose areas can stand behind a script, but for the least.
+const SIZES: [u64; 4] = [8_192, 16_384, 32_768, 65_536];
 
 /// Prints all counts; what could occur and did not is marked.
 pub fn print() {
@@ -165,6 +206,46 @@ pub fn print() {
     EVENTS.with(|counts| print_list(&EVENTS_POSSIBLE, &counts.borrow()));
     println!("calls on a host not in order, by the first condition that fails:");
     DISORDERS.with(|counts| print_list(&DISORDERS_POSSIBLE, &counts.borrow()));
+    println!("answers and record numbers by the host's sector size:");
+    SIZED.with(|counts| print_sized(&counts.borrow()));
+}
+
+/// A line for each size: how many calls were accepted and refused, how many instructions ran and failed; and what is missing.
+fn print_sized(counts: &BTreeMap<(u64, &'static str, u64), u64>) {
+    let is_call = |name: &str| ANSWERS_POSSIBLE.iter().any(|(call, _)| *call == name);
+    let sizes: std::collections::BTreeSet<u64> = counts.keys().map(|key| key.0).collect();
+    let mut others = [0; 4];
+    for sector in sizes {
+        let mut sums = [0; 4];
+        for ((_, name, number), count) in counts.iter().filter(|((size, _, _), _)| *size == sector) {
+            sums[if is_call(name) { 0 } else { 2 } + (*number != 0) as usize] += count;
+        }
+        if crate::host::size_taken(sector) {
+            println!(
+                "  {sector:>9}: calls done {}, refused {}; instructions run {}, failed {}",
+                sums[0], sums[1], sums[2], sums[3]
+            );
+        } else {
+            others = std::array::from_fn(|i| others[i] + sums[i]);
+        }
+    }
+    println!(
+        "     others: calls done {}, refused {}; instructions run {}, failed {}",
+        others[0], others[1], others[2], others[3]
+    );
+    let on_hosts = ["fresh of a size", "form", "drop", "open", "piece", "interrupt", "give up", "agree", "reached"];
+    for sector in SIZES {
+        let calls = ANSWERS_POSSIBLE.iter().filter(|(call, _)| on_hosts.contains(call));
+        let missing: Vec<String> = calls
+            .chain(&RECORDS_POSSIBLE)
+            .flat_map(|(name, numbers)| numbers.iter().map(move |number| (*name, *number)))
+            .filter(|(name, number)| {
+                (*name, *number) != ("fresh of a size", 2) && !counts.contains_key(&(sector, *name, *number))
+            })
+            .map(|(name, number)| format!("{name} {number}"))
+            .collect();
+        println!("  missing at {sector}: {}", if missing.is_empty() { "none".to_string() } else { missing.join(", ") });
+    }
 }
 
 fn print_table(possible: &[(&'static str, &[u64])], counts: &BTreeMap<(&'static str, u64), u64>) {

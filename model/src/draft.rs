@@ -1,12 +1,14 @@
 //! Random programs: mostly well-formed, with effects that later instructions see, and a share of damage.
 
 use crate::head::{self, filled, Head, Instruction, Operand};
-use crate::host::{Host, SECTOR};
+use crate::host::{Host, LEAST_SECTOR};
 use crate::random::Random;
 use crate::tree;
 
 /// What a program to be made can meet.
 pub struct Scene {
+    /// The host's sector size.
+    pub sector: u64,
     pub contract: [u8; 32],
     pub read_only: bool,
     /// The parent's bytes, its size, and how many sectors it can have.
@@ -40,22 +42,27 @@ enum Kind {
 const MOODS: [[u64; 6]; 5] =
     [[14, 10, 26, 14, 14, 22], [55, 20, 10, 3, 3, 9], [6, 2, 12, 5, 5, 70], [5, 2, 13, 35, 35, 10], [10, 10, 60, 5, 5, 10]];
 
+/// What stands on a host in order. Where the disk is shorter than the host's, none of its bytes are looked at.
 pub fn scene(host: &Host, disk: &[u8], contract: [u8; 32]) -> Scene {
+    let sector = host.sector;
     let read_only = contract == head::read_only_word();
     let parent = host.find(&contract);
     let held: Vec<usize> = (0..8).filter(|&p| host.places[p].held).collect();
-    let other_sectors: u64 = held.iter().filter(|&&p| Some(p) != parent).map(|&p| host.places[p].size / SECTOR).sum();
+    let other_sectors: u64 = held.iter().filter(|&&p| Some(p) != parent).map(|&p| host.places[p].size / sector).sum();
+    let seen = host.disk_length() <= disk.len() as u64;
     let mut roots = Vec::new();
-    for &place in &held {
-        for position in 0..host.places[place].size / SECTOR {
+    for &place in held.iter().filter(|_| seen) {
+        for position in 0..host.places[place].size / sector {
             roots.push(tree::root(host.committed_sector(disk, place, position)));
         }
     }
+    let parent_seen = parent.filter(|_| seen);
     Scene {
+        sector,
         contract,
         read_only,
-        bytes: parent.map_or(vec![], |p| host.committed_bytes(disk, p)),
-        size: parent.map_or(0, |p| host.places[p].size),
+        bytes: parent_seen.map_or(vec![], |p| host.committed_bytes(disk, p)),
+        size: parent_seen.map_or(0, |p| host.places[p].size),
         most_sectors: host.disk_sectors.saturating_sub(other_sectors),
         stage_sectors: host.stage_sectors,
         others: held.iter().filter(|&&p| Some(p) != parent).map(|&p| (host.places[p].id, host.places[p].size)).collect(),
@@ -109,19 +116,28 @@ pub fn program(random: &mut Random, scene: &Scene) -> (Head, Vec<u8>) {
 
 /// A program without a fault that grows the parent and fills the new sectors, to have something to read and change.
 pub fn filling_program(random: &mut Random, scene: &Scene, sectors: u64) -> (Head, Vec<u8>) {
-    let before = scene.size / SECTOR;
+    let sector_size = scene.sector;
+    let before = scene.size / sector_size;
     let mut steps = Vec::new();
     let mut step = |name: &str, inputs: Vec<Vec<u8>>| {
         steps.push(Step { name: filled(name.as_bytes()), inputs, proof: false });
     };
     for sector in before..before + sectors {
-        step("Truncate", vec![((sector + 1) * SECTOR).to_le_bytes().to_vec()]);
+        step("Truncate", vec![((sector + 1) * sector_size).to_le_bytes().to_vec()]);
     }
     for sector in before..before + sectors {
-        let length = random.pick(&[SECTOR, 100, 64]) as usize;
-        let data = contents(random, length);
-        let offset = sector * SECTOR + if length == SECTOR as usize { 0 } else { random.below(3000) };
-        step("Write", vec![offset.to_le_bytes().to_vec(), [&(length as u64).to_le_bytes()[..], &data].concat()]);
+        let whole = if sector_size <= 16_384 { sector_size } else { LEAST_SECTOR };
+        let length = random.pick(&[whole, 100, 64]);
+        let data = contents(random, length as usize);
+        let edge = random.below(sector_size / LEAST_SECTOR) * LEAST_SECTOR;
+        let inner = match random.below(3) {
+            _ if length == sector_size => 0,
+            0 if edge > 0 => edge - random.within(1, length - 1).min(edge),
+            1 => sector_size - length,
+            _ => random.below(3000.min(sector_size - length + 1)),
+        };
+        let offset = sector * sector_size + inner.min(sector_size - length);
+        step("Write", vec![offset.to_le_bytes().to_vec(), [&length.to_le_bytes()[..], &data].concat()]);
     }
     lay_out(random, scene.contract, &steps)
 }
@@ -138,17 +154,18 @@ pub fn still_program(random: &mut Random, scene: &Scene) -> (Head, Vec<u8>) {
     for _ in 0..random.within(0, 4) {
         let kind = random.below(6);
         if kind == 0 || scene.size == 0 {
-            let grows = scene.size / SECTOR < scene.most_sectors && random.chance(800);
+            let grows = scene.size / scene.sector < scene.most_sectors && random.chance(800);
             if grows {
-                step("Truncate", &[scene.size + SECTOR], None);
+                step("Truncate", &[scene.size + scene.sector], None);
             }
             step("Truncate", &[scene.size], None);
             continue;
         }
-        let first = random.below(scene.size / SECTOR) * SECTOR;
-        let second = random.below(scene.size / SECTOR) * SECTOR;
+        let first = random.below(scene.size / scene.sector) * scene.sector;
+        let second = random.below(scene.size / scene.sector) * scene.sector;
         let length = random.within(1, 100);
-        let (one, two) = (first + random.below(1900), second + 2000 + random.below(1900));
+        let half = scene.sector / 2;
+        let (one, two) = (first + random.below(half - 100), second + half + random.below(half - 100));
         let bytes = &scene.bytes[one as usize..(one + length) as usize];
         match kind {
             1 => {
@@ -217,26 +234,32 @@ impl Draft<'_> {
 
     /// An offset in a sector and a length; whole segments if a proof is to be had.
     fn inner_span(&mut self, segments: bool) -> (u64, u64) {
+        let z = self.scene.sector;
+        let larger = z > LEAST_SECTOR;
         let random = &mut *self.random;
-        if segments {
-            let first = random.below(64);
-            let end = if random.chance(300) { first + 1 } else { random.within(first + 1, 64) };
-            return if random.chance(150) { (0, SECTOR) } else { (first * 64, (end - first) * 64) };
+        if larger && random.chance(350) {
+            return across_an_edge(random, z, segments);
         }
-        match random.weighted(&[14, 14, 12, 34, 26]) {
-            0 => (0, SECTOR),
+        if segments {
+            let first = random.below(z / 64);
+            let most = (z / 64).min(first + 64);
+            let end = if random.chance(300) { first + 1 } else { random.within(first + 1, most) };
+            return if random.chance(if larger { 50 } else { 150 }) { (0, z) } else { (first * 64, (end - first) * 64) };
+        }
+        match random.weighted(&[if larger { 3 } else { 14 }, 14, 12, 34, 26]) {
+            0 => (0, z),
             1 => self.inner_span(true),
             2 => {
-                let from = random.below(SECTOR);
-                (from, SECTOR - from)
+                let from = if larger { z - random.within(1, 3_000) } else { random.below(z) };
+                (from, z - from)
             }
             3 => {
-                let from = random.below(SECTOR);
-                (from, random.within(1, 8.min(SECTOR - from)))
+                let from = random.below(z);
+                (from, random.within(1, 8.min(z - from)))
             }
             _ => {
-                let from = random.below(SECTOR);
-                (from, random.within(1, 300.min(SECTOR - from)))
+                let from = random.below(z);
+                (from, random.within(1, 300.min(z - from)))
             }
         }
     }
@@ -246,12 +269,12 @@ impl Draft<'_> {
         let (inner, length) = self.inner_span(segments);
         let random = &mut *self.random;
         if random.chance(12) {
-            return bad_span(random, size);
+            return bad_span(random, self.scene.sector, size);
         }
         if size == 0 {
             return (inner, length);
         }
-        (random.below(size / SECTOR) * SECTOR + inner, length)
+        (random.below(size / self.scene.sector) * self.scene.sector + inner, length)
     }
 
     /// Whole segments if a proof is asked; now and then only one of offset and length is a multiple of 64.
@@ -275,15 +298,15 @@ impl Draft<'_> {
         match self.random.weighted(&[500, 460, 20, 8, 12]) {
             1 if !filled_ones.is_empty() => self.random.pick(&filled_ones),
             2 if !self.scene.others.is_empty() => self.random.pick(&self.scene.others),
-            3 => (head::read_only_word(), SECTOR),
-            4 => (near(self.random, self.scene.contract), SECTOR),
+            3 => (head::read_only_word(), self.scene.sector),
+            4 => (near(self.random, self.scene.contract), self.scene.sector),
             _ if self.scene.read_only && !filled_ones.is_empty() => self.random.pick(&filled_ones),
             _ => (self.scene.contract, self.size),
         }
     }
 
     fn read_sector(&mut self, proof: bool) -> Vec<Vec<u8>> {
-        let (offset, length) = self.span_to_read(SECTOR, proof);
+        let (offset, length) = self.span_to_read(self.scene.sector, proof);
         let real = !self.scene.roots.is_empty();
         let root = match self.random.weighted(&[900, 40, 15, 10]) {
             0 if real => self.random.pick(&self.scene.roots),
@@ -292,14 +315,14 @@ impl Draft<'_> {
                 near(self.random, root)
             }
             2 => self.random.bytes(32).try_into().unwrap(),
-            _ => tree::root(&[0; 4096]),
+            _ => tree::root(&vec![0; self.scene.sector as usize]),
         };
         vec![root.to_vec(), self.number(offset), self.number(length)]
     }
 
     /// A position to write to: mostly one that has a copy or can get one.
     fn position(&mut self) -> u64 {
-        let positions = (self.size / SECTOR).max(1);
+        let positions = (self.size / self.scene.sector).max(1);
         let position = self.random.below(positions);
         if self.has_room(position) || self.random.chance(250) {
             return position;
@@ -315,10 +338,13 @@ impl Draft<'_> {
     fn write(&mut self) -> Vec<Vec<u8>> {
         let (mut offset, mut length) = self.inner_span(false);
         let position = self.position();
-        offset += position * SECTOR;
+        offset += position * self.scene.sector;
         if self.random.chance(15) {
-            (offset, length) = bad_span(self.random, self.size);
+            (offset, length) = bad_span(self.random, self.scene.sector, self.size);
             length = length.min(5000);
+        }
+        if length > 9_000 && (length > head::MOST_DECLARED || self.random.chance(800)) {
+            length = self.random.within(1, 300);
         }
         self.staged[position as usize] |= self.has_room(position);
         let data = contents(self.random, length as usize);
@@ -336,15 +362,15 @@ impl Draft<'_> {
         }
         let other_inner = if self.random.chance(600) {
             let reach = length.min(20);
-            (inner + self.random.below(2 * reach + 1)).saturating_sub(reach).min(SECTOR - length)
+            (inner + self.random.below(2 * reach + 1)).saturating_sub(reach).min(self.scene.sector - length)
         } else {
-            self.random.below(SECTOR - length + 1)
+            self.random.below(self.scene.sector - length + 1)
         };
-        let mut offsets = [first * SECTOR + inner, second * SECTOR + other_inner];
+        let mut offsets = [first * self.scene.sector + inner, second * self.scene.sector + other_inner];
         let mut length = length;
         if self.random.chance(15) {
             let which = self.random.below(2) as usize;
-            (offsets[which], length) = bad_span(self.random, self.size);
+            (offsets[which], length) = bad_span(self.random, self.scene.sector, self.size);
         }
         if self.random.chance(300) && both_written {
             offsets.swap(0, 1);
@@ -354,11 +380,23 @@ impl Draft<'_> {
 
     fn truncate(&mut self) -> Vec<Vec<u8>> {
         if self.random.chance(35) {
-            let bad = [self.size + 1, self.size + 2 * SECTOR, 4095, self.size.wrapping_sub(2 * SECTOR), u64::MAX - 4095, 1 << 63];
+            let (now, z) = (self.size, self.scene.sector);
+            let bad = [
+                now + 1,
+                now + 2 * z,
+                z - 1,
+                now.wrapping_sub(2 * z),
+                u64::MAX - 4095,
+                1 << 63,
+                now + LEAST_SECTOR,
+                now.wrapping_sub(LEAST_SECTOR),
+                now + z / 2,
+                LEAST_SECTOR,
+            ];
             let size = self.random.pick(&bad);
             return vec![self.number(size)];
         }
-        let sectors = self.size / SECTOR;
+        let sectors = self.size / self.scene.sector;
         let can_grow = sectors < self.scene.most_sectors && self.has_room(sectors.min(64));
         let up = if can_grow && sectors == 0 {
             self.random.chance(900)
@@ -377,10 +415,20 @@ impl Draft<'_> {
             self.staged[sectors as usize] = true;
         }
         if sectors_after <= sectors || can_grow {
-            self.size = sectors_after * SECTOR;
+            self.size = sectors_after * self.scene.sector;
         }
-        vec![self.number(sectors_after * SECTOR)]
+        vec![self.number(sectors_after * self.scene.sector)]
     }
+}
+
+/// A span in a sector of a larger size that goes across an edge of 4,096 bytes, or ends or starts at one.
+fn across_an_edge(random: &mut Random, z: u64, segments: bool) -> (u64, u64) {
+    let edge = random.within(1, z / LEAST_SECTOR - 1) * LEAST_SECTOR;
+    let unit = if segments { 64 } else { 1 };
+    let most = if segments { 20 } else { random.pick(&[8, 8, 300, 4_096]) };
+    let (before, after) = (random.below(most + 1).min(edge / unit), random.below(most + 1));
+    let length = (before + after).max(1);
+    (edge - before * unit, length * unit)
 }
 
 fn word(kind: Kind) -> &'static str {
@@ -395,7 +443,7 @@ fn word(kind: Kind) -> &'static str {
 }
 
 /// Length 0, past the end, across an edge, or offset plus length that wraps.
-fn bad_span(random: &mut Random, size: u64) -> (u64, u64) {
+fn bad_span(random: &mut Random, z: u64, size: u64) -> (u64, u64) {
     let some_offset = random.below(size.max(1));
     let from_edge = random.within(1, 100);
     let near_end = size.saturating_sub(random.below(3));
@@ -403,10 +451,10 @@ fn bad_span(random: &mut Random, size: u64) -> (u64, u64) {
         (some_offset, 0),
         (size, 1),
         (near_end, 4),
-        (SECTOR - from_edge, from_edge + 1),
-        (SECTOR - from_edge, from_edge),
-        (0, SECTOR + 1),
-        (64, SECTOR),
+        (z - from_edge, from_edge + 1),
+        (z - from_edge, from_edge),
+        (0, z + 1),
+        (64, z),
         (u64::MAX, 1),
         (u64::MAX - 63, 64),
         (u64::MAX - 10, 20),

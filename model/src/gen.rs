@@ -4,8 +4,9 @@ use crate::calls::{self, Answered, Item, Player};
 use crate::depot;
 use crate::draft;
 use crate::head;
-use crate::host::{self, Host, NONE, SECTOR};
+use crate::host::{self, Host, LEAST_SECTOR, MOST_SECTOR, NONE};
 use crate::random::{seeded, Random};
+use crate::tree;
 
 /// An input with the program that it is for.
 pub struct Input {
@@ -69,8 +70,16 @@ fn prices(random: &mut Random) -> [u16; 7] {
     }
 }
 
+/// Whether the areas behind a script are long enough for the host, which is in order.
+fn fits(host: &Host) -> bool {
+    host.disk_length() <= calls::DISK as u64 && host.stage_length() <= calls::STAGE as u64
+}
+
 /// Where a program would stand with all the budget and room there can be: the cost and length of each of its records.
 fn dry_run(host: &Host, disk: &[u8], prices: [u16; 7], head: &[u8], data: &[u8]) -> Vec<(u64, u64)> {
+    if !fits(host) {
+        return vec![];
+    }
     let mut host = host.clone();
     let mut stage = vec![0u8; host.stage_length() as usize];
     let mut output = vec![0u8; 65_536];
@@ -135,7 +144,7 @@ fn output_length(random: &mut Random, records: &[(u64, u64)]) -> u64 {
 // Inputs of `depot`
 
 fn depot_input(random: &mut Random) -> Vec<u8> {
-    let (_, mut host) = host::fresh(depot::DISK, depot::STAGE);
+    let (_, mut host) = host::fresh(depot::SECTOR, depot::DISK, depot::STAGE);
     let disk = vec![0u8; depot::DISK as usize];
     let mut formed = Vec::new();
     let count = random.weighted(&[6, 48, 20, 10, 6, 4, 3, 2, 2, 3]);
@@ -203,11 +212,17 @@ fn script(random: &mut Random) -> Vec<u8> {
     if script.random.chance(10) {
         script.noise();
     }
+    if script.random.chance(10) {
+        script.check();
+    }
     if script.random.chance(6) {
         script.fill_a_disk();
     } else {
         script.fresh();
         script.form_some();
+        if pokes && script.random.chance(250) {
+            script.poke_size();
+        }
         script.hold_some();
         script.fill_some();
         for _ in 0..script.random.within(2, 6) {
@@ -238,7 +253,7 @@ fn damage_script(random: &mut Random, bytes: &mut Vec<u8>) {
 /// An item with a length above the area's, an index out of range, or a value that does not fit.
 fn malformed_item(random: &mut Random) -> Vec<u8> {
     let poke = |field, i, j, value| Item::Poke { field, i, j, value };
-    let item = match random.below(16) {
+    let item = match random.below(18) {
         0 => Item::Piece { disk: 262_145, stage: 0, input: 0, output: 0, piece: vec![] },
         1 => Item::Piece { disk: 0, stage: 65_537, input: 0, output: 0, piece: vec![] },
         2 => Item::Piece { disk: 0, stage: 0, input: 65_537, output: 0, piece: vec![] },
@@ -247,13 +262,15 @@ fn malformed_item(random: &mut Random) -> Vec<u8> {
         5 => Item::GiveUp { disk: 4096, stage: 65_537 },
         6 => Item::Agree { disk: 262_145, stage: 4096, size: 0, root: [0; 32] },
         7 => Item::Reached { disk: 4096, stage: 1 << 63 },
-        8 => poke(25, 0, 0, 0),
+        8 => poke(26, 0, 0, 0),
         9 => poke(24, 7, 0, 0),
         10 => poke(24, 0, 0, 65_536),
         11 => poke(5, 8, 0, 0),
         12 => poke(5, 0, 64, 0),
         13 => poke(21, 0, 4, 0),
         14 => poke(random.pick(&[2, 6, 11, 23]), 0, 0, 2),
+        15 => Item::Check { root: [0; 32], count: 1, first: 0, end: 1, data: 65, tail: vec![0; 64] },
+        16 => Item::Check { root: [0; 32], count: 1, first: 0, end: 1, data: u64::MAX, tail: vec![0; 64] },
         _ => poke(random.pick(&[3, 16, 19]), 0, 0, 256),
     };
     calls::item_bytes(&item)
@@ -265,7 +282,12 @@ impl Script<'_> {
         self.player.make(&item)
     }
 
+    /// A host that the script's areas fit: mostly of the least sectors, often of larger ones.
     fn fresh(&mut self) {
+        if self.random.chance(30) {
+            self.fresh_in_vain();
+        }
+        let z = [4_096, 8_192, 16_384, 32_768, 65_536][self.random.weighted(&[58, 15, 13, 8, 6])];
         let disk = match self.random.weighted(&[60, 25, 12, 3]) {
             0 => self.random.within(3, 9),
             1 => self.random.within(1, 4),
@@ -275,14 +297,54 @@ impl Script<'_> {
         let most_stage = self.random.pick(&[2, 5, 5, 16]);
         let stage = self.random.within(1, most_stage);
         let fill = self.random.pick(&[0u8, 0xEE, 1]);
-        if self.random.chance(15) {
-            let bad = [0, 1, 4095, 4097, 65 * SECTOR, 17 * SECTOR, u64::MAX, 1 << 44];
-            let (disk, stage) =
-                if self.random.chance(500) { (self.random.pick(&bad), SECTOR) } else { (SECTOR, self.random.pick(&bad)) };
-            self.push(Item::Fresh { disk, stage, fill });
+        let (disk, stage) = (disk.min(calls::DISK as u64 / z) * z, stage.min(calls::STAGE as u64 / z) * z);
+        if self.random.chance(25) {
+            let bad = [0, 1, z - 1, z + 1, z / 2, 65 * z, 17 * z, u64::MAX, 1 << 44];
+            let (disk, stage) = if self.random.chance(500) { (self.random.pick(&bad), z) } else { (z, self.random.pick(&bad)) };
+            self.make_host(z, disk, stage, fill);
             self.noise();
         }
-        self.push(Item::Fresh { disk: disk * SECTOR, stage: stage * SECTOR, fill });
+        self.make_host(z, disk, stage, fill);
+    }
+
+    fn make_host(&mut self, sector: u64, disk: u64, stage: u64, fill: u8) {
+        if sector == depot::SECTOR && self.random.chance(750) {
+            self.push(Item::Fresh { disk, stage, fill });
+        } else {
+            self.push(Item::FreshOfSize { sector, disk, stage, fill });
+        }
+    }
+
+    /// A sector size that no host has, or sectors so large that the script's areas do not fit; then calls, which are refused but for
+    /// those that lend no area.
+    fn fresh_in_vain(&mut self) {
+        let fill = self.random.pick(&[0u8, 0xEE, 1]);
+        let z = if self.random.chance(500) { some_bad_size(self.random) } else { 1 << self.random.within(17, 22) };
+        let sectors = |n: u64| n.saturating_mul(z);
+        let least = [LEAST_SECTOR, 2 * LEAST_SECTOR, 16 * LEAST_SECTOR];
+        let (disk, stage) = match self.random.below(6) {
+            0 => (self.random.pick(&least), self.random.pick(&least)),
+            1 => (sectors(self.random.pick(&[0, 64, 65])), sectors(self.random.pick(&[1, 16, 17]))),
+            2 => (sectors(2) ^ 1, sectors(1)),
+            3 => (sectors(2), sectors(3) / 2),
+            _ => (sectors(self.random.within(1, 64)), sectors(self.random.within(1, 16))),
+        };
+        self.push(Item::FreshOfSize { sector: z, disk, stage, fill });
+        self.form_some();
+        for _ in 0..self.random.below(4) {
+            self.noise();
+        }
+        if self.player.host.in_order() && self.random.chance(600) {
+            self.program();
+        }
+        if self.random.chance(300) {
+            let value = self.random.pick(&[LEAST_SECTOR, 2 * LEAST_SECTOR, MOST_SECTOR]);
+            self.push(Item::Poke { field: 25, i: 0, j: 0, value });
+            self.noise();
+        }
+        if self.player.host.in_order() && self.random.chance(300) {
+            self.program();
+        }
     }
 
     fn form_some(&mut self) {
@@ -318,7 +380,7 @@ impl Script<'_> {
             for (j, &slot) in slots.iter().enumerate() {
                 self.push(Item::Poke { field: 5, i: place, j: j as u64, value: slot });
             }
-            self.push(Item::Poke { field: 4, i: place, j: 0, value: slots.len() as u64 * SECTOR });
+            self.push(Item::Poke { field: 4, i: place, j: 0, value: slots.len() as u64 * self.player.host.sector });
         }
         self.push(Item::Poke { field: 2, i: place, j: 0, value: 1 });
     }
@@ -369,8 +431,8 @@ impl Script<'_> {
         let host = &self.player.host;
         let program = &host.program;
         [
-            host.disk_sectors.min(64) * SECTOR,
-            host.stage_sectors.min(16) * SECTOR,
+            host.disk_sectors.saturating_mul(host.sector).min(calls::DISK as u64),
+            host.stage_sectors.saturating_mul(host.sector).min(calls::STAGE as u64),
             if program.open { program.head.declared.min(65_536) } else { 0 },
             if program.open { program.output_length.min(65_536) } else { 0 },
         ]
@@ -380,10 +442,13 @@ impl Script<'_> {
     fn lengths(&mut self, wrong_of_1000: u64) -> [u64; 4] {
         let mut lengths = self.right_lengths();
         if self.random.chance(wrong_of_1000) {
+            let host = &self.player.host;
+            let z = if host::size_taken(host.sector) { host.sector } else { LEAST_SECTOR };
             let which = self.random.below(4) as usize;
             let right = lengths[which];
             let most = [262_144, 65_536, 65_536, 65_536][which];
-            let wrong = [right + 1, right.saturating_sub(1), right + SECTOR, right.saturating_sub(SECTOR), 0, most];
+            let by_4096 = [host.disk_sectors, host.stage_sectors, 1, 1][which].saturating_mul(LEAST_SECTOR);
+            let wrong = [right + 1, right.saturating_sub(1), right + z, right.saturating_sub(z), 0, most, by_4096];
             lengths[which] = self.random.pick(&wrong).min(most);
         }
         lengths
@@ -423,11 +488,14 @@ impl Script<'_> {
         let (_, mut size, mut root) =
             self.player.host.reached(&self.player.disk[..right[0] as usize], &self.player.stage[..right[1] as usize]);
         if self.random.chance(wrong_of_1000) {
+            let host = &self.player.host;
             match self.random.below(5) {
-                0 => size = size.wrapping_add(SECTOR),
+                0 => size = size.wrapping_add(host.sector),
                 1 => size = self.random.pick(&[0, size ^ 1, u64::MAX]),
                 2 => root[31] ^= 1,
-                3 => (size, root) = self.player.host.starting_pair(&self.player.disk[..right[0] as usize]),
+                3 if host.in_order() && fits(host) => {
+                    (size, root) = host.starting_pair(&self.player.disk[..right[0] as usize]);
+                }
                 _ => root = [0; 32],
             }
         }
@@ -479,6 +547,9 @@ impl Script<'_> {
         }
         if self.pokes && self.random.chance(300) {
             self.poke();
+        }
+        if self.random.chance(25) {
+            self.check();
         }
     }
 
@@ -535,6 +606,9 @@ impl Script<'_> {
         self.send(&data);
         if self.random.chance(60) {
             self.interrupt();
+        }
+        if self.random.chance(250) {
+            self.check_what_was_read();
         }
         if self.random.chance(200) {
             self.reached();
@@ -611,6 +685,7 @@ impl Script<'_> {
 
     /// A disk of 64 sectors, filled by one contract in steps of 16, and one step more.
     fn fill_a_disk(&mut self) {
+        const SECTOR: u64 = depot::SECTOR;
         self.push(Item::Fresh { disk: 64 * SECTOR, stage: 16 * SECTOR, fill: 5 });
         self.push(Item::Form { id: [0x11; 32] });
         for step in 0..5u64 {
@@ -643,14 +718,67 @@ impl Script<'_> {
             self.push(Item::Poke { field, i, j, value });
             put_back.push(Item::Poke { field, i, j, value: before });
         }
-        let in_order = self.player.host.in_order();
+        let usable = self.player.host.in_order() && fits(&self.player.host);
         for _ in 0..self.random.below(3) {
             self.harmless_call();
         }
-        if self.random.chance(if in_order { 300 } else { 930 }) {
+        if self.random.chance(if usable { 300 } else { 930 }) {
             for item in put_back.into_iter().rev() {
                 self.push(item);
             }
+        }
+    }
+
+    /// Another sector size while no contract holds a sector, mostly one that no host has, so that no other condition of order fails;
+    /// then calls, and the size as it was.
+    fn poke_size(&mut self) {
+        let before = self.player.host.sector;
+        let value = if self.random.chance(750) { some_bad_size(self.random) } else { 1 << self.random.within(12, 22) };
+        self.push(Item::Poke { field: 25, i: 0, j: 0, value });
+        for _ in 0..self.random.within(1, 3) {
+            match self.random.below(4) {
+                0 => {
+                    let id = some_id(self.random);
+                    self.push(Item::Form { id });
+                }
+                1 => {
+                    let head = head::Head { contract: head::read_only_word(), ..head::Head::default() };
+                    self.push(Item::Open { output_length: 72, budget: 9, prices: [7; 7], head: head::encoded(&head) });
+                }
+                _ => self.noise(),
+            }
+        }
+        self.push(Item::Poke { field: 25, i: 0, j: 0, value: before });
+        if self.player.host.program.open {
+            self.give_up();
+        }
+    }
+
+    // Proofs for the checker
+
+    /// A proof of a tree made up for it, right or with something wrong.
+    fn check(&mut self) {
+        let long = self.random.chance(12);
+        let mut proof = if long {
+            long_proof(self.random)
+        } else if self.random.chance(450) {
+            sparse_proof(self.random)
+        } else {
+            small_proof(self.random)
+        };
+        if !long && self.random.chance(500) {
+            damage_proof(self.random, &mut proof);
+        }
+        self.push(proof.item());
+    }
+
+    /// The proofs that stand in the open program's records, some of them damaged.
+    fn check_what_was_read(&mut self) {
+        for mut proof in proofs_read(&self.player).into_iter().take(2) {
+            if self.random.chance(300) {
+                damage_proof(self.random, &mut proof);
+            }
+            self.push(proof.item());
         }
     }
 
@@ -683,11 +811,13 @@ impl Script<'_> {
     fn some_pokes(&mut self) -> Vec<(u64, u64, u64, u64)> {
         let host = &self.player.host;
         let staged: Vec<usize> = (0..64).filter(|&p| host.program.staged[p] != NONE).collect();
-        match self.random.below(12) {
-            0 if host.program.open && host.read_only_mode() => vec![(12, 0, 0, SECTOR), (13, 0, 0, 0)],
+        match self.random.below(14) {
+            0 if host.program.open && host.read_only_mode() => vec![(12, 0, 0, host.sector), (13, 0, 0, 0)],
             1 => vec![(0, 0, 0, slots_used(host))],
             2 if host.program.open && staged.len() > 1 => vec![(13, staged[0] as u64, 0, host.program.staged[staged[1]] as u64)],
             3 if host.program.open && host.ended() => vec![(11, 0, 0, 1)],
+            4 => vec![(25, 0, 0, self.random.pick(&[host.sector / 2, host.sector.wrapping_mul(2)]))],
+            5 => vec![(25, 0, 0, some_bad_size(self.random))],
             _ => (0..self.random.pick(&[1, 1, 1, 2, 3])).map(|_| self.some_poke()).collect(),
         }
     }
@@ -697,7 +827,7 @@ impl Script<'_> {
         let host = self.player.host.clone();
         let program = &host.program;
         let random = &mut *self.random;
-        let field = if program.open { random.below(25) } else { random.pick(&[0, 1, 2, 2, 3, 3, 4, 4, 5, 5, 6]) };
+        let field = if program.open { random.below(26) } else { random.pick(&[0, 1, 2, 2, 3, 3, 4, 4, 5, 5, 6, 25]) };
         let anywhere = random.chance(150);
         let i = match field {
             2..=5 => random.below(if anywhere { 8 } else { 3 }),
@@ -741,6 +871,7 @@ fn poke_value(random: &mut Random, host: &Host, field: u64, now: u64) -> u64 {
     let program = &host.program;
     let declared = program.head.declared;
     let length = program.output_length;
+    let z = if host::size_taken(host.sector) { host.sector } else { LEAST_SECTOR };
     let choices: Vec<u64> = match field {
         0 => vec![0, 1, slots_used(host), slots_used(host), 8, now.wrapping_add(1), now.saturating_sub(1), 64, 65],
         1 => vec![0, 1, 2, now.wrapping_add(1), now.saturating_sub(1), 16, 17],
@@ -748,14 +879,15 @@ fn poke_value(random: &mut Random, host: &Host, field: u64, now: u64) -> u64 {
         3 | 16 => vec![now ^ 1, 0x10, 0x11, 0, 0x22],
         4 | 12 => vec![
             0,
-            SECTOR,
-            now.wrapping_add(SECTOR),
-            now.wrapping_sub(SECTOR),
+            z,
+            now.wrapping_add(z),
+            now.wrapping_sub(z),
             now.wrapping_add(1),
             now.wrapping_sub(1),
-            64 * SECTOR,
-            65 * SECTOR,
+            64 * z,
+            65 * z,
             1 << 63,
+            now.wrapping_add(LEAST_SECTOR),
         ],
         5 => vec![0, 1, 2, 3, 4, 5, host.disk_sectors & 255, 255],
         7 => vec![0, declared, declared.wrapping_add(1), random.below(declared.saturating_add(1))],
@@ -789,6 +921,7 @@ fn poke_value(random: &mut Random, host: &Host, field: u64, now: u64) -> u64 {
         21 => vec![0, 8, now.wrapping_add(1), declared, declared.wrapping_add(1), u64::MAX],
         22 => vec![0, 8, 32, now.wrapping_add(1), declared, u64::MAX],
         24 => vec![0, 1, 65_535],
+        25 => vec![0, 1, z / 2, z * 2, z * 4, z + 1, LEAST_SECTOR, MOST_SECTOR, some_bad_size(random)],
         _ => vec![0],
     };
     random.pick(&choices)
@@ -797,6 +930,156 @@ fn poke_value(random: &mut Random, host: &Host, field: u64, now: u64) -> u64 {
 /// The least number of disk slots that holds all that are used.
 fn slots_used(host: &Host) -> u64 {
     let held = host.places.iter().filter(|place| place.held);
-    let slots = held.flat_map(|place| place.slots[..(place.size / SECTOR).min(64) as usize].to_vec());
+    let positions = |size: u64| size.checked_div(host.sector).unwrap_or(0).min(64) as usize;
+    let slots = held.flat_map(|place| place.slots[..positions(place.size)].to_vec());
     slots.map(|slot| slot as u64 + 1).max().unwrap_or(1)
+}
+
+/// A sector size that no host has: 0, too small, too large, or no power of two.
+fn some_bad_size(random: &mut Random) -> u64 {
+    random.pick(&[0, 1, 64, 2_048, 4_095, 4_097, 6_144, 12_288, 4_194_305, 6_291_456, 1 << 23, 1 << 32, 1 << 63, u64::MAX])
+}
+
+/// What the checker is given.
+struct Proof {
+    root: [u8; 32],
+    count: u64,
+    first: u64,
+    end: u64,
+    bytes: Vec<u8>,
+    hashes: Vec<u8>,
+}
+
+impl Proof {
+    fn item(&self) -> Item {
+        let Proof { root, count, first, end, ref bytes, ref hashes } = *self;
+        Item::Check { root, count, first, end, data: bytes.len() as u64, tail: [&bytes[..], hashes].concat() }
+    }
+}
+
+/// A range of at most so many segments among so many.
+fn some_range(random: &mut Random, count: u64, most: u64) -> (u64, u64) {
+    let length = random.within(1, most.min(count));
+    let last = count - length;
+    let inside = random.within(0, last);
+    let first = random.pick(&[0, last, inside, inside]);
+    (first, first + length)
+}
+
+/// The proof of a range of a few segments.
+fn small_proof(random: &mut Random) -> Proof {
+    let count = match random.weighted(&[10, 60, 25, 5]) {
+        0 => 1,
+        1 => random.within(2, 20),
+        2 => random.within(20, 70),
+        _ => random.within(70, 200),
+    };
+    let tree = random.bytes(count as usize * 64);
+    let most = random.pick(&[1, 3, 8, count]);
+    let (first, end) = some_range(random, count, most);
+    let hashes = tree::proof(&tree, first, end).concat();
+    let bytes = tree[first as usize * 64..end as usize * 64].to_vec();
+    Proof { root: tree::root(&tree), count, first, end, bytes, hashes }
+}
+
+/// The proof of a range among up to 4,194,304 segments: the roots of the parts outside it are made up, and the root follows from them.
+fn sparse_proof(random: &mut Random) -> Proof {
+    let count = match random.weighted(&[30, 25, 25, 15, 5]) {
+        0 => tree::MOST_SEGMENTS,
+        1 => 1 << random.within(7, 21),
+        2 => random.within(1, 64) * 65_536,
+        3 => random.within(200, tree::MOST_SEGMENTS),
+        _ => tree::MOST_SEGMENTS + random.pick(&[1, 1, 65_536]),
+    };
+    let most = random.pick(&[1, 1, 4, 20]);
+    let (first, end) = some_range(random, count, most);
+    let bytes = random.bytes((end - first) as usize * 64);
+    let enough = random.bytes(64 * 32);
+    let mut rest = &enough[..];
+    let root = tree::rebuilt(count, first, end, &bytes, &mut rest).unwrap();
+    let hashes = enough[..enough.len() - rest.len()].to_vec();
+    Proof { root, count, first, end, bytes, hashes }
+}
+
+/// A tail of 131,072 bytes, and longer ones: of a byte more, and of a hash more, which would be right.
+fn long_proof(random: &mut Random) -> Proof {
+    let mut bytes = vec![random.next() as u8; calls::MOST_TAIL];
+    let end = bytes.len() as u64 / 64;
+    let (count, hashes) = random.pick(&[(end, vec![]), (end + 1, vec![7; 32])]);
+    let root = tree::rebuilt(count, 0, end, &bytes, &mut &hashes[..]).unwrap();
+    if random.chance(300) {
+        bytes.push(0);
+    }
+    Proof { root, count, first: 0, end, bytes, hashes }
+}
+
+fn flip(random: &mut Random, bytes: &mut [u8]) {
+    let at = random.below(bytes.len() as u64) as usize;
+    bytes[at] ^= 1 << random.below(8);
+}
+
+/// Something wrong; now and then it makes no difference.
+fn damage_proof(random: &mut Random, proof: &mut Proof) {
+    let Proof { root, count, first, end, bytes, hashes } = proof;
+    match random.below(17) {
+        0 => root[random.pick(&[0, 15, 31, 31])] ^= 1 << random.below(8),
+        1 => *first = random.pick(&[*first + 1, first.wrapping_sub(1), *end, *end + 1, u64::MAX]),
+        2 => *end = random.pick(&[*end + 1, *end - 1, *first, 0, *count + 1, u64::MAX]),
+        3 => (*first, *end) = random.pick(&[(*first + 1, *end + 1), (*end, *first), (*first ^ 1, (*first ^ 1) + *end - *first)]),
+        4 => *count = random.pick(&[*count + 1, *count - 1, *count * 2, *end]),
+        5 => *count = random.pick(&[0, 4_194_304, 4_194_305, 8_388_608, 1 << 63, u64::MAX]),
+        6 => drop(bytes.pop()),
+        7 => bytes.push(0),
+        8 => bytes.truncate(bytes.len() - 64),
+        9 => bytes.extend([0; 64]),
+        10 => hashes.extend(random.bytes(32)),
+        11 => hashes.truncate(hashes.len().saturating_sub(32)),
+        12 => hashes.push(0),
+        13 => drop(hashes.pop()),
+        14 if !hashes.is_empty() => flip(random, hashes),
+        // the hashes in another order
+        15 if hashes.len() > 32 => hashes.rotate_left(32),
+        _ => flip(random, bytes),
+    }
+}
+
+/// The proofs of what the open program has read: a Read of its parent, whose root and size stand in the record, or a ReadSector.
+fn proofs_read(player: &Player) -> Vec<Proof> {
+    let (host, program) = (&player.host, &player.host.program);
+    if !host.in_order() || !program.open {
+        return vec![];
+    }
+    let mut reader = head::Reader { rest: &player.output[..program.written as usize] };
+    let instructions = &program.head.instructions[..program.head.count as usize];
+    instructions.iter().map_while(|instruction| proof_read(host, &player.input, instruction, &mut reader)).flatten().collect()
+}
+
+/// The proof in the next record, if it has one of those; none where there is no record.
+fn proof_read(host: &Host, input: &[u8], instruction: &head::Instruction, reader: &mut head::Reader) -> Option<Option<Proof>> {
+    let (number, _, size) = (reader.number().ok()?, reader.number().ok()?, reader.number().ok()?);
+    let mut root: [u8; 32] = reader.array().ok()?;
+    let hash_bytes = reader.number().ok()?.checked_mul(32)?;
+    let hashes = reader.bytes(hash_bytes).ok()?.to_vec();
+    let length = reader.number().ok()?;
+    let bytes = reader.bytes(length).ok()?.to_vec();
+    let part = |i: usize| {
+        let operand = instruction.operands[i];
+        let end = operand.offset.checked_add(operand.length)?;
+        input.get(operand.offset as usize..end as usize)
+    };
+    if number != 0 || !instruction.proof || bytes.is_empty() {
+        return Some(None);
+    }
+    let (Some(of), Some(offset)) = (part(0), part(1).and_then(|part| part.try_into().ok())) else {
+        return Some(None);
+    };
+    let mut count = size / 64;
+    if instruction.name == head::filled(b"ReadSector") {
+        root = of.try_into().unwrap_or([0; 32]);
+        count = host.sector / 64;
+    } else if *of != host.program.head.contract {
+        return Some(None);
+    }
+    let first = u64::from_le_bytes(offset) / 64;
+    Some(Some(Proof { root, count, first, end: first + length / 64, bytes, hashes }))
 }

@@ -2,7 +2,9 @@
 
 use crate::head::{self, Head};
 
-pub const SECTOR: u64 = 4096;
+/// M-103: "any power of two from 4,096 to 4,194,304"
+pub const LEAST_SECTOR: u64 = 4_096;
+pub const MOST_SECTOR: u64 = 4_194_304;
 /// "Disk area: 1 to 64 whole sectors. Stage area: 1 to 16."
 pub const MOST_DISK: u64 = 64;
 pub const MOST_STAGE: u64 = 16;
@@ -40,6 +42,8 @@ pub struct Program {
 
 #[derive(Clone)]
 pub struct Host {
+    /// M-103: "The sector size becomes a number fixed when the host is made".
+    pub sector: u64,
     pub disk_sectors: u64,
     pub stage_sectors: u64,
     /// "At most 8 contracts"
@@ -67,26 +71,36 @@ pub fn closed_program() -> Program {
     }
 }
 
-/// "A fresh host holds no contract and no open program." "Making a host with bad lengths answers 2 and a host with no slots".
-pub fn fresh(disk_length: u64, stage_length: u64) -> (u64, Host) {
-    let good = whole_sectors(disk_length, MOST_DISK) && whole_sectors(stage_length, MOST_STAGE);
-    let (disk_sectors, stage_sectors) = if good { (disk_length / SECTOR, stage_length / SECTOR) } else { (0, 0) };
-    let host = Host { disk_sectors, stage_sectors, places: [EMPTY_PLACE; 8], program: closed_program() };
+/// "A fresh host holds no contract and no open program." "Making a host with bad lengths answers 2 and a host with no slots"; M-103: "any
+/// power of two from 4,096 to 4,194,304, else 2". A host that was refused has sector size 0, as it has no slots.
+pub fn fresh(sector: u64, disk_length: u64, stage_length: u64) -> (u64, Host) {
+    let good =
+        size_taken(sector) && whole_sectors(sector, disk_length, MOST_DISK) && whole_sectors(sector, stage_length, MOST_STAGE);
+    let (sector, disk_sectors, stage_sectors) =
+        if good { (sector, disk_length / sector, stage_length / sector) } else { (0, 0, 0) };
+    let host = Host { sector, disk_sectors, stage_sectors, places: [EMPTY_PLACE; 8], program: closed_program() };
     (if good { 0 } else { 2 }, host)
 }
 
+/// M-103: "any power of two from 4,096 to 4,194,304"
+pub fn size_taken(sector: u64) -> bool {
+    sector.is_power_of_two() && sector >= LEAST_SECTOR && sector <= MOST_SECTOR
+}
+
 /// "1 to 64 whole sectors", "1 to 16"
-fn whole_sectors(length: u64, most: u64) -> bool {
-    length % SECTOR == 0 && length / SECTOR >= 1 && length / SECTOR <= most
+fn whole_sectors(sector: u64, length: u64, most: u64) -> bool {
+    length % sector == 0 && length / sector >= 1 && length / sector <= most
 }
 
 impl Host {
+    /// The length of disk to lend, of a host in order.
     pub fn disk_length(&self) -> u64 {
-        self.disk_sectors * SECTOR
+        self.disk_sectors * self.sector
     }
 
+    /// The length of stage to lend, of a host in order.
     pub fn stage_length(&self) -> u64 {
-        self.stage_sectors * SECTOR
+        self.stage_sectors * self.sector
     }
 
     /// The place that holds the id.
@@ -128,9 +142,12 @@ impl Host {
         self.program_disorder().or_else(|| self.stage_disorder())
     }
 
-    /// "lengths as above; ids differ, none the ReadOnly word; sizes whole sectors; each committed position has a disk slot of its
-    /// own, within the disk."
+    /// M-103: "a host holding another is not in order". Then "lengths as above; ids differ, none the ReadOnly word; sizes whole
+    /// sectors; each committed position has a disk slot of its own, within the disk."
     fn contracts_disorder(&self) -> Option<&'static str> {
+        if !size_taken(self.sector) {
+            return Some("sector size a power of two from 4,096 to 4,194,304");
+        }
         if self.disk_sectors < 1 || self.disk_sectors > MOST_DISK {
             return Some("disk length as above");
         }
@@ -147,13 +164,13 @@ impl Host {
             if place.id == head::read_only_word() {
                 return Some("none the ReadOnly word");
             }
-            if place.size % SECTOR != 0 {
+            if place.size % self.sector != 0 {
                 return Some("sizes whole sectors");
             }
-            if place.size / SECTOR > MOST_DISK {
+            if place.size / self.sector > MOST_DISK {
                 return Some("each committed position has a disk slot");
             }
-            for slot in &place.slots[..(place.size / SECTOR) as usize] {
+            for slot in &place.slots[..(place.size / self.sector) as usize] {
                 if slots.contains(slot) {
                     return Some("a disk slot of its own");
                 }
@@ -196,7 +213,7 @@ impl Host {
         if !program.failed && program.output_length - program.written < 72 {
             return Some("with 72 left unless it failed");
         }
-        if program.running % SECTOR != 0 {
+        if program.running % self.sector != 0 {
             return Some("running size whole sectors");
         }
         if program.running as u128 + self.other_sizes() > self.disk_length() as u128 {
@@ -211,7 +228,7 @@ impl Host {
         let mut slots = Vec::new();
         for position in 0..64u64 {
             let slot = program.staged[position as usize];
-            let at = position * SECTOR;
+            let at = position * self.sector;
             if slot == NONE {
                 if at >= self.starting_size() && at < program.running {
                     return Some("each position past the starting size staged");
@@ -276,12 +293,12 @@ impl Host {
 
     /// The bytes of the sector that a committed position holds.
     pub fn committed_sector<'a>(&self, disk: &'a [u8], place: usize, position: u64) -> &'a [u8] {
-        sector(disk, self.places[place].slots[position as usize])
+        sector(disk, self.sector, self.places[place].slots[position as usize])
     }
 
     /// All bytes of a contract as committed.
     pub fn committed_bytes(&self, disk: &[u8], place: usize) -> Vec<u8> {
-        let positions = self.places[place].size / SECTOR;
+        let positions = self.places[place].size / self.sector;
         let sectors: Vec<&[u8]> = (0..positions).map(|position| self.committed_sector(disk, place, position)).collect();
         sectors.concat()
     }
@@ -290,13 +307,13 @@ impl Host {
     pub fn running_sector<'a>(&self, disk: &'a [u8], stage: &'a [u8], position: u64) -> &'a [u8] {
         match self.program.staged[position as usize] {
             NONE => self.committed_sector(disk, self.parent().unwrap(), position),
-            slot => sector(stage, slot),
+            slot => sector(stage, self.sector, slot),
         }
     }
 
     /// All bytes of the parent as the program sees them; none in read-only mode.
     pub fn running_bytes(&self, disk: &[u8], stage: &[u8]) -> Vec<u8> {
-        let positions = self.program.running / SECTOR;
+        let positions = self.program.running / self.sector;
         let sectors: Vec<&[u8]> = (0..positions).map(|position| self.running_sector(disk, stage, position)).collect();
         sectors.concat()
     }
@@ -307,13 +324,13 @@ pub fn padded(id: &[u8; 32]) -> bool {
     id[32 - 28..].iter().all(|&byte| byte == 0)
 }
 
-/// The sector in a slot of an area.
-pub fn sector(area: &[u8], slot: u8) -> &[u8] {
-    let from = slot as usize * SECTOR as usize;
-    &area[from..from + SECTOR as usize]
+/// The sector in a slot of an area, of sectors of this size.
+pub fn sector(area: &[u8], size: u64, slot: u8) -> &[u8] {
+    let from = slot as usize * size as usize;
+    &area[from..from + size as usize]
 }
 
-pub fn sector_mut(area: &mut [u8], slot: u8) -> &mut [u8] {
-    let from = slot as usize * SECTOR as usize;
-    &mut area[from..from + SECTOR as usize]
+pub fn sector_mut(area: &mut [u8], size: u64, slot: u8) -> &mut [u8] {
+    let from = slot as usize * size as usize;
+    &mut area[from..from + size as usize]
 }

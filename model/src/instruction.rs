@@ -138,7 +138,7 @@ fn source(host: &Host, disk: &[u8], stage: &[u8], inputs: &Inputs) -> Result<Opt
         }
         Inputs::ReadSector { root, .. } => {
             for place in (0..8).filter(|&p| host.places[p].held) {
-                for position in 0..host.places[place].size / SECTOR {
+                for position in 0..host.places[place].size / host.sector {
                     let sector = host.committed_sector(disk, place, position);
                     if tree::root(sector) == *root {
                         note_sector_found(host, place, position);
@@ -155,7 +155,7 @@ fn source(host: &Host, disk: &[u8], stage: &[u8], inputs: &Inputs) -> Result<Opt
 fn note_sector_found(host: &Host, place: usize, position: u64) {
     if host.parent() != Some(place) {
         coverage::event("ReadSector found in another contract");
-    } else if position * SECTOR >= host.program.running {
+    } else if position * host.sector >= host.program.running {
         coverage::event("ReadSector found in the parent, position cut off");
     } else if host.program.staged[position as usize] != NONE {
         coverage::event("ReadSector found in the parent, position staged");
@@ -164,24 +164,27 @@ fn note_sector_found(host: &Host, place: usize, position: u64) {
     }
 }
 
-/// 26: "span: length 0, past the end, or across a sector edge"
-fn bad_span(offset: u64, length: u64, end: u64) -> bool {
+/// 26: "span: length 0, past the end, or across a sector edge", of sectors of the host's size
+fn bad_span(sector: u64, offset: u64, length: u64, end: u64) -> bool {
     if length == 0 || offset as u128 + length as u128 > end as u128 {
         return true;
     }
-    offset / SECTOR != (offset + length - 1) / SECTOR
+    offset / sector != (offset + length - 1) / sector
 }
 
-/// 26, also "Truncate to no multiple of 4,096 or by more than one sector"
-fn number_26(running: u64, inputs: &Inputs, source: &Option<Source>) -> bool {
+/// 26, also "Truncate to no multiple of 4,096 or by more than one sector"; M-103: "read "4,096" ... as the host's size"
+fn number_26(host: &Host, inputs: &Inputs, source: &Option<Source>) -> bool {
+    let (z, running) = (host.sector, host.program.running);
     match inputs {
         Inputs::Read { offset, length, .. } | Inputs::ReadSector { offset, length, .. } => {
-            bad_span(*offset, *length, source.as_ref().unwrap().bytes.len() as u64)
+            bad_span(z, *offset, *length, source.as_ref().unwrap().bytes.len() as u64)
         }
-        Inputs::Write { offset, data } => bad_span(*offset, data.len() as u64, running),
-        Inputs::Copy { destination, source, size } => bad_span(*destination, *size, running) || bad_span(*source, *size, running),
-        Inputs::Swap { first, second, size } => bad_span(*first, *size, running) || bad_span(*second, *size, running),
-        Inputs::Truncate { size } => size % SECTOR != 0 || size.abs_diff(running) > SECTOR,
+        Inputs::Write { offset, data } => bad_span(z, *offset, data.len() as u64, running),
+        Inputs::Copy { destination, source, size } => {
+            bad_span(z, *destination, *size, running) || bad_span(z, *source, *size, running)
+        }
+        Inputs::Swap { first, second, size } => bad_span(z, *first, *size, running) || bad_span(z, *second, *size, running),
+        Inputs::Truncate { size } => size % z != 0 || size.abs_diff(running) > z,
     }
 }
 
@@ -212,13 +215,15 @@ fn cost(program: &Program, inputs: &Inputs) -> u64 {
 }
 
 /// The positions that an instruction writes to, in the order in which they take slots: "Swap takes offset 2's slot first".
-fn written_positions(running: u64, inputs: &Inputs) -> Vec<u64> {
+fn written_positions(host: &Host, inputs: &Inputs) -> Vec<u64> {
+    let position = |offset: &u64| offset / host.sector;
+    let running = host.program.running;
     match inputs {
-        Inputs::Write { offset, .. } => vec![offset / SECTOR],
-        Inputs::Copy { destination, .. } => vec![destination / SECTOR],
-        Inputs::Swap { first, second, .. } if first / SECTOR == second / SECTOR => vec![first / SECTOR],
-        Inputs::Swap { first, second, .. } => vec![second / SECTOR, first / SECTOR],
-        Inputs::Truncate { size } if *size > running => vec![running / SECTOR],
+        Inputs::Write { offset, .. } => vec![position(offset)],
+        Inputs::Copy { destination, .. } => vec![position(destination)],
+        Inputs::Swap { first, second, .. } if position(first) == position(second) => vec![position(first)],
+        Inputs::Swap { first, second, .. } => vec![position(second), position(first)],
+        Inputs::Truncate { size } if *size > running => vec![position(&running)],
         _ => vec![],
     }
 }
@@ -227,7 +232,7 @@ fn written_positions(running: u64, inputs: &Inputs) -> Vec<u64> {
 fn number_40(host: &Host, inputs: &Inputs) -> bool {
     let staged = &host.program.staged;
     let used = staged.iter().filter(|&&slot| slot != NONE).count();
-    let written = written_positions(host.program.running, inputs);
+    let written = written_positions(host, inputs);
     let has_copy = |position: u64| staged.get(position as usize).is_some_and(|&slot| slot != NONE);
     let wanted = written.iter().filter(|&&position| !has_copy(position)).count();
     (used + wanted) as u64 > host.stage_sectors
@@ -242,12 +247,12 @@ fn number_41(host: &Host, inputs: &Inputs) -> bool {
 }
 
 /// Output bytes, and the proof if it is asked.
-fn shown(cost: u64, proof_asked: bool, inputs: &Inputs, source: Option<Source>) -> Shown {
+fn shown(sector: u64, cost: u64, proof_asked: bool, inputs: &Inputs, source: Option<Source>) -> Shown {
     match (inputs, source) {
         (Inputs::Read { offset, length, .. } | Inputs::ReadSector { offset, length, .. }, Some(source)) => {
             let end = offset + length;
             let proof = if proof_asked { tree::proof(&source.bytes, offset / 64, end / 64) } else { vec![] };
-            note_proof(proof_asked, &source, proof.len());
+            note_proof(proof_asked, sector, &source, proof.len());
             Shown { cost, proof, output: source.bytes[*offset as usize..end as usize].to_vec() }
         }
         _ => Shown { cost, proof: vec![], output: vec![] },
@@ -271,7 +276,8 @@ fn checks(host: &Host, disk: &[u8], stage: &[u8], input: &[u8]) -> Result<(Input
         return Err(24);
     }
     let source = source(host, disk, stage, &inputs)?;
-    if number_26(program.running, &inputs, &source) {
+    if number_26(host, &inputs, &source) {
+        note_26(host, &inputs);
         return Err(26);
     }
     if instruction.proof && number_27(&inputs) {
@@ -289,7 +295,7 @@ fn checks(host: &Host, disk: &[u8], stage: &[u8], input: &[u8]) -> Result<(Input
         return Err(41);
     }
     // 42: "record does not fit with 72 bytes left after it"
-    let shown = shown(cost, instruction.proof, &inputs, source);
+    let shown = shown(host.sector, cost, instruction.proof, &inputs, source);
     if program.written + record_length(&shown) + 72 > program.output_length {
         return Err(42);
     }
@@ -318,6 +324,7 @@ pub fn take(host: &mut Host, disk: &[u8], stage: &mut [u8], input: &[u8], output
 /// "A failure ends the program and otherwise only writes its record." "Failure: cost 0, starting size and root, both counts 0."
 pub fn fail(host: &mut Host, disk: &[u8], output: &mut [u8], number: u64) {
     coverage::record(word(&next(host)), number);
+    coverage::sized(host.sector, word(&next(host)), number);
     let (size, root) = host.starting_pair(disk);
     write_record(host, output, number, size, &root, &Shown { cost: 0, proof: vec![], output: vec![] });
     host.program.failed = true;
@@ -356,20 +363,20 @@ fn give_copy(host: &mut Host, disk: &[u8], stage: &mut [u8], position: u64) {
     }
     let slot = lowest_free_stage_slot(host);
     let place = host.parent().unwrap();
-    sector_mut(stage, slot).copy_from_slice(host.committed_sector(disk, place, position));
+    sector_mut(stage, host.sector, slot).copy_from_slice(host.committed_sector(disk, place, position));
     host.program.staged[position as usize] = slot;
 }
 
 fn read_span(host: &Host, disk: &[u8], stage: &[u8], offset: u64, length: u64) -> Vec<u8> {
-    let from = (offset % SECTOR) as usize;
-    host.running_sector(disk, stage, offset / SECTOR)[from..from + length as usize].to_vec()
+    let from = (offset % host.sector) as usize;
+    host.running_sector(disk, stage, offset / host.sector)[from..from + length as usize].to_vec()
 }
 
 fn write_span(host: &mut Host, disk: &[u8], stage: &mut [u8], offset: u64, bytes: &[u8]) {
-    give_copy(host, disk, stage, offset / SECTOR);
-    let slot = host.program.staged[(offset / SECTOR) as usize];
-    let from = (offset % SECTOR) as usize;
-    sector_mut(stage, slot)[from..from + bytes.len()].copy_from_slice(bytes);
+    give_copy(host, disk, stage, offset / host.sector);
+    let slot = host.program.staged[(offset / host.sector) as usize];
+    let from = (offset % host.sector) as usize;
+    sector_mut(stage, host.sector, slot)[from..from + bytes.len()].copy_from_slice(bytes);
 }
 
 /// "The disk is untouched until commit."
@@ -398,18 +405,18 @@ fn resize(host: &mut Host, stage: &mut [u8], size: u64) {
     let running = host.program.running;
     if size > running {
         let slot = lowest_free_stage_slot(host);
-        sector_mut(stage, slot).fill(0);
-        host.program.staged[(running / SECTOR) as usize] = slot;
+        sector_mut(stage, host.sector, slot).fill(0);
+        host.program.staged[(running / host.sector) as usize] = slot;
     }
     if size < running {
-        host.program.staged[(size / SECTOR) as usize] = NONE;
+        host.program.staged[(size / host.sector) as usize] = NONE;
     }
     host.program.running = size;
 }
 
-fn note_proof(asked: bool, source: &Source, hashes: usize) {
+fn note_proof(asked: bool, sector: u64, source: &Source, hashes: usize) {
     if asked {
-        coverage::event(match (source.bytes.len() as u64 / SECTOR, hashes) {
+        coverage::event(match (source.bytes.len() as u64 / sector, hashes) {
             (1, 0) => "proof of all of one sector, no hashes",
             (1, _) => "proof in one sector",
             (2 | 4 | 8 | 16 | 32 | 64, _) => "proof in 2, 4, 8, 16, 32 or 64 sectors",
@@ -418,24 +425,59 @@ fn note_proof(asked: bool, source: &Source, hashes: usize) {
     }
 }
 
+/// Counts of new sizes that another sector size would take (M-103).
+fn note_26(host: &Host, inputs: &Inputs) {
+    if let Inputs::Truncate { size } = inputs {
+        let (z, apart) = (host.sector, size.abs_diff(host.program.running));
+        if size % z != 0 && size % LEAST_SECTOR == 0 && apart <= LEAST_SECTOR {
+            coverage::event("26: Truncate by 4,096, sectors are larger");
+        }
+        if size % z == 0 && apart == 2 * z {
+            coverage::event("26: Truncate by two sectors");
+        }
+    }
+}
+
+/// Counts of spans that sectors of 4,096 would not take (M-103).
+fn note_span(name: &'static str, offset: u64, length: u64) {
+    if offset / LEAST_SECTOR != (offset + length - 1) / LEAST_SECTOR {
+        coverage::event(name);
+    }
+}
+
 /// Counts, for the coverage that `run` prints.
 fn note_success(host: &Host, inputs: &Inputs) {
     coverage::record(word(&next(host)), 0);
+    coverage::sized(host.sector, word(&next(host)), 0);
     let program = &host.program;
     let overlap = |a: u64, b: u64, size: u64| a != b && a.abs_diff(b) < size;
+    match inputs {
+        Inputs::Read { offset, length, .. } => note_span("Read across a 4,096 edge", *offset, *length),
+        Inputs::ReadSector { offset, length, .. } => note_span("ReadSector across a 4,096 edge", *offset, *length),
+        Inputs::Write { offset, data } => note_span("Write across a 4,096 edge", *offset, data.len() as u64),
+        Inputs::Copy { destination, source, size } => {
+            note_span("Copy to a span across a 4,096 edge", *destination, *size);
+            note_span("Copy from a span across a 4,096 edge", *source, *size);
+        }
+        Inputs::Swap { first, second, size } => {
+            note_span("Swap of a span across a 4,096 edge", *first, *size);
+            note_span("Swap of a span across a 4,096 edge", *second, *size);
+        }
+        Inputs::Truncate { .. } => {}
+    }
     match inputs {
         Inputs::Copy { destination, source, size } if overlap(*destination, *source, *size) => {
             coverage::event(if destination > source { "Copy overlapping, upward" } else { "Copy overlapping, downward" })
         }
-        Inputs::Copy { destination, source, .. } if destination / SECTOR != source / SECTOR => {
+        Inputs::Copy { destination, source, .. } if destination / host.sector != source / host.sector => {
             coverage::event("Copy between sectors")
         }
         Inputs::Swap { first, second, size } if overlap(*first, *second, *size) => {
             coverage::event(if second > first { "Swap overlapping, upward" } else { "Swap overlapping, downward" })
         }
         Inputs::Swap { first, second, .. } if first == second => coverage::event("Swap with itself"),
-        Inputs::Swap { first, second, .. } if first / SECTOR != second / SECTOR => {
-            let unstaged = |at: u64| (program.staged[(at / SECTOR) as usize] == NONE) as u8;
+        Inputs::Swap { first, second, .. } if first / host.sector != second / host.sector => {
+            let unstaged = |at: u64| (program.staged[(at / host.sector) as usize] == NONE) as u8;
             coverage::event(
                 ["Swap of two staged sectors", "Swap taking one slot", "Swap taking two slots"]
                     [(unstaged(*first) + unstaged(*second)) as usize],
@@ -446,7 +488,7 @@ fn note_success(host: &Host, inputs: &Inputs) {
         }
         Inputs::Truncate { size } if *size > program.running => coverage::event("growth"),
         Inputs::Truncate { size } if *size == program.running => coverage::event("Truncate to the same size"),
-        Inputs::Truncate { size } if program.staged[(*size / SECTOR) as usize] != NONE => {
+        Inputs::Truncate { size } if program.staged[(*size / host.sector) as usize] != NONE => {
             coverage::event("shrinking, the dropped position staged")
         }
         Inputs::Truncate { .. } => coverage::event("shrinking, the dropped position not staged"),

@@ -35,6 +35,8 @@ fn main() {
     let words: Vec<&str> = arguments.iter().map(String::as_str).collect();
     match words[..] {
         ["depot"] => std::io::stdout().write_all(&depot::play(&standard_input())).unwrap(),
+        ["large"] => std::io::stdout().write_all(&depot::play_large(&standard_input())).unwrap(),
+        ["once"] => std::io::stdout().write_all(&depot::play_once(&standard_input())).unwrap(),
         ["calls"] => std::io::stdout().write_all(&calls::play(&standard_input())).unwrap(),
         ["mixes"] => std::io::stdout().write_all(mixes::play(&standard_input()).as_bytes()).unwrap(),
         ["check"] => check::run(),
@@ -47,7 +49,7 @@ fn main() {
         ["show", "calls"] => show::script_text(&standard_input()).iter().for_each(|line| println!("{line}")),
         ["extract", inputs, which] => batch::extract(inputs, number(which) as usize),
         _ => {
-            eprintln!("use: model depot | calls | mixes | check | show depot | show calls");
+            eprintln!("use: model depot | large | once | calls | mixes | check | show depot | show calls");
             eprintln!("     model gen SEED N DIRECTORY | batch INPUTS LABEL | digests INPUTS | reach INPUTS | extract INPUTS I | cases");
             std::process::exit(2);
         }

@@ -2,12 +2,13 @@
 //! name, from the same input and with the same line for an answer.
 
 use crate::blake2b::hash32;
+use crate::depot::SECTOR;
 use crate::head::Reader;
 use crate::host::{self, Host};
 
-/// "Disk area: 1 to 64 whole sectors. Stage area: 1 to 16." Both the largest.
-const DISK: u64 = host::MOST_DISK * host::SECTOR;
-const STAGE: u64 = host::MOST_STAGE * host::SECTOR;
+/// "Disk area: 1 to 64 whole sectors. Stage area: 1 to 16." Both the largest, of sectors of 4,096 bytes.
+const DISK: u64 = host::MOST_DISK * SECTOR;
+const STAGE: u64 = host::MOST_STAGE * SECTOR;
 /// The longest head and the longest data that a visit may have here; more ends the visits.
 const MOST_HEAD: u64 = 4_096;
 const MOST_DATA: u64 = 65_536;
@@ -85,7 +86,7 @@ fn ahead(reader: &mut Reader) -> Result<([u8; 32], Offer), u64> {
 
 /// All visits, until one is refused; `visits` counts those that were done.
 fn all(reader: &mut Reader, areas: &mut Areas, id: &[u8; 32], offer: &Offer, visits: &mut u64) -> Result<(), u64> {
-    let (_, mut host) = host::fresh(DISK, STAGE);
+    let (_, mut host) = host::fresh(SECTOR, DISK, STAGE);
     done(host.form(id))?;
     while let Some(visit) = next(reader) {
         for _ in 0..visit.times {

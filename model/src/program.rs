@@ -196,22 +196,22 @@ impl Host {
     /// "Commit: positions past the final size free their slots; kept positions keep theirs; new ones, ascending, take the lowest
     /// free; staged sectors are copied there."
     fn commit(&mut self, place: usize, disk: &mut [u8], stage: &[u8]) {
-        let before = self.places[place].size / SECTOR;
-        let after = self.program.running / SECTOR;
-        self.places[place].size = before.min(after) * SECTOR;
+        let before = self.places[place].size / self.sector;
+        let after = self.program.running / self.sector;
+        self.places[place].size = before.min(after) * self.sector;
         for position in after..64 {
             self.places[place].slots[position as usize] = 0;
         }
         for position in before..after {
             let slot = self.lowest_free_disk_slot();
             self.places[place].slots[position as usize] = slot;
-            self.places[place].size += SECTOR;
+            self.places[place].size += self.sector;
         }
         for position in 0..after as usize {
             let staged = self.program.staged[position];
             if staged != NONE {
                 let slot = self.places[place].slots[position];
-                sector_mut(disk, slot).copy_from_slice(sector(stage, staged));
+                sector_mut(disk, self.sector, slot).copy_from_slice(sector(stage, self.sector, staged));
             }
         }
     }
@@ -219,7 +219,7 @@ impl Host {
     /// "Every choice of slot, disk or stage, is the lowest free one."
     fn lowest_free_disk_slot(&self) -> u8 {
         let used = |slot: &u8| {
-            self.places.iter().any(|place| place.held && place.slots[..(place.size / SECTOR) as usize].contains(slot))
+            self.places.iter().any(|place| place.held && place.slots[..(place.size / self.sector) as usize].contains(slot))
         };
         (0..self.disk_sectors as u8).find(|slot| !used(slot)).unwrap()
     }

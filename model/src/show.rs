@@ -47,6 +47,9 @@ fn good_head_text(head: &Head) -> String {
 pub fn item_text(item: &Item) -> String {
     match item {
         Item::Fresh { disk, stage, fill } => format!("fresh disk {disk}, stage {stage}, fill {fill}"),
+        Item::FreshOfSize { sector, disk, stage, fill } => {
+            format!("fresh of sector size {sector}: disk {disk}, stage {stage}, fill {fill}")
+        }
         Item::Form { id: contract } => format!("form {}", id(contract)),
         Item::Drop { id: contract } => format!("drop {}", id(contract)),
         Item::Open { output_length, budget, prices, head } => {
@@ -60,6 +63,12 @@ pub fn item_text(item: &Item) -> String {
         Item::Agree { disk, stage, size, root } => format!("agree lent {disk}, {stage}; size {size}, root {}", hex(root)),
         Item::Reached { disk, stage } => format!("reached lent {disk}, {stage}"),
         Item::Poke { field, i, j, value } => format!("poke field {field}, i {i}, j {j}, value {value}"),
+        Item::Check { root, count, first, end, data, tail } => {
+            let (bytes, hashes) = tail.split_at(*data as usize);
+            let (bytes, hashes) = (short(bytes), short(hashes));
+            let root = hex(root);
+            format!("check root {root}, count {count}, range {first}..{end}, tail of {} bytes: {bytes} with {hashes}", tail.len())
+        }
     }
 }
 
@@ -71,7 +80,10 @@ pub fn script_text(bytes: &[u8]) -> Vec<String> {
     while let Some(item) = calls::read_item(&mut reader) {
         let answered = player.make(&item);
         let (tally, growth) = (answered.tally, answered.growth);
-        lines.push(format!("item {}: {}\n      answers {}, {tally}, {growth}", lines.len(), item_text(&item), answered.answer));
+        let (sector, disk, stage) = (player.host.sector, player.host.disk_sectors, player.host.stage_sectors);
+        let answers =
+            format!("answers {}, {tally}, {growth}; sector size {sector}, {disk} of disk, {stage} of stage", answered.answer);
+        lines.push(format!("item {}: {}\n      {answers}", lines.len(), item_text(&item)));
     }
     lines
 }
@@ -106,6 +118,8 @@ fn fill_report_lines(reader: &mut Reader, with_root: bool, lines: &mut Vec<Strin
     if with_root {
         lines.push(format!("root {}", hex(reader.bytes(32)?)));
     }
+    let sector = reader.number()?;
+    lines.push(format!("sector size {sector}"));
     lines.push(format!("disk sectors {}, stage sectors {}", reader.number()?, reader.number()?));
     for place in 0..8 {
         if reader.number()? == 0 {
@@ -114,7 +128,7 @@ fn fill_report_lines(reader: &mut Reader, with_root: bool, lines: &mut Vec<Strin
         }
         let contract = hex(reader.bytes(32)?);
         let size = reader.number()?;
-        let slots = numbers(reader, (size / 4096).min(64))?;
+        let slots = numbers(reader, size.checked_div(sector).unwrap_or(0).min(64))?;
         lines.push(format!("place {place}: {contract}, size {size}, slots {slots:?}"));
     }
     if reader.number()? == 0 {

@@ -6,8 +6,8 @@ use crate::memo;
 
 pub type Hash = [u8; 32];
 pub const SEGMENT: usize = 64;
-/// "The checker (root, count 1 to 4,096, ...)"
-pub const MOST_SEGMENTS: u64 = 4096;
+/// M-103: "A proof may now cover 4,194,304 segments, and the checker's count limit rises to that."
+pub const MOST_SEGMENTS: u64 = 4_194_304;
 
 /// "leaf = byte 0 then a 64-byte segment"
 fn leaf(segment: &[u8]) -> Hash {
@@ -80,19 +80,36 @@ fn walk(bytes: &[u8], at: u64, first: u64, end: u64, hashes: &mut Vec<Hash>) {
 }
 
 /// "The checker (root, count 1 to 4,096, first, end, bytes, hashes) says yes exactly when first < end ≤ count, the bytes number
-/// 64 × (end - first), and the same walk rebuilds the root using up all hash bytes; else no." Decision 29: no for other counts.
+/// 64 × (end - first), and the same walk rebuilds the root using up all hash bytes; else no." Decision 29: no for other counts. M-103:
+/// the count goes to 4,194,304.
 pub fn check(root: &[u8], count: u64, first: u64, end: u64, bytes: &[u8], hashes: &[u8]) -> bool {
+    fault(root, count, first, end, bytes, hashes).is_none()
+}
+
+/// The first of the checker's conditions that fails.
+pub fn fault(root: &[u8], count: u64, first: u64, end: u64, bytes: &[u8], hashes: &[u8]) -> Option<&'static str> {
     if root.len() != 32 || count < 1 || count > MOST_SEGMENTS {
-        return false;
+        return Some("k no: root's length or count");
     }
-    if !(first < end && end <= count) || bytes.len() as u64 != 64 * (end - first) {
-        return false;
+    if !(first < end && end <= count) {
+        return Some("k no: first < end <= count");
+    }
+    if bytes.len() as u64 != 64 * (end - first) {
+        return Some("k no: number of bytes");
     }
     let mut left_over = hashes;
-    match rebuild(0, count, first, end, bytes, &mut left_over) {
-        Some(built) => left_over.is_empty() && built == root,
-        None => false,
+    let Some(built) = rebuilt(count, first, end, bytes, &mut left_over) else {
+        return Some("k no: hashes missing");
+    };
+    if !left_over.is_empty() {
+        return Some("k no: hash bytes left over");
     }
+    (built != root).then_some("k no: another root")
+}
+
+/// The root that bytes and hashes give, taking the hashes that the walk asks for; none where they are too few.
+pub fn rebuilt(count: u64, first: u64, end: u64, bytes: &[u8], hashes: &mut &[u8]) -> Option<Hash> {
+    rebuild(0, count, first, end, bytes, hashes)
 }
 
 /// The same walk: a part outside the range takes the next hash, a part inside is worked out from the bytes.

@@ -1,6 +1,7 @@
 // An input of `depot`, which has 8 sectors of disk, 4 of stage, and an output of 16,384 bytes.
 ghost use Prim.Native.Nat.{_≤_};
 ghost use lib.ListN.{length};
+use host::Host;
 use intake::Reader;
 
 // Reads an input of so many bytes and plays it; answers how many bytes `depot` writes, which stand at the front of `shown`.
@@ -13,7 +14,14 @@ pub fn play(many: u64, shown: &mut [u8]) -> usize
     let mut stage = [0u8; 16_384];
     let mut input = [0u8; 65_536];
     let mut output = [0u8; 16_384];
-    let done = single::answer(&all[0..n], &mut disk, &mut stage, &mut input, &mut output);
+    let done = single::answer(
+        Host::LEAST,
+        &all[0..n],
+        &mut disk,
+        &mut stage,
+        &mut input,
+        &mut output,
+    );
     written(done.number, done.written, &output, shown)
 }
 

@@ -45,7 +45,7 @@ fn most(field: u64) -> u64 {
 
 // Whether there is such a field, and i, j and the value are within its limits.
 pub fn fits(field: u64, i: u64, j: u64, value: u64) -> bool {
-    if 24 < field {
+    if 25 < field {
         return false;
     }
     if last_i(field) < i {
@@ -71,6 +71,7 @@ pub fn poked(host: Host, field: u64, i: u64, j: u64, value: u64) -> Host {
     match field {
         0 => after.disk = value,
         1 => after.stage = value,
+        25 => after.sector = value,
         2..=5 => {
             let places = host.places;
             let ps = in_places(places, field, i, j, value);

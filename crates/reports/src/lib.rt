@@ -1,7 +1,7 @@
 // The bytes of a report on an item of a script: the answer, the host, and digests of the whole areas. Each function writes from `at` on, and
 // answers where it ended. An inner crate: its caller proves what it requires.
 ghost use mathlib.Core.Path.{_≡_};
-ghost use Prim.Native.Nat.{_+_, _*_, _≤_};
+ghost use Prim.Native.Nat.{_+_, _≤_};
 ghost use lib.ListN.{length};
 use host::Host;
 use host::Place;
@@ -27,8 +27,8 @@ pub fn write(
     output: &[u8],
     report: &mut [u8],
 ) -> usize
-    requires { ⌜ 5248 ≤ length (now report) ⌝ }
-    ensures { λ r. ⌜ r ≤ 5248 ⌝ }
+    requires { ⌜ 5256 ≤ length (now report) ⌝ }
+    ensures { λ r. ⌜ r ≤ 5256 ⌝ }
 {
     let host = made.host;
     let one = answer(made, report);
@@ -92,18 +92,19 @@ fn answer(made: Made, report: &mut [u8]) -> usize
 }
 
 fn whole_host(host: Host, report: &mut [u8], at: usize) -> usize
-    requires { ⌜ at + 5064 ≤ length (now report) ⌝ }
-    ensures { λ r. ⌜ r ≤ at + 5064 ⌝ }
+    requires { ⌜ at + 5072 ≤ length (now report) ⌝ }
+    ensures { λ r. ⌜ r ≤ at + 5072 ⌝ }
 {
-    let one = number(report, at, host.disk);
-    let two = number(report, one, host.stage);
+    let one = number(report, at, host.sector);
+    let two = number(report, one, host.disk);
+    let three = number(report, two, host.stage);
     let places = host.places;
-    let three = all_places(places, report, two);
+    let four = all_places(host.sector, places, report, three);
     let p = host.program;
-    program(p, report, three)
+    program(p, report, four)
 }
 
-fn all_places(places: [Place; 8], report: &mut [u8], at: usize) -> usize
+fn all_places(z: u64, places: [Place; 8], report: &mut [u8], at: usize) -> usize
     requires { ⌜ at + 4480 ≤ length (now report) ⌝ }
     ensures { λ r. ⌜ r ≤ at + 4480 ⌝ }
 {
@@ -111,14 +112,14 @@ fn all_places(places: [Place; 8], report: &mut [u8], at: usize) -> usize
     let mut i: usize = 0;
     while i < 8 {
         let p = places[i];
-        end = place(p, report, end);
+        end = place(z, p, report, end);
         i += 1;
     }
     end
 }
 
-// 0, or 1 with id, size, and the slots of its positions.
-fn place(p: Place, report: &mut [u8], at: usize) -> usize
+// 0, or 1 with id, size, and the slots of its positions, of z bytes each.
+fn place(z: u64, p: Place, report: &mut [u8], at: usize) -> usize
     requires { ⌜ at + 560 ≤ length (now report) ⌝ }
     ensures { λ r. ⌜ r ≤ at + 560 ⌝ }
 {
@@ -130,18 +131,17 @@ fn place(p: Place, report: &mut [u8], at: usize) -> usize
     let two = bytes(report, one, id);
     let three = number(report, two, p.size);
     let list = p.slots;
-    slots(list, positions(p.size), report, three)
+    slots(list, positions(z, p.size), report, three)
 }
 
-// The positions of a size, at most as many as a place has slots.
-fn positions(size: u64) -> usize
+// The positions of a size, at most as many as a place has slots; none where a sector has no bytes.
+fn positions(z: u64, size: u64) -> usize
     ensures { λ r. ⌜ r ≤ 64 ⌝ }
 {
-    let n = size / Host::SECTOR;
-    if n < Place::SLOTS {
-        return n as usize;
+    if z == 0 {
+        return 0;
     }
-    64
+    host::sectors(z, size)
 }
 
 // The first n of 64 slots.

@@ -6,6 +6,9 @@ use host::Host;
 use host::Prices;
 use reports::Made;
 
+// The most bytes of segments and hashes that are given to the checker.
+const PROOF: usize = 131_072;
+
 fn malformed(host: Host) -> Made {
     let root = [0u8; 32];
     Made {
@@ -32,7 +35,7 @@ fn answered(number: u64, tally: u64, growth: i64, host: Host) -> Made {
     }
 }
 
-// Makes the call of an item that is whole: a head or a piece stands at its end.
+// Makes the call of an item that is whole: a head, a piece or a proof stands at its end.
 pub fn make(
     item: &[u8],
     host: Host,
@@ -45,7 +48,8 @@ pub fn make(
         return malformed(host);
     }
     match item[0] {
-        b'F' => fresh(item, host, disk, stage, input, output),
+        b'F' => fresh_usual(item, host, disk, stage, input, output),
+        b'N' => fresh_of(item, host, disk, stage, input, output),
         b'f' => form(item, host),
         b'd' => drop(item, host),
         b'o' => open(item, host),
@@ -55,6 +59,7 @@ pub fn make(
         b'a' => agree(item, host, disk, &*stage),
         b'r' => reached(item, host, &*disk, &*stage),
         b'x' => poke(item, host),
+        b'k' => check(item, host),
         _ => malformed(host),
     }
 }
@@ -70,8 +75,8 @@ fn bytes_at(item: &[u8], at: usize) -> [u8; 32]
 
 // ---- contracts
 
-// Disk length, stage length, fill: makes the host, and fills all four areas.
-fn fresh(
+// Disk length, stage length, fill: a host of the usual sector size, 4,096.
+fn fresh_usual(
     item: &[u8],
     host: Host,
     disk: &mut [u8],
@@ -84,8 +89,57 @@ fn fresh(
     }
     let sectors = area::load(item, 1);
     let copies = area::load(item, 9);
-    let byte = item[17];
-    let made = forming::fresh(sectors, copies);
+    fresh(
+        Host::LEAST,
+        sectors,
+        copies,
+        item[17],
+        disk,
+        stage,
+        input,
+        output,
+    )
+}
+
+// Sector size, disk length, stage length, fill.
+fn fresh_of(
+    item: &[u8],
+    host: Host,
+    disk: &mut [u8],
+    stage: &mut [u8],
+    input: &mut [u8],
+    output: &mut [u8],
+) -> Made {
+    if item.len() < 26 {
+        return malformed(host);
+    }
+    let sector = area::load(item, 1);
+    let sectors = area::load(item, 9);
+    let copies = area::load(item, 17);
+    fresh(
+        sector,
+        sectors,
+        copies,
+        item[25],
+        disk,
+        stage,
+        input,
+        output,
+    )
+}
+
+// Makes the host for areas of these lengths, and fills all four areas with a byte.
+fn fresh(
+    sector: u64,
+    sectors: u64,
+    copies: u64,
+    byte: u8,
+    disk: &mut [u8],
+    stage: &mut [u8],
+    input: &mut [u8],
+    output: &mut [u8],
+) -> Made {
+    let made = forming::fresh(sector, sectors, copies);
     area::fill(disk, 0, disk.len(), byte);
     area::fill(stage, 0, stage.len(), byte);
     area::fill(input, 0, input.len(), byte);
@@ -312,6 +366,39 @@ fn reached<'a>(item: &[u8], host: Host, disk: &'a [u8], stage: &'a [u8]) -> Made
         root,
         host,
     }
+}
+
+// ---- the checker
+
+// Root, count, first, end, length of the segments' bytes, length of these and the hashes, and both. Of more than PROOF bytes the answer is
+// no.
+fn check(item: &[u8], host: Host) -> Made {
+    if item.len() < 73 {
+        return malformed(host);
+    }
+    let count = area::load(item, 33);
+    let first = area::load(item, 41);
+    let end = area::load(item, 49);
+    let data = area::load(item, 57);
+    if PROOF < item.len() - 73 {
+        return answered(0, 0, 0, host);
+    }
+    if ((item.len() - 73) as u64) < data {
+        return malformed(host);
+    }
+    let to = 73 + data as usize;
+    let yes = checking::check(
+        &item[1..33],
+        count as usize,
+        first as usize,
+        end as usize,
+        &item[73..to],
+        &item[to..],
+    );
+    if yes {
+        return answered(1, 0, 0, host);
+    }
+    answered(0, 0, 0, host)
 }
 
 // ---- damage

@@ -1,5 +1,5 @@
-// Scripts of calls: an item of a script is one call, with the areas that it lends, or a number that is put into the host's record to damage
-// it. Playing an item makes the call, and reports what it answered, the host, and digests of the whole areas. Numbers are 8 bytes, the
+// Scripts of calls: an item of a script is one call, with the areas that it lends, a proof for the checker, or a number that is put into the
+// host's record to damage it. Playing an item makes the call, and reports what it answered, the host, and digests of the whole areas. Numbers are 8 bytes, the
 // lowest first.
 ghost use mathlib.Core.Path.{_≡_};
 ghost use Prim.Native.Nat.{_≤_};
@@ -12,8 +12,8 @@ mod shapes; // shapes.rt: where an item ends
 use host::Host;
 pub use reader::ITEM;
 
-// The most bytes of a report: the answer of `reached` with its root, eight places with 64 slots each, an open program, four digests.
-pub const REPORT: usize = 5_248;
+// The most bytes of a report: the answer of `reached` with its root, three numbers, eight places with 64 slots each, an open program, four digests.
+pub const REPORT: usize = 5_256;
 
 // What an item did. Not fine: it is malformed, and nothing changed. `left` counts the bytes that the script may still use, `written` those of
 // the item's report.
@@ -26,7 +26,7 @@ pub struct Played {
 
 // The host of a refused fresh, which stands before the first item.
 pub fn no_host() -> Host {
-    let made = forming::fresh(0, 0);
+    let made = forming::fresh(0, 0, 0);
     made.host
 }
 

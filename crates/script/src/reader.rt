@@ -3,8 +3,8 @@ ghost use Prim.Native.Nat.{_+_, _≤_};
 ghost use lib.ListN.{length};
 use crate::shapes;
 
-// Room for any item that is kept: its first byte, at most 80 that follow it, and at most 65,537 of a head or a piece.
-pub const ITEM: usize = 65_618;
+// Room for any item that is kept: its first byte, at most 80 that follow it, and at most 131,073 of a head, a piece or a proof.
+pub const ITEM: usize = 131_154;
 
 // What has come: the length of the item at the front of its area, 0 where there is no whole one, and how many bytes the script may still
 // use.
@@ -57,6 +57,12 @@ pub fn next_from(left: u64, item: &mut [u8]) -> Came
     if front.length == 0 {
         return front;
     }
+    if !shapes::right(kind, item) {
+        return Came {
+            length: 0,
+            left: front.left,
+        };
+    }
     let most = shapes::most(kind);
     if most == 0 {
         return front;
@@ -64,7 +70,7 @@ pub fn next_from(left: u64, item: &mut [u8]) -> Came
     tail(front.left, item, 1 + n, most)
 }
 
-// A head or a piece, whose length stands before `at`. What is behind its first `most` bytes is dropped, and the length changed to theirs:
+// A head, a piece or a proof, whose length stands before `at`. What is behind its first `most` bytes is dropped, and the length changed to theirs:
 // the call answers the same.
 fn tail(left: u64, item: &mut [u8], at: usize, most: u64) -> Came
     requires { ⌜ (8 ≤ at) × (at + most ≤ length (now item)) ⌝ }

@@ -7,10 +7,10 @@ use Rattle.reports.proofs.all_places.Statement.{statement}
 use Rattle.reports.proofs.all_places.Tie as tie
 
 abbrev Inv-loop : tie.InvT-loop
-Inv-loop report₀ at places end₀ i₀ report end i = (length report ≡ length report₀) × (i ≤ 8) × (end ≤ at + 560 * i)
+Inv-loop z report₀ at places end₀ i₀ report end i = (length report ≡ length report₀) × (i ≤ 8) × (end ≤ at + 560 * i)
 
 abbrev μ-loop : tie.MeasureT-loop
-μ-loop report₀ at places end₀ i₀ report end i = 8 - i
+μ-loop z report₀ at places end₀ i₀ report end i = 8 - i
 
 loop-holds : tie.Need-loop-holds Inv-loop μ-loop
 loop-holds c = search needs
