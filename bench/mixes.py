@@ -54,9 +54,12 @@ class Visit:
     def swap(self, first, second, size):
         self.add("Swap", number(first), number(second), number(size))
 
-    def encoded(self, times):
+    def head(self):
         assert len(self.instructions) <= 32 and len(self.data) <= 65536
-        head = ID + number(len(self.instructions)) + b"".join(self.instructions) + number(len(self.data))
+        return ID + number(len(self.instructions)) + b"".join(self.instructions) + number(len(self.data))
+
+    def encoded(self, times):
+        head = self.head()
         return number(times) + number(len(head)) + head + number(len(self.data)) + self.data
 
 
@@ -226,4 +229,5 @@ def main():
         sys.exit(__doc__)
 
 
-main()
+if __name__ == "__main__":
+    main()

@@ -1,2 +1,3 @@
 -- What the proofs of several functions cite.
 pub mod Read
+pub mod Played

@@ -1,0 +1,31 @@
+-- `exports::candlebrood_run` meets its contract: an area of another length than 8, or what the program comes to. Assumes nothing.
+use Rattle.exports.proofs.Played.{not-eight, counted}
+use borrow.Author.Needs.{needs}
+use Rattle.exports.proofs.candlebrood_run.Statement.{statement}
+use Rattle.exports.proofs.candlebrood_run.Tie as tie
+
+returns : tie.Need-returns
+returns c = not-eight _ _ _ _ _ _ _ _ _ _ _ (c .if1 .taken)
+
+store-requires : tie.Need-store-requires
+store-requires c κs = search needs
+
+returns-2 : tie.Need-returns-2
+returns-2 c =
+    let ran = c .before .before .before .before .before .before .before .before .before .before .before .before in
+    let eight = ran .before .before .before .before .before in
+    counted _ _ _ _ _ _ _ _ _ _ _ (eight .if1 .left) (ran .run .ensures) (c .before .before .store .ensures)
+
+pub candlebrood-run-spec : {M : Type 1} → statement M
+candlebrood-run-spec =
+    tie.close
+    (tie.spec
+    returns
+    (λ c κs. search needs)
+    store-requires
+    (λ c. search needs)
+    (λ c. search needs)
+    (λ c. search needs)
+    (λ c. search needs)
+    (λ c. search needs)
+    returns-2)
