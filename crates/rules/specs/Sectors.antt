@@ -2,7 +2,7 @@
 use mathlib.Core.Path.{_≡_}
 use mathlib.Core.Bool.{true, false}
 use mathlib.Core.List.{List}
-use Prim.Native.Nat.{ℕ, _^_, _≤_}
+use Prim.Native.Nat.{ℕ, _*_, _^_, _≤_}
 use Rattle.area.specs.Slots.{Size}
 use Rattle.host.specs.Sizes.{isSize}
 use Rattle.host.specs.Empty.{bare}
@@ -30,6 +30,11 @@ pub record FullSectors : Type 0 where
   pub sizes : (z : ℕ) → Sizes z
   -- "else 2", whatever the lengths: the whole answer, a host of sector size 0 with no slots
   pub other : (z disk stage : ℕ) → isSize z ≡ false → freshed z disk stage ≡ Contract.answered 2 (bare 0 0 0)
+  -- and the same for every host that is refused, for its size or for a length
+  pub refused : (z disk stage : ℕ) → (freshed z disk stage .number ≡ 0 → ⊥) → freshed z disk stage ≡ Contract.answered 2 (bare 0 0 0)
+  -- no size is refused that there is: whole sectors within the limits are taken, and the host has so many of that size
+  pub taken : (z disk stage : ℕ) → isSize z ≡ true → 1 ≤ disk → disk ≤ 64 → 1 ≤ stage → stage ≤ 16
+      → freshed z (disk * z) (stage * z) ≡ Contract.answered 0 (bare z disk stage)
   -- a host that is made holds the size that was asked for
   pub made : (z disk stage : ℕ) → freshed z disk stage .number ≡ 0 → freshed z disk stage .host .sector ≡ z
   -- "a host holding another is not in order", so every call answers 1
