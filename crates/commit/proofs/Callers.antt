@@ -17,11 +17,11 @@ use Rattle.area.proofs.Laws.Slots.{slot-ends}
 use Rattle.sia.specs.Names.{readOnly}
 use Rattle.sia.specs.Encode.{every}
 use Rattle.host.specs.Empty.{none, noPlace, noProgram}
-use Rattle.host.specs.With.{withPlaces, withProgram, withSize, withSlots}
+use Rattle.host.specs.With.{withPlaces, withProgram, withDiskRoots, withSize, withSlots}
 use Rattle.host.specs.Places.{hasId, whose, taken}
 use Rattle.host.specs.Order.{placeInOrder, inOrder, slotInOrder, parentInOrder, termsInOrder}
 use Rattle.host.specs.Calls.{replaced}
-use Rattle.rules.specs.View.{settingOf, parent, areasRight}
+use Rattle.rules.specs.View.{settingOf, settingBy, parent, areasRight}
 use Rattle.rules.specs.Facts.{Good, Solid}
 use Rattle.rules.specs.Commit.{Closed, closed, finalSlots, copiedBack, finalPlace, commit}
 use Rattle.rules.specs.Visit.{Declared}
@@ -113,7 +113,7 @@ module _ (disk : List ℕ) (h : Host) (stage : List ℕ) (sound : Declared h) (o
   few-slots = order-places h o .1
 
   in-slots : size ≤ 64 * z
-  unfolding settingOf
+  unfolding settingBy
   in-slots = omega (arith, good .orderly .within, mul-le-mul-right z few-slots)
 
   pub few-sectors : size / z ≤ 64
@@ -124,7 +124,7 @@ module _ (disk : List ℕ) (h : Host) (stage : List ℕ) (sound : Declared h) (o
   last-size = omega (arith, in-slots, solid .lent .size .most)
 
   pub first-size : {p : Place} → p ≡ whose id (h .places) → p .size ≤ 268435456
-  unfolding settingOf
+  unfolding settingBy
   first-size e =
       let small = whose-small z id (h .places) (order-some h o) (solid .small) in
       let whole = whole-sectors z (whose id (h .places) .size) (whose-whole z id (h .places) (solid .small)) in
@@ -132,7 +132,7 @@ module _ (disk : List ℕ) (h : Host) (stage : List ℕ) (sound : Declared h) (o
 
   -- where there is no parent, nothing is committed
   nobody : whose id (h .places) .held ≡ false → size ≡ 0
-  unfolding parentInOrder termsInOrder settingOf
+  unfolding parentInOrder termsInOrder settingBy
   nobody e =
       let t = both-left _ _ (good .terms) in
       by (same id readOnly)
@@ -140,14 +140,14 @@ module _ (disk : List ℕ) (h : Host) (stage : List ℕ) (sound : Declared h) (o
       (λ u. never (sym t ∙ skips (same id readOnly) _ _ u ∙ e))
 
   staged-below : (j : ℕ) → eqb (getD staged j none) none ≡ false → getD staged j none < h .stage
-  unfolding slotInOrder settingOf
+  unfolding slotInOrder settingBy
   staged-below j e =
       ltb-true _ _ (sym (skips (eqb (getD staged j none) none) true _ e)
       ∙ every-at (slotInOrder (h .stage)) staged j none (good .orderly .staged .slots) (picks (eqb none none) true _ refl))
 
   -- the final slots are slots of the disk
   pub final-below : (j : ℕ) → j < size / z → getD (finalSlots z (h .disk) (h .places) (whose id (h .places)) size) j 0 < h .disk
-  unfolding settingOf
+  unfolding settingBy
   final-below j lt =
       by (whose id (h .places) .held)
       (λ e. let q = order-places h o in
@@ -164,7 +164,7 @@ module _ (disk : List ℕ) (h : Host) (stage : List ℕ) (sound : Declared h) (o
   -- what `copy_back` asks
   pub backs : {p : Place} {slots : List ℕ} → p ≡ whose id (h .places) → slots ≡ filled (finalSlots z (h .disk) (h .places) p size)
       → Back z stage staged slots (size / z) disk
-  unfolding settingOf
+  unfolding settingBy
   backs {p} {slots} e q =
       let l = finalSlots z (h .disk) (h .places) (whose id (h .places)) size in
       let is : slots ≡ filled l = q ∙ ap (λ (x : Place). filled (finalSlots z (h .disk) (h .places) x size)) e in
@@ -179,13 +179,13 @@ module _ (disk : List ℕ) (h : Host) (stage : List ℕ) (sound : Declared h) (o
 
 -- ---- a commit, from what the functions of this crate make
 
-pub commit-made : {p place : Place} {slots after : List ℕ} {places : List Place} {growth : ℤ} (disk : List ℕ) (h : Host) (stage : List ℕ)
+pub commit-made : {p place : Place} {slots after roots : List ℕ} {places : List Place} {growth : ℤ} (disk : List ℕ) (h : Host) (stage : List ℕ)
     → let id = h .program .terms .head .contract in let size = h .program .progress .size in
     p ≡ whose id (h .places) → slots ≡ filled (finalSlots (h .sector) (h .disk) (h .places) p size)
     → place ≡ withSlots (withSize p size) slots → places ≡ replaced id place (h .places) → growth ≡ pos size -ℤ pos (p .size)
     → after ≡ copiedBack (h .sector) stage (h .program .progress .staged) slots 0 (size / h .sector) disk
     → closed 0 (h .program .progress .tally) growth (withProgram (withPlaces h places) noProgram) after ≡ commit disk h stage
-unfolding commit parent settingOf
+unfolding commit parent settingBy
 commit-made {p} {place} {slots} {after} {places} {growth} disk h stage e s q r g a =
     let id = h .program .terms .head .contract in
     let size = h .program .progress .size in

@@ -33,7 +33,15 @@ noProgram = record { active = false; terms = noTerms; came = 0; progress = noPro
 
 -- "A fresh host holds no contract and no open program."
 unfoldable pub bare : ℕ → ℕ → ℕ → Host
-bare sector disk stage = record { sector = sector; disk = disk; stage = stage; places = replicate 8 noPlace; program = noProgram }
+bare sector disk stage = record {
+  sector = sector;
+  disk = disk;
+  stage = stage;
+  places = replicate 8 noPlace;
+  program = noProgram;
+  diskroots = zeros 2048;
+  stageroots = zeros 512;
+}
 
 -- a contract of size 0
 unfoldable pub newPlace : List ℕ → Place

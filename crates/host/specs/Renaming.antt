@@ -44,4 +44,12 @@ module _ (r : List ℕ → List ℕ) where
   programAs g = record { active = g .active; terms = pick (g .active) (termsAs (g .terms)) (g .terms); came = g .came; progress = g .progress }
 
   unfoldable pub hostAs : Host → Host
-  hostAs h = record { sector = h .sector; disk = h .disk; stage = h .stage; places = each placeAs (h .places); program = programAs (h .program) }
+  hostAs h = record {
+    sector = h .sector;
+    disk = h .disk;
+    stage = h .stage;
+    places = each placeAs (h .places);
+    program = programAs (h .program);
+    diskroots = h .diskroots;
+    stageroots = h .stageroots;
+  }

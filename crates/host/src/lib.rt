@@ -71,13 +71,16 @@ pub struct Program {
     pub progress: Progress,
 }
 
-// The bytes of a sector, the sectors of the disk area and of the stage area, the places for contracts, and the program.
+// The bytes of a sector, the sectors of the disk area and of the stage area, the places for contracts, the program, and a root kept beside
+// each slot of disk and stage: that of slot n is the 32 bytes from 32 * n on.
 pub struct Host {
     pub sector: u64,
     pub disk: u64,
     pub stage: u64,
     pub places: [Place; 8],
     pub program: Program,
+    pub diskroots: [u8; 2048],
+    pub stageroots: [u8; 512],
 }
 
 // What a call answers: document 01's number, and the host.
@@ -201,12 +204,16 @@ impl Host {
         let none = Place::none();
         let places = [none; 8];
         let program = Program::none();
+        let diskroots = [0u8; 2048];
+        let stageroots = [0u8; 512];
         Host {
             sector,
             disk,
             stage,
             places,
             program,
+            diskroots,
+            stageroots,
         }
     }
 }

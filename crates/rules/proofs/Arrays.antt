@@ -1,4 +1,5 @@
 -- Arrays keep their lengths: those of places and of staged positions, whatever the call. Assumes nothing.
+use Rattle.rules.specs.Roots.{rootAt}
 use mathlib.Core.Path.{_≡_, refl, sym, ap, _∙_, subst}
 use mathlib.Core.Bool.{Bool, true}
 use mathlib.Core.List.{List, [], _∷_}
@@ -13,18 +14,18 @@ use Rattle.sia.specs.Names.{opOf}
 use Rattle.sia.specs.Decode.{decode}
 use Rattle.host.specs.Lists.{each}
 use Rattle.host.specs.Empty.{noPlace, noProgram, noProgress, newPlace, bare, started}
-use Rattle.host.specs.With.{withPlaces, withProgram, withCame, withProgress, withSize, withSlots}
+use Rattle.host.specs.With.{withPlaces, withProgram, withCame, withProgress, withSize, withSlots, withStageRoots, withDiskRoots}
 use Rattle.host.specs.Places.{hasId, whose}
 use Rattle.host.specs.Calls.{freshed, formedAt, formed, replaced, dropped}
-use Rattle.rules.specs.View.{Setting, Turn, settingOf, turnOf, withRun, parent}
+use Rattle.rules.specs.View.{Setting, Turn, settingOf, turnOf, withRun, parent, settingBy}
 use Rattle.rules.specs.Inputs.{inputsOf, argsOf}
 use Rattle.rules.specs.Plan.{judged}
 use Rattle.rules.specs.Effect.{groundOf}
 use Rattle.rules.specs.Run.{failedProgress, failing, ranProgress, succeeding, stepped, current, step, ready, runs, run}
-use Rattle.rules.specs.Calls.{answered, begun, openedHead, opened, Pieced, pieced, accepted, piece, Interrupted, stopped, interrupt}
+use Rattle.rules.specs.Calls.{answered, begun, openedHead, opened, Pieced, pieced, accepted, piece, Interrupted, stopped, interrupt, acceptedBy, interruptBy, stoppedBy}
 use Rattle.rules.specs.Commit.{Closed, givenUp, finalSlots, finalPlace, commit}
 use Rattle.rules.specs.Visit.{Areas, Opening, Agreement, opens, gives, stops, closes, Shaped, Declared, Ready}
-use Rattle.rules.specs.Trace.{fed}
+use Rattle.rules.specs.Trace.{fed, fedBy}
 use Rattle.rules.specs.Outcome.{Kept}
 use Rattle.rules.proofs.Forming.{making}
 use Rattle.rules.proofs.Ordering.{orders}
@@ -35,6 +36,8 @@ use Rattle.rules.proofs.Laws.Effects.{effect-length, whole-sectors}
 use Rattle.rules.proofs.Laws.Split.{split, replaced-none, none-of}
 use Rattle.rules.proofs.Laws.Steps.{runs-go, runs-stop}
 use Rattle.rules.proofs.Laws.Taking.{order-good}
+use Rattle.rules.proofs.Laws.Areas.{runs-alike}
+use Rattle.rules.proofs.Laws.Filling.{filling-length}
 use Rattle.rules.proofs.Laws.Ways.{either-way}
 use Rattle.sia.specs.declared.Instruction.{Instruction}
 use Rattle.host.specs.declared.Place.{Place}
@@ -48,10 +51,10 @@ stepped-entries : (z : ℕ) (s : Setting) (i : Instruction) (l : List (List ℕ)
     → length (stepped z s i l t .progress .staged) ≡ length (t .progress .staged)
 unfolding stepped succeeding failing ranProgress failedProgress
 stepped-entries z s i l t =
-    by (eqb (judged z s (t .progress) i l) 0)
-    (λ e. ap (λ (x : Turn). length (x .progress .staged)) (picks (eqb (judged z s (t .progress) i l) 0) _ _ e)
+    by (eqb (judged z s (rootAt z s t) (t .progress) i l) 0)
+    (λ e. ap (λ (x : Turn). length (x .progress .staged)) (picks (eqb (judged z s (rootAt z s t) (t .progress) i l) 0) _ _ e)
     ∙ effect-length z (groundOf s) (t .progress .size) (opOf (i .name)) (argsOf (opOf (i .name)) l) _)
-    (λ e. ap (λ (x : Turn). length (x .progress .staged)) (skips (eqb (judged z s (t .progress) i l) 0) _ _ e))
+    (λ e. ap (λ (x : Turn). length (x .progress .staged)) (skips (eqb (judged z s (rootAt z s t) (t .progress) i l) 0) _ _ e))
 
 runs-entries : (z : ℕ) (s : Setting) (a : List ℕ) (k n : ℕ) (t : Turn)
     → length (runs z s a k n t .progress .staged) ≡ length (t .progress .staged)
@@ -63,38 +66,53 @@ runs-entries z s a k (suc n) t =
     ∙ stepped-entries z s (current s t) (inputsOf (current s t) a) t)
     (λ r. ap (λ (x : Turn). length (x .progress .staged)) (runs-stop z s a k (suc n) t r))
 
--- what opening and pieces keep: arrays as declared, and the contracts and the sector size of h
-abbrev pub Same : Host → Host → Type 0
-Same h x = Declared x × (x .places ≡ h .places) × (x .sector ≡ h .sector)
+-- what opening and pieces keep: arrays as declared, and the contracts, the roots kept beside the disk's slots and the sector size of h
+pub record Same (h x : Host) : Type 0 where
+  pub declared : Declared x
+  pub places : x .places ≡ h .places
+  pub roots : x .diskroots ≡ h .diskroots
+  pub sector : x .sector ≡ h .sector
+
+still : (h : Host) → Declared h → Same h h
+still h d = record { declared = d; places = refl; roots = refl; sector = refl }
 
 -- down the chain of an opening: each refusal leaves the host
 abbrev Opens : Host → Answer → Type 0
 Opens h r = Same h (r .host)
 
 opens-or : (h : Host) (b : Bool) (n : ℕ) (r : Answer) → Declared h → Opens h r → Opens h (pick b (answered n 0 h) r)
-opens-or h b n r d q = either-way (Opens h) b _ r (λ _. (d, refl, refl)) (λ _. q)
+opens-or h b n r d q = either-way (Opens h) b _ r (λ _. still h d) (λ _. q)
 
 pub same-opens : (h : Host) (o : Opening) → Declared h → Same h (opens h o .host)
 unfolding opened openedHead withProgram begun started
 same-opens h o d =
     opens-or h _ 1 _ d (opens-or h _ 2 _ d (opens-or h _ 3 _ d (opens-or h _ (decode (o .bytes) .number) _ d
-    (opens-or h _ 7 _ d (opens-or h _ 11 _ d (record { places = d .places; staged = refl }, refl, refl))))))
+    (opens-or h _ 7 _ d (opens-or h _ 11 _ d (record {
+      declared = record { places = d .places; staged = refl; disk = d .disk; stage = d .stage };
+      places = refl;
+      roots = refl;
+      sector = refl;
+    }))))))
 
 abbrev Takes : Host → Pieced → Type 0
 Takes h r = Same h (r .host)
 
 accepted-same : (disk : List ℕ) (w : Pieced) (b : List ℕ) → Declared (w .host)
     → Takes (w .host) (accepted disk (w .host) (w .stage) (w .input) (w .output) b)
-unfolding accepted withRun withProgram withProgress withCame run turnOf
+unfolding acceptedBy withRun withStageRoots withProgram withProgress withCame run turnOf
 accepted-same disk w b d =
-    let s = settingOf (w .host) disk in (
-      record {
+    let s = settingOf (w .host) disk in
+    record {
+      declared = record {
         places = d .places;
         staged = runs-entries (w .host .sector) s _ _ (s .terms .head .count) (turnOf (w .host) (w .stage) (w .output)) ∙ d .staged;
-      },
-      refl,
-      refl,
-    )
+        disk = d .disk;
+        stage = runs-alike (w .host .sector) s _ _ (s .terms .head .count) (turnOf (w .host) (w .stage) (w .output)) .roots ∙ d .stage;
+      };
+      places = refl;
+      roots = refl;
+      sector = refl;
+    }
 
 same-piece : (disk : List ℕ) (w : Pieced) (b : List ℕ) → Declared (w .host)
     → Takes (w .host) (piece disk (w .host) (w .stage) (w .input) (w .output) b)
@@ -103,18 +121,23 @@ same-piece disk w b d =
   where
     under : (r : Pieced) → Answered w (accepted disk (w .host) (w .stage) (w .input) (w .output) b) r → Takes (w .host) r
     under r (ok e) = subst (Takes (w .host)) (sym e) (accepted-same disk w b d)
-    under r (refused n e) = subst (Takes (w .host)) (sym e) (d, refl, refl)
+    under r (refused n e) = subst (Takes (w .host)) (sym e) (still (w .host) d)
 
 pub same-fed : (disk : List ℕ) (w : Pieced) (bs : List (List ℕ)) → Declared (w .host) → Same (w .host) (fed disk w bs .host)
-unfolding fed
-same-fed disk w [] d = (d, refl, refl)
+unfolding fedBy
+same-fed disk w [] d = still (w .host) d
 same-fed disk w (b ∷ bs) d =
     let one = same-piece disk w b d in
-    let more = same-fed disk (piece disk (w .host) (w .stage) (w .input) (w .output) b) bs (one .0) in
-    (more .0, more .1 ∙ one .1, more .2 ∙ one .2)
+    let more = same-fed disk (piece disk (w .host) (w .stage) (w .input) (w .output) b) bs (one .declared) in
+    record {
+      declared = more .declared;
+      places = more .places ∙ one .places;
+      roots = more .roots ∙ one .roots;
+      sector = more .sector ∙ one .sector;
+    }
 
 declared-gives : (h : Host) (a : Areas) (bytes : List ℕ) → Declared h → Declared (gives h a bytes .host)
-declared-gives h a bytes d = same-piece (a .disk) (pieced 0 0 h (a .stage) (a .input) (a .output)) bytes d .0
+declared-gives h a bytes d = same-piece (a .disk) (pieced 0 0 h (a .stage) (a .input) (a .output)) bytes d .declared
 
 -- ---- making, forming and dropping
 
@@ -134,12 +157,12 @@ unfolding formed withPlaces
 declared-formed h id d =
     either-way Fine _ _ _ (λ e. d) (λ e. either-way Fine _ _ _ (λ e. d) (λ e. either-way Fine _ _ _ (λ e. d) (λ e.
     either-way Fine _ _ _ (λ e. d) (λ e. either-way Fine _ _ _ (λ e. d) (λ e. either-way Fine _ _ _ (λ e. d) (λ e.
-    record { places = shaped-formed id (h .places) (d .places); staged = d .staged }))))))
+    record { places = shaped-formed id (h .places) (d .places); staged = d .staged; disk = d .disk; stage = d .stage }))))))
 
 declared-bare : (z disk stage : ℕ) → Declared (bare z disk stage)
 unfolding bare noPlace noProgram noProgress
 declared-bare z disk stage =
-    record { places = (refl, (refl, (refl, (refl, (refl, (refl, (refl, (refl, tt)))))))); staged = refl }
+    record { places = (refl, (refl, (refl, (refl, (refl, (refl, (refl, (refl, tt)))))))); staged = refl; disk = refl; stage = refl }
 
 declared-fresh : (z disk stage : ℕ) → Fine (freshed z disk stage)
 unfolding freshed
@@ -158,7 +181,7 @@ unfolding dropped withPlaces noPlace
 declared-dropped h id d =
     either-way Fine _ _ _ (λ e. d) (λ e. either-way Fine _ _ _ (λ e. d) (λ e. either-way Fine _ _ _ (λ e. d) (λ e.
     either-way Fine _ _ _ (λ e. d) (λ e.
-    record { places = shaped-replaced id noPlace (h .places) refl (d .places); staged = d .staged }))))
+    record { places = shaped-replaced id noPlace (h .places) refl (d .places); staged = d .staged; disk = d .disk; stage = d .stage }))))
 
 -- ---- interrupts
 
@@ -166,11 +189,11 @@ abbrev Stops : Interrupted → Type 0
 Stops r = Declared (r .host)
 
 declared-stops : (h : Host) (a : Areas) → Declared h → Stops (stops h a)
-unfolding interrupt stopped failing failedProgress withRun withProgram withProgress withCame turnOf
+unfolding interruptBy stoppedBy failing failedProgress withRun withStageRoots withProgram withProgress withCame turnOf
 declared-stops h a d =
     either-way Stops _ _ _ (λ e. d) (λ e. either-way Stops _ _ _ (λ e. d) (λ e. either-way Stops _ _ _ (λ e. d) (λ e.
     either-way Stops _ _ _ (λ e. d) (λ e. either-way Stops _ _ _
-    (λ e. record { places = d .places; staged = d .staged }) (λ e. d)))))
+    (λ e. record { places = d .places; staged = d .staged; disk = d .disk; stage = d .stage }) (λ e. d)))))
 
 -- ---- closing
 
@@ -187,7 +210,7 @@ module _ (disk : List ℕ) (h : Host) (stage : List ℕ) (r : Ready h) (live : h
 
   shaped-commit : let old = whose id (h .places) in
       Shaped (replaced id (finalPlace old size (finalSlots (h .sector) (h .disk) (h .places) old size)) (h .places))
-  unfolding settingOf
+  unfolding settingBy
   shaped-commit =
       let d = r .declared in
       by (whose (h .program .terms .head .contract) (h .places) .held)
@@ -203,12 +226,17 @@ module _ (disk : List ℕ) (h : Host) (stage : List ℕ) (r : Ready h) (live : h
       (λ e. subst Shaped (sym (replaced-none id _ (h .places) (none-of id (h .places) e))) (d .places))
 
   commit-declared : Declared (commit disk h stage .host)
-  unfolding commit parent settingOf withProgram withPlaces noProgram noProgress
-  commit-declared = record { places = shaped-commit; staged = refl }
+  unfolding commit parent settingBy withProgram withPlaces noProgram noProgress withDiskRoots
+  commit-declared = record {
+    places = shaped-commit;
+    staged = refl;
+    disk = filling-length 32 (h .stageroots) (h .program .progress .staged) _ 0 (h .program .progress .size / h .sector) (h .diskroots) ∙ r .declared .disk;
+    stage = r .declared .stage;
+  }
 
 given-declared : (n : ℕ) (disk : List ℕ) (h : Host) → Declared h → Declared (givenUp n disk h .host)
 unfolding givenUp withProgram noProgram noProgress
-given-declared n disk h d = record { places = d .places; staged = refl }
+given-declared n disk h d = record { places = d .places; staged = refl; disk = d .disk; stage = d .stage }
 
 declared-closes : (h : Host) (a : Areas) (g : Agreement) → Ready h → Declared (closes h a g .host)
 declared-closes h a g r =
@@ -228,7 +256,7 @@ kept h a r =
     record {
       forming = λ id. record { order = o .forming id; declared = declared-formed h id d };
       dropping = λ id. record { order = o .dropping id; declared = declared-dropped h id d };
-      opening = λ p bytes. record { order = o .opening p bytes; declared = same-opens h p d .0 };
+      opening = λ p bytes. record { order = o .opening p bytes; declared = same-opens h p d .declared };
       piece = λ bytes. record { order = o .piece bytes; declared = declared-gives h a bytes d };
       interrupt = record { order = o .interrupt; declared = declared-stops h a d };
       closing = λ g. record { order = o .closing g; declared = declared-closes h a g r };

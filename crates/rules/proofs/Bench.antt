@@ -58,7 +58,7 @@ open-sia = 0
 unfoldable open-host : ℕ
 unfolding HostSizes.doubled HostSizes.isSize HostLists.some HostLists.those HostLists.each HostLists.apart HostLists.sum HostLists.count HostEmpty.noPlace HostEmpty.noPrices
     HostEmpty.noTerms HostEmpty.noProgress HostEmpty.noProgram HostEmpty.bare HostEmpty.newPlace HostEmpty.started HostWith.withPlaces
-    HostWith.withProgram HostWith.withCame HostWith.withProgress HostWith.withRunning HostWith.withStaged HostPlaces.hasId HostPlaces.whose
+    HostWith.withProgram HostWith.withStageRoots HostWith.withCame HostWith.withProgress HostWith.withRunning HostWith.withStaged HostPlaces.hasId HostPlaces.whose
     HostPlaces.ownSize HostPlaces.others HostPlaces.committed HostPlaces.taken HostPlaces.freeCopy HostOrder.lent HostOrder.placeInOrder
     HostOrder.twins HostOrder.placesInOrder HostOrder.slotInOrder HostOrder.clash HostOrder.stagedInOrder HostOrder.parentInOrder
     HostOrder.termsInOrder HostOrder.progressInOrder HostOrder.programInOrder HostOrder.inOrder HostCalls.lengthRight HostCalls.freshed
@@ -67,7 +67,7 @@ open-host = 0
 
 -- opens the definitions of rules
 unfoldable open-rules : ℕ
-unfolding RulesView.settingOf RulesView.turnOf RulesView.withRun RulesView.diskRight RulesView.areasRight RulesView.readOnlyMode
+unfolding RulesView.settingBy RulesView.turnOf RulesView.withRun RulesView.diskRight RulesView.areasRight RulesView.readOnlyMode
     RulesView.parent RulesView.freeCopies RulesView.sector RulesView.spotOf RulesView.parentSpots RulesView.committedSpots
     RulesView.allSpots RulesView.whole RulesRoots.contractRoot RulesRoots.rangeCount RulesInputs.known RulesInputs.operandsOf
     RulesInputs.illFormed RulesInputs.pastEnd RulesInputs.largest RulesInputs.need RulesInputs.inputsOf RulesInputs.isTold RulesInputs.told
@@ -80,8 +80,8 @@ unfolding RulesView.settingOf RulesView.turnOf RulesView.withRun RulesView.diskR
     RulesEffect.effect RulesRecord.pairOf RulesRecord.startingPair RulesRecord.runningPair RulesRecord.recordBytes RulesRecord.failureBytes
     RulesRecord.outputOf RulesRecord.successBytes RulesRun.failedProgress RulesRun.failing RulesRun.ranProgress RulesRun.succeeding
     RulesRun.stepped RulesRun.current RulesRun.step RulesRun.going RulesRun.ready RulesRun.runs RulesRun.run RulesCalls.roomRight
-    RulesCalls.begun RulesCalls.openedHead RulesCalls.opened RulesCalls.accepted RulesCalls.inputRight RulesCalls.outputRight
-    RulesCalls.piece RulesBench.prices RulesBench.id RulesBench.operand RulesBench.instruction RulesBench.program RulesBench.host
+    RulesCalls.begun RulesCalls.openedHead RulesCalls.opened RulesCalls.acceptedBy RulesCalls.inputRight RulesCalls.outputRight
+    RulesCalls.pieceBy RulesBench.prices RulesBench.id RulesBench.operand RulesBench.instruction RulesBench.program RulesBench.host
     RulesBench.sectorHost RulesBench.start RulesBench.given RulesBench.ran RulesBench.failed RulesBench.records RulesBench.counts
     RulesBench.first RulesBench.written RulesBench.contracts RulesBench.grow RulesBench.alone RulesBench.growWrite RulesBench.growWriteData
     RulesBench.lateGrow RulesBench.lateGrowData RulesBench.onFour RulesBench.onFourData RulesBench.readSpan RulesBench.readSpanData
@@ -112,7 +112,7 @@ pub visit : Visit host (record { bytes = encode alone; budget = plenty; prices =
     (record { disk = zeros 32768; stage = zeros 16384; input = zeros 8; output = zeros 16384 }) (le8 4096)
 unfolding open-area open-sia open-host open-rules
 visit = record {
-  declared = record { places = (refl, (refl, (refl, (refl, (refl, (refl, (refl, (refl, tt)))))))); staged = refl };
+  declared = record { places = (refl, (refl, (refl, (refl, (refl, (refl, (refl, (refl, tt)))))))); staged = refl; disk = refl; stage = refl };
   head = below (encode alone) refl;
   opening = refl;
   areas = refl;

@@ -16,13 +16,13 @@ use Rattle.area.proofs.Laws.Slots as Slots
 use Rattle.sia.specs.Encode.{every}
 use Rattle.host.specs.Lists.{apart, count, unused}
 use Rattle.host.specs.Empty.{noProgram}
-use Rattle.host.specs.With.{withPlaces, withProgram, withSize, withSlots}
+use Rattle.host.specs.With.{withPlaces, withProgram, withDiskRoots, withSize, withSlots}
 use Rattle.host.specs.Places.{whose, others, committed, taken}
 use Rattle.host.specs.Order.{placeInOrder, twins, placesInOrder, inOrder}
 use Rattle.host.specs.Calls.{replaced}
 use Rattle.host.proofs.Laws.Order.{facts-contracts, order-facts}
-use Rattle.rules.specs.View.{settingOf, parent}
-use Rattle.rules.specs.Commit.{cut, newSlots, finalSlots, finalPlace, commit}
+use Rattle.rules.specs.View.{settingBy, settingOf, parent}
+use Rattle.rules.specs.Commit.{cut, newSlots, finalSlots, finalPlace, copiedBack, commit}
 use Rattle.rules.specs.Visit.{Shaped, Declared}
 use Rattle.rules.proofs.Laws.Effects.{whole-sectors}
 use Rattle.rules.proofs.Laws.Sizes.{has-held, has-same, keeps-not, place-size, others-left}
@@ -203,13 +203,14 @@ module _ (z disk size : ℕ) (id : List ℕ) (ps : List Place) (s : Split id ps)
 
 commit-places : (disk : List ℕ) (h : Host) (stage : List ℕ) → let old = whose (h .program .terms .head .contract) (h .places) in
     commit disk h stage .host
-    ≡ withProgram (withPlaces h (replaced (h .program .terms .head .contract) (finalPlace old (h .program .progress .size) (finalSlots (h .sector) (h .disk) (h .places) old (h .program .progress .size))) (h .places))) noProgram
-unfolding commit parent settingOf
+    ≡ withDiskRoots (withProgram (withPlaces h (replaced (h .program .terms .head .contract) (finalPlace old (h .program .progress .size) (finalSlots (h .sector) (h .disk) (h .places) old (h .program .progress .size))) (h .places))) noProgram)
+    (copiedBack 32 (h .stageroots) (h .program .progress .staged) (finalSlots (h .sector) (h .disk) (h .places) old (h .program .progress .size)) 0 (h .program .progress .size / h .sector) (h .diskroots))
+unfolding commit parent settingBy
 commit-places disk h stage = refl
 
-idle-order : (h : Host) (ps : List Place) → inOrder h ≡ true → placesInOrder (h .sector) (h .disk) ps ≡ true → inOrder (withProgram (withPlaces h ps) noProgram) ≡ true
-unfolding inOrder withProgram withPlaces noProgram
-idle-order h ps o q =
+idle-order : (h : Host) (ps : List Place) (roots : List ℕ) → inOrder h ≡ true → placesInOrder (h .sector) (h .disk) ps ≡ true → inOrder (withDiskRoots (withProgram (withPlaces h ps) noProgram) roots) ≡ true
+unfolding inOrder withProgram withPlaces withDiskRoots noProgram
+idle-order h ps roots o q =
     let b = both-right _ _ o in
     let c = both-right _ _ b in
     both-join _ _ (both-left _ _ o) (both-join _ _ (both-left _ _ b) (both-join _ _ (both-left _ _ c) (both-join _ _ q (picks (not false) true _ refl))))
@@ -231,14 +232,14 @@ final-place z disk size id ps it l e f =
     ap (λ (x : Place). finalPlace x size (finalSlots z disk ps x size)) e ∙ ap (λ (m : List ℕ). finalPlace it size m) f
 
 pub commit-order : (disk : List ℕ) (h : Host) (stage : List ℕ) → Declared h → inOrder h ≡ true → h .program .active ≡ true → inOrder (commit disk h stage .host) ≡ true
-unfolding settingOf place old
+unfolding settingBy place old
 commit-order disk h stage sound o live =
     let id = h .program .terms .head .contract in
     let size = h .program .progress .size in
     let q = order-places h o in
     let g = order-good h disk o live (sound .staged) .orderly in
     ap inOrder (commit-places disk h stage)
-    ∙ idle-order h _ o
+    ∙ idle-order h _ _ o
     (by (whose id (h .places) .held)
     (λ e. let s = split id (h .places) (place-twins (h .sector) (h .disk) (h .places) (q .0)) e in
     ap (λ (x : Place). placesInOrder (h .sector) (h .disk) (replaced id x (h .places)))

@@ -9,12 +9,12 @@ use lib.Seq.{take-append-seam}
 use Rattle.area.specs.Pick.{pick}
 use Rattle.area.specs.Area.{part, put}
 use Rattle.area.proofs.Laws.Puts.{put-append, part-put}
-use Rattle.host.specs.With.{withProgram, withCame, withProgress}
-use Rattle.rules.specs.View.{Setting, Turn, settingOf, turnOf, withRun}
+use Rattle.host.specs.With.{withProgram, withCame, withProgress, withStageRoots}
+use Rattle.rules.specs.View.{Setting, Turn, settingOf, turnOf, withRun, settingBy}
 use Rattle.rules.specs.Run.{run}
-use Rattle.rules.specs.Calls.{Pieced, pieced, accepted, piece}
+use Rattle.rules.specs.Calls.{Pieced, pieced, accepted, piece, acceptedBy, pieceBy}
 use Rattle.rules.specs.Visit.{Areas}
-use Rattle.rules.specs.Trace.{together, lentTo, fed, AllAccepted, made, after}
+use Rattle.rules.specs.Trace.{together, lentTo, fed, AllAccepted, made, after, fedBy}
 use Rattle.rules.proofs.Laws.Steps.{run-below, run-on}
 use Rattle.rules.proofs.Laws.Taking.{Taking, all-accepted}
 use Rattle.host.specs.declared.Host.{Host}
@@ -35,7 +35,7 @@ refused-if w a n false r q = q
 
 pub piece-answers : (disk : List ℕ) (w : Pieced) (b : List ℕ)
     → Answered w (accepted disk (w .host) (w .stage) (w .input) (w .output) b) (piece disk (w .host) (w .stage) (w .input) (w .output) b)
-unfolding piece
+unfolding pieceBy
 piece-answers disk w b = refused-if w _ 0 _ _ (refused-if w _ 1 _ _ (refused-if w _ 1 _ _ (refused-if w _ 3 _ _ (refused-if w _ 11 _ _ (ok refl)))))
 
 pub answered-zero : (w a r : Pieced) → Answered w a r → r .number ≡ 0 → r ≡ a
@@ -47,14 +47,14 @@ same-made h k m t u a b p q r = rw (p, q, r)
 
 accepted-made : (disk : List ℕ) (h : Host) (stage input output b : List ℕ) (c : ℕ) → h .program .came ≡ c
     → accepted disk h stage input output b ≡ made h (c + length b) (run (h .sector) (settingOf h disk) (put input c b) (c + length b) (turnOf h stage output)) (put input c b)
-unfolding accepted made
+unfolding acceptedBy made
 accepted-made disk h stage input output b c e =
     ap (λ (n : ℕ). made h (n + length b) (run (h .sector) (settingOf h disk) (put input n b) (n + length b) (turnOf h stage output)) (put input n b)) e
 
 -- a piece after others looks at the host only by what stays and by what they left
 accepted-again : (disk : List ℕ) (h : Host) (k : ℕ) (t : Turn) (area b : List ℕ)
-    → accepted disk (withRun h k (t .progress)) (t .stage) area (t .output) b ≡ made h (k + length b) (run (h .sector) (settingOf h disk) (put area k b) (k + length b) t) (put area k b)
-unfolding accepted made withRun withProgram withProgress withCame settingOf turnOf
+    → accepted disk (withRun h k (t .progress) (t .roots)) (t .stage) area (t .output) b ≡ made h (k + length b) (run (h .sector) (settingOf h disk) (put area k b) (k + length b) t) (put area k b)
+unfolding acceptedBy made withRun withStageRoots withProgram withProgress withCame settingBy turnOf
 accepted-again disk h k t area b = refl
 
 module _ (h : Host) (a : Areas) (all : List ℕ) (roomy : length all ≤ length (a .input)) where
@@ -94,7 +94,7 @@ module _ (h : Host) (a : Areas) (all : List ℕ) (roomy : length all ≤ length 
   on : (x : List ℕ) (bs : List (List ℕ)) (rest : List ℕ) → x ++ (together bs ++ rest) ≡ all
       → AllAccepted (a .disk) (after h a all (length x)) bs
       → fed (a .disk) (after h a all (length x)) bs ≡ after h a all (length (x ++ together bs))
-  unfolding fed together
+  unfolding fedBy together
   on x [] rest e q = ap (λ (y : List ℕ). after h a all (length y)) (sym (append-nil x))
   on x (b ∷ bs) rest e q =
       let w = after h a all (length x) in
@@ -108,7 +108,7 @@ module _ (h : Host) (a : Areas) (all : List ℕ) (roomy : length all ≤ length 
   pub cutting : (b : List ℕ) (bs : List (List ℕ)) (rest : List ℕ) → h .program .came ≡ 0 → together (b ∷ bs) ++ rest ≡ all
       → AllAccepted (a .disk) (lentTo h a) (b ∷ bs)
       → fed (a .disk) (lentTo h a) (b ∷ bs) ≡ after h a all (length (together (b ∷ bs)))
-  unfolding fed together
+  unfolding fedBy together
   cutting b bs rest c e q =
       let w : Pieced = lentTo h a in
       let e₁ : b ++ (together bs ++ rest) ≡ all = sym (append-assoc b (together bs) rest) ∙ e in

@@ -8,7 +8,7 @@ use Rattle.area.specs.Area.{same}
 use Rattle.area.proofs.Laws.Pick.{by, picks, skips}
 use Rattle.area.proofs.Laws.Same.{same-eq}
 use Rattle.sia.proofs.Theorems.{reading-what-was-written, writing-what-was-read, same-bytes}
-use Rattle.rules.specs.Roots.{sectorRoot, firstRoot}
+use Rattle.rules.specs.Roots.{firstRoot}
 use Rattle.rules.specs.Demands.{Demands}
 use Rattle.rules.proofs.Refusing.{refusals}
 use Rattle.rules.proofs.Forming.{unmade}
@@ -22,18 +22,18 @@ use Rattle.rules.proofs.Visits.{cut, ran, alike, closing-visits}
 use Rattle.rules.proofs.Padded.{short-ids}
 use Rattle.rules.proofs.Unchanged.{nothing-to-agree}
 use Rattle.rules.proofs.Sectors.{full-sectors}
+use Rattle.rules.proofs.Sound.{kept-roots}
 use Rattle.rules.specs.declared.Spot.{Spot}
 
 -- the sector that a root finds has that root
-found : (z : ℕ) (disk key : List ℕ) (l : List Spot) (x : Spot) (xs : List Spot) → firstRoot z disk key l ≡ x ∷ xs
-    → sectorRoot z disk [] x ≡ key
+found : (f : Spot → List ℕ) (key : List ℕ) (l : List Spot) (x : Spot) (xs : List Spot) → firstRoot f key l ≡ x ∷ xs → f x ≡ key
 unfolding firstRoot
-found z disk key [] x xs e = absurd (let q = ap length e in omega arith)
-found z disk key (y ∷ l) x xs e =
-    by (same (sectorRoot z disk [] y) key)
-    (λ t. let q = sym (picks (same (sectorRoot z disk [] y) key) (y ∷ []) (firstRoot z disk key l) t) ∙ e in
-    ap (λ (m : List Spot). sectorRoot z disk [] (getD m 0 y)) (sym q) ∙ same-eq _ _ t)
-    (λ t. found z disk key l x xs (sym (skips (same (sectorRoot z disk [] y) key) (y ∷ []) (firstRoot z disk key l) t) ∙ e))
+found f key [] x xs e = absurd (let q = ap length e in omega arith)
+found f key (y ∷ l) x xs e =
+    by (same (f y) key)
+    (λ t. let q = sym (picks (same (f y) key) (y ∷ []) (firstRoot f key l) t) ∙ e in
+    ap (λ (m : List Spot). f (getD m 0 y)) (sym q) ∙ same-eq _ _ t)
+    (λ t. found f key l x xs (sym (skips (same (f y) key) (y ∷ []) (firstRoot f key l) t) ∙ e))
 
 pub demands : Demands
 demands = record {
@@ -57,9 +57,11 @@ demands = record {
     ids = same-eq;
     equals = same-bytes;
     roots = found;
+
   };
   three = record { cut = cut; alike = alike };
   ids = short-ids;
   unchanged = nothing-to-agree;
   sectors = full-sectors;
+  roots = kept-roots;
 }

@@ -24,17 +24,19 @@ use Rattle.rules.proofs.Laws.Ways.{either-way}
 use Rattle.rules.proofs.Laws.Classes.{is-invalid, is-host}
 use Rattle.sia.specs.declared.Instruction.{Instruction}
 use Rattle.host.specs.declared.Progress.{Progress}
+use Rattle.rules.specs.declared.Spot.{Spot}
+use Rattle.rules.specs.Roots.{rootAt}
 
 fails : (z : ℕ) (s : Setting) (n : ℕ) (t : Turn) → Failed z s n t (failing z s n t)
 unfolding failing failedProgress withWritten withFailed
-fails z s n t = record { progress = refl; stage = refl; output = refl }
+fails z s n t = record { progress = refl; stage = refl; roots = refl; output = refl }
 
-writes : (z : ℕ) (s : Setting) (i : Instruction) (l : List (List ℕ)) (t : Turn) → (judged z s (t .progress) i l ≡ 0 → ⊥)
-    → Failed z s (judged z s (t .progress) i l) t (stepped z s i l t)
+writes : (z : ℕ) (s : Setting) (i : Instruction) (l : List (List ℕ)) (t : Turn) → (judged z s (rootAt z s t) (t .progress) i l ≡ 0 → ⊥)
+    → Failed z s (judged z s (rootAt z s t) (t .progress) i l) t (stepped z s i l t)
 unfolding stepped
 writes z s i l t n =
-    subst (λ (x : Turn). Failed z s (judged z s (t .progress) i l) t x) (sym (skips (eqb (judged z s (t .progress) i l) 0) _ _ (ne-eqb _ _ n)))
-    (fails z s (judged z s (t .progress) i l) t)
+    subst (λ (x : Turn). Failed z s (judged z s (rootAt z s t) (t .progress) i l) t x) (sym (skips (eqb (judged z s (rootAt z s t) (t .progress) i l) 0) _ _ (ne-eqb _ _ n)))
+    (fails z s (judged z s (rootAt z s t) (t .progress) i l) t)
 
 stopped : (s : Setting) (k : ℕ) (t : Turn) → t .progress .failed ≡ true → ready s k t ≡ false
 unfolding ready going
@@ -46,10 +48,10 @@ ends z s input k t f = runs-stop z s input k (s .terms .head .count) t (stopped 
 
 -- ---- the tally
 
-charged : (z : ℕ) (s : Setting) (i : Instruction) (l : List (List ℕ)) (t : Turn) → judged z s (t .progress) i l ≡ 0
+charged : (z : ℕ) (s : Setting) (i : Instruction) (l : List (List ℕ)) (t : Turn) → judged z s (rootAt z s t) (t .progress) i l ≡ 0
     → stepped z s i l t .progress .tally ≡ t .progress .tally + cost (s .terms .head .length) (s .terms .prices) (opOf (i .name)) (argsOf (opOf (i .name)) l .len)
 unfolding stepped succeeding ranProgress
-charged z s i l t e = ap (λ (x : Turn). x .progress .tally) (picks (eqb (judged z s (t .progress) i l) 0) _ _ (eq-eqb _ _ e))
+charged z s i l t e = ap (λ (x : Turn). x .progress .tally) (picks (eqb (judged z s (rootAt z s t) (t .progress) i l) 0) _ _ (eq-eqb _ _ e))
 
 -- a chain of checks that comes to 0 passed its first check
 passes : (b : Bool) (n x : ℕ) → pick b (suc n) x ≡ 0 → (b ≡ false) × (x ≡ 0)
@@ -57,10 +59,10 @@ unfolding pick
 passes true n x e = absurd (omega arith)
 passes false n x e = (refl, e)
 
-paid : (z : ℕ) (s : Setting) (p : Progress) (i : Instruction) (l : List (List ℕ)) → judged z s p i l ≡ 0
+paid : (z : ℕ) (s : Setting) (f : Spot → List ℕ) (p : Progress) (i : Instruction) (l : List (List ℕ)) → judged z s f p i l ≡ 0
     → p .tally + cost (s .terms .head .length) (s .terms .prices) (opOf (i .name)) (argsOf (opOf (i .name)) l .len) ≤ s .terms .budget
 unfolding judged judgedInputs judgedSource
-paid z s p i l e =
+paid z s f p i l e =
     let inputs = passes _ 21 _ (passes _ 20 _ e .1) .1 in
     let proof = passes _ 26 _ (passes _ 25 _ (passes _ 24 _ (passes _ 23 _ (passes _ 22 _ inputs .1) .1) .1) .1) .1 in
     ltb-false _ _ (passes _ 27 _ proof .0)
@@ -72,8 +74,8 @@ same-tally p = refl
 step-within : (z : ℕ) (s : Setting) (i : Instruction) (l : List (List ℕ)) (t : Turn) → t .progress .tally ≤ s .terms .budget
     → stepped z s i l t .progress .tally ≤ s .terms .budget
 step-within z s i l t h =
-    by (eqb (judged z s (t .progress) i l) 0)
-    (λ e. let j : judged z s (t .progress) i l ≡ 0 = eqb-true _ _ e in omega (arith, charged z s i l t j, paid z s (t .progress) i l j))
+    by (eqb (judged z s (rootAt z s t) (t .progress) i l) 0)
+    (λ e. let j : judged z s (rootAt z s t) (t .progress) i l ≡ 0 = eqb-true _ _ e in omega (arith, charged z s i l t j, paid z s (rootAt z s t) (t .progress) i l j))
     (λ e. let f = writes z s i l t (eqb-false _ _ e) in omega (arith, h, ap (λ (p : Progress). p .tally) (f .progress), same-tally (t .progress)))
 
 runs-within : (z : ℕ) (s : Setting) (a : List ℕ) (k n : ℕ) (t : Turn) → t .progress .tally ≤ s .terms .budget → runs z s a k n t .progress .tally ≤ s .terms .budget
@@ -92,10 +94,10 @@ within z s input k t h = runs-within z s input k (s .terms .head .count) t h
 -- ---- its sum
 
 own : (z : ℕ) (s : Setting) (i : Instruction) (l : List (List ℕ)) (t : Turn) → stepped z s i l t .progress .tally
-    ≡ t .progress .tally + pick (eqb (judged z s (t .progress) i l) 0) (cost (s .terms .head .length) (s .terms .prices) (opOf (i .name)) (argsOf (opOf (i .name)) l .len)) 0
+    ≡ t .progress .tally + pick (eqb (judged z s (rootAt z s t) (t .progress) i l) 0) (cost (s .terms .head .length) (s .terms .prices) (opOf (i .name)) (argsOf (opOf (i .name)) l .len)) 0
 own z s i l t =
-    by (eqb (judged z s (t .progress) i l) 0)
-    (λ e. let j : judged z s (t .progress) i l ≡ 0 = eqb-true _ _ e in
+    by (eqb (judged z s (rootAt z s t) (t .progress) i l) 0)
+    (λ e. let j : judged z s (rootAt z s t) (t .progress) i l ≡ 0 = eqb-true _ _ e in
     charged z s i l t j ∙ ap (λ (n : ℕ). t .progress .tally + n) (sym (picks _ _ 0 e)))
     (λ e. let f = writes z s i l t (eqb-false _ _ e) in
     ap (λ (p : Progress). p .tally) (f .progress) ∙ same-tally (t .progress)
@@ -138,7 +140,7 @@ host : (n : ℕ) → 40 ≤ n → n ≤ 42 → Classed n
 host n lo hi = record { known = sym (ap isKnown (is-host n lo hi)) }
 
 -- down the chain of checks
-classed : (z : ℕ) (s : Setting) (i : Instruction) (l : List (List ℕ)) (t : Turn) → Classed (judged z s (t .progress) i l)
+classed : (z : ℕ) (s : Setting) (i : Instruction) (l : List (List ℕ)) (t : Turn) → Classed (judged z s (rootAt z s t) (t .progress) i l)
 unfolding judged judgedInputs judgedSource
 classed z s i l t =
     let way = either-way Classed in

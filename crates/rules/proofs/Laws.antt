@@ -18,3 +18,8 @@ pub mod Ways
 pub mod Filling
 pub mod Others
 pub mod Classes
+pub mod Wrote
+pub mod Rehashed
+pub mod Readers
+pub mod Pieces
+pub mod Worked

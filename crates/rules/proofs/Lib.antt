@@ -18,4 +18,5 @@ pub mod Arrays
 pub mod Visits
 pub mod Renaming
 pub mod Padded
+pub mod Sound
 pub mod Demands

@@ -1,60 +1,85 @@
 -- What is not committed changes no contract and no byte of the disk: down the chains of opening, pieces, interrupts and closing. Assumes
 -- nothing.
 use mathlib.Core.Path.{_≡_, refl, sym, ap, _∙_}
-use mathlib.Core.Bool.{true, false, not}
-use mathlib.Core.List.{List}
+use mathlib.Core.Bool.{Bool, true, false, not}
+use mathlib.Core.List.{List, []}
 use Prim.Native.Nat.{ℕ, _<_}
 use native.Mathlib.Omega.{arith}
 use lib.IntN.{pos}
+use lib.Dec.{eqb}
 use borrow.Author.Tests.{not-true, not-false}
 use Rattle.area.specs.Pick.{pick}
 use Rattle.area.proofs.Laws.Pick.{picks, skips, never, either-left, either-right}
-use Rattle.host.specs.Empty.{noProgram}
-use Rattle.host.specs.With.{withProgram}
+use Rattle.sia.specs.Decode.{decode}
+use Rattle.host.specs.Lists.{those}
+use Rattle.host.specs.Empty.{none, noProgram}
+use Rattle.host.specs.With.{withPlaces, withProgram, withStageRoots, withDiskRoots}
 use Rattle.host.specs.Order.{inOrder}
-use Rattle.rules.specs.View.{withRun, areasRight}
+use Rattle.rules.specs.View.{kept, withRun, areasRight}
 use Rattle.rules.specs.Run.{going}
-use Rattle.rules.specs.Calls.{openedHead, opened, Pieced, accepted, piece, Interrupted, stopped, interrupt}
-use Rattle.rules.specs.Commit.{Closed, closed, givenUp, commit, agreed, unfinished, close}
+use Rattle.rules.specs.Calls.{answered, openedHead, opened, Pieced, pieced, acceptedBy, pieceBy, Interrupted, interrupted, stoppedBy, interruptBy}
+use Rattle.rules.specs.Commit.{Closed, closed, givenUp, commit, agreedBy, unfinished, closeBy}
 use Rattle.rules.specs.Visit.{Areas, Opening, Agreement, named, opens, gives, stops, closes, Finished}
 use Rattle.rules.specs.Trace.{running, Unchanged}
-use Rattle.rules.specs.Outcome.{Untouched, stageTaken, Shut, Dropped}
+use Rattle.rules.specs.Outcome.{Standing, Untouched, stageTaken, Shut, Dropped}
 use Rattle.rules.specs.Demand1.{Nothing, Closing}
 use Rattle.rules.proofs.Laws.Ways.{either-way}
 use Rattle.rules.proofs.Laws.Pairs.{same-pairs, pairs-differ}
+use Rattle.host.specs.declared.Program.{Program}
 use Rattle.host.specs.declared.Host.{Host}
 use Rattle.rules.specs.declared.Answer.{Answer}
 
+shut-by : (h : Host) → h .program ≡ noProgram → Shut h
+unfolding noProgram stageTaken pick
+shut-by h e = record {
+  program = e;
+  active = ap (λ (g : Program). g .active) e;
+  slots = ap (λ (g : Program). pick (g .active) (those (λ n. not (eqb n none)) (g .progress .staged)) []) e;
+}
+
 shut : (h : Host) → Shut (withProgram h noProgram)
-unfolding withProgram noProgram stageTaken pick
-shut h = record { program = refl; active = refl; slots = refl }
+unfolding withProgram
+shut h = shut-by (withProgram h noProgram) refl
 
 module _ (h : Host) (a : Areas) where
-  opening : (o : Opening) → opens h o .host .places ≡ h .places
+  stays : Standing h h
+  stays = record { places = refl; roots = refl }
+
+  -- what a refusal leaves, with its number named
+  opening-not : (b : Bool) (n : ℕ) (rest : Answer) → (b ≡ false → Standing h (rest .host)) → Standing h (pick b (answered n 0 h) rest .host)
+  opening-not b n rest f = either-way (λ (r : Answer). Standing h (r .host)) b (answered n 0 h) rest (λ _. stays) f
+
+  opening : (o : Opening) → Standing h (opens h o .host)
   unfolding opened openedHead withProgram
   opening o =
-      let way = either-way (λ (r : Answer). r .host .places ≡ h .places) in
-      way _ _ _ (λ _. refl) (λ _. way _ _ _ (λ _. refl) (λ _. way _ _ _ (λ _. refl) (λ _.
-      way _ _ _ (λ _. refl) (λ _. way _ _ _ (λ _. refl) (λ _. way _ _ _ (λ _. refl) (λ _. refl))))))
+      opening-not _ 1 _ (λ _. opening-not _ 2 _ (λ _. opening-not _ 3 _ (λ _. opening-not _ (decode (o .bytes) .number) _ (λ _.
+      opening-not _ 7 _ (λ _. opening-not _ 11 _ (λ _. record { places = refl; roots = refl }))))))
 
-  pieces : (bytes : List ℕ) → gives h a bytes .host .places ≡ h .places
-  unfolding piece accepted withRun withProgram
+  piece-not : (b : Bool) (n : ℕ) (rest : Pieced) → (b ≡ false → Standing h (rest .host))
+      → Standing h (pick b (pieced n 0 h (a .stage) (a .input) (a .output)) rest .host)
+  piece-not b n rest f = either-way (λ (r : Pieced). Standing h (r .host)) b (pieced n 0 h (a .stage) (a .input) (a .output)) rest (λ _. stays) f
+
+  pieces : (bytes : List ℕ) → Standing h (gives h a bytes .host)
+  unfolding pieceBy acceptedBy withRun withStageRoots withProgram
   pieces bytes =
-      let way = either-way (λ (r : Pieced). r .host .places ≡ h .places) in
-      way _ _ _ (λ _. refl) (λ _. way _ _ _ (λ _. refl) (λ _. way _ _ _ (λ _. refl) (λ _. way _ _ _ (λ _. refl) (λ _.
-      way _ _ _ (λ _. refl) (λ _. refl)))))
+      piece-not _ 1 _ (λ _. piece-not _ 2 _ (λ _. piece-not _ 2 _ (λ _. piece-not _ 4 _ (λ _. piece-not _ 12 _ (λ _.
+      record { places = refl; roots = refl })))))
 
-  interrupts : stops h a .host .places ≡ h .places
-  unfolding interrupt stopped withRun withProgram
+  interrupt-not : (b : Bool) (n : ℕ) (rest : Interrupted) → (b ≡ false → Standing h (rest .host))
+      → Standing h (pick b (interrupted n 0 h (a .output)) rest .host)
+  interrupt-not b n rest f = either-way (λ (r : Interrupted). Standing h (r .host)) b (interrupted n 0 h (a .output)) rest (λ _. stays) f
+
+  interrupts : Standing h (stops h a .host)
+  unfolding interruptBy stoppedBy withRun withStageRoots withProgram
   interrupts =
-      let way = either-way (λ (r : Interrupted). r .host .places ≡ h .places) in
-      way _ _ _ (λ _. refl) (λ _. way _ _ _ (λ _. refl) (λ _. way _ _ _ (λ _. refl) (λ _. way _ _ _ (λ _. refl) (λ _.
-      way _ _ _ (λ _. refl) (λ _. refl)))))
+      interrupt-not _ 1 _ (λ _. interrupt-not _ 2 _ (λ _. interrupt-not _ 2 _ (λ _. interrupt-not _ 4 _ (λ _.
+      either-way (λ (r : Interrupted). Standing h (r .host)) _ (stoppedBy kept (a .disk) h (a .output))
+      (interrupted 0 (h .program .progress .tally) h (a .output)) (λ _. record { places = refl; roots = refl }) (λ _. stays)))))
 
   -- giving up, with any number
   pub given-up : (n : ℕ) → Dropped a h (givenUp n (a .disk) h)
   unfolding givenUp withProgram
-  given-up n = record { untouched = record { bytes = refl; places = refl }; shut = shut h; tally = refl; growth = refl }
+  given-up n = record { untouched = record { bytes = refl; places = refl; roots = refl }; shut = shut h; tally = refl; growth = refl }
 
   -- down the chain of a close: 1, 2, 4 and 13, which leave all; giving up; and of a program that has ended and not failed, what the pairs say
   module _ (g : Agreement) (K : Closed → Type 0)
@@ -64,7 +89,7 @@ module _ (h : Host) (a : Areas) where
       (wrong : g .agree ≡ true → Finished h a → (Unchanged h a → ⊥) → K (givenUp 14 (a .disk) h))
       (done : g .agree ≡ true → Finished h a → (Unchanged h a → ⊥) → named g ≡ running h a → K (commit (a .disk) h (a .stage))) where
     pub close-ways : K (closes h a g)
-    unfolding close agreed unfinished
+    unfolding closeBy agreedBy unfinished
     close-ways =
         either-way K _ _ _ (λ _. refusal 1 (omega arith) (omega arith) (λ n. absurd (omega arith))) (λ order.
         either-way K _ _ _ (λ _. refusal 2 (omega arith) (omega arith) (λ n. absurd (omega arith))) (λ areas.
@@ -88,13 +113,13 @@ module _ (h : Host) (a : Areas) where
     untouched-but : (g .agree ≡ true → Finished h a → (Unchanged h a → ⊥) → Untouched a h (commit (a .disk) h (a .stage)))
         → Untouched a h (closes h a g)
     untouched-but done =
-        close-ways g (Untouched a h) (λ n _ _ _. record { bytes = refl; places = refl }) (λ _. given-up 0 .untouched)
+        close-ways g (Untouched a h) (λ n _ _ _. record { bytes = refl; places = refl; roots = refl }) (λ _. given-up 0 .untouched)
         (λ _ _ _. given-up 0 .untouched) (λ _ _ _. given-up 14 .untouched) (λ agrees finished changed _. done agrees finished changed)
 
     uncommitted : (closes h a g .number ≡ 0 → g .agree ≡ true → ⊥) → Untouched a h (closes h a g)
     unfolding commit
     uncommitted =
-        close-ways g (λ r. (r .number ≡ 0 → g .agree ≡ true → ⊥) → Untouched a h r) (λ n _ _ _ _. record { bytes = refl; places = refl })
+        close-ways g (λ r. (r .number ≡ 0 → g .agree ≡ true → ⊥) → Untouched a h r) (λ n _ _ _ _. record { bytes = refl; places = refl; roots = refl })
         (λ _ _. given-up 0 .untouched) (λ _ _ _ _. given-up 0 .untouched) (λ _ _ _ _. given-up 14 .untouched)
         (λ agrees _ _ _ not. absurd (not refl agrees))
 
@@ -110,20 +135,20 @@ module _ (h : Host) (a : Areas) where
     unchanged u = untouched-but (λ _ _ changed. absurd (changed u))
 
     done : closes h a g .number ≡ 0 → Shut (closes h a g .host)
-    unfolding givenUp commit
+    unfolding givenUp commit withDiskRoots withPlaces withProgram
     done =
         close-ways g (λ r. r .number ≡ 0 → Shut (r .host)) (λ n lo _ _ e. absurd (omega arith)) (λ _ _. shut h) (λ _ _ _ _. shut h)
-        (λ _ _ _ _. shut h) (λ _ _ _ _ _. shut _)
+        (λ _ _ _ _. shut h) (λ _ _ _ _ _. shut-by _ refl)
 
     dropped : closes h a g .number ≡ 14 → Shut (closes h a g .host)
-    unfolding givenUp commit
+    unfolding givenUp commit withDiskRoots withPlaces withProgram
     dropped =
         close-ways g (λ r. r .number ≡ 14 → Shut (r .host)) (λ n _ hi _ e. absurd (omega arith)) (λ _ _. shut h) (λ _ _ _ _. shut h)
-        (λ _ _ _ _. shut h) (λ _ _ _ _ _. shut _)
+        (λ _ _ _ _. shut h) (λ _ _ _ _ _. shut-by _ refl)
 
     gives-up : inOrder h ≡ true → areasRight h (a .disk) (a .stage) ≡ true → h .program .active ≡ true → g .agree ≡ false
         → closes h a g ≡ givenUp 0 (a .disk) h
-    unfolding close
+    unfolding closeBy
     gives-up order areas live against =
         skips (not (inOrder h)) _ _ (ap not order) ∙ skips (not (areasRight h (a .disk) (a .stage))) _ _ (ap not areas)
         ∙ skips (not (h .program .active)) _ _ (ap not live) ∙ picks (not (g .agree)) _ _ (ap not against)

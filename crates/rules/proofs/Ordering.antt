@@ -25,10 +25,10 @@ use Rattle.host.specs.Order.{slotInOrder, clash, parentInOrder, termsInOrder, p
 use Rattle.host.specs.Facts.{Staged}
 use Rattle.host.specs.Calls.{formed, dropped}
 use Rattle.host.proofs.Laws.Order.{order-facts}
-use Rattle.rules.specs.View.{settingOf, turnOf}
+use Rattle.rules.specs.View.{settingBy, settingOf, turnOf}
 use Rattle.rules.specs.Run.{failing, going, run}
-use Rattle.rules.specs.Calls.{roomRight, begun, openedHead, opened, Pieced, accepted, piece, Interrupted, stopped, interrupt, reached}
-use Rattle.rules.specs.Commit.{Closed, givenUp, agreed, close}
+use Rattle.rules.specs.Calls.{roomRight, begun, openedHead, opened, Pieced, accepted, piece, Interrupted, stopped, interrupt, reached, acceptedBy, pieceBy, interruptBy, stoppedBy, reachedBy}
+use Rattle.rules.specs.Commit.{Closed, givenUp, close, agreedBy, closeBy}
 use Rattle.rules.specs.Visit.{Areas, Opening, Agreement, opens, gives, stops, closes, Declared}
 use Rattle.rules.specs.Outcome.{Refused}
 use Rattle.rules.proofs.Forming.{forming, dropping}
@@ -113,17 +113,17 @@ opening h bytes budget p room sound bs o =
 
 -- ---- pieces
 
-accepted-order : (disk : List ℕ) (h : Host) (stage input output bytes : List ℕ) → Declared h → inOrder h ≡ true → h .program .active ≡ true
+pub accepted-order : (disk : List ℕ) (h : Host) (stage input output bytes : List ℕ) → Declared h → inOrder h ≡ true → h .program .active ≡ true
     → h .program .came + length bytes ≤ h .program .terms .head .length → inOrder (accepted disk h stage input output bytes .host) ≡ true
-unfolding accepted run turnOf
+unfolding acceptedBy run turnOf
 accepted-order disk h stage input output bytes sound o live fit =
-    good-order h disk (h .program .came + length bytes) _ o fit
+    good-order h disk (h .program .came + length bytes) _ _ o fit
     (runs-good (h .sector) (settingOf h disk) (put input (h .program .came) bytes) (h .program .came + length bytes) (settingOf h disk .terms .head .count) (turnOf h stage output)
     (order-lent h disk o) (order-good h disk o live (sound .staged)))
 
 pieces : (disk : List ℕ) (h : Host) (stage input output bytes : List ℕ) → Declared h → inOrder h ≡ true
     → inOrder (piece disk h stage input output bytes .host) ≡ true
-unfolding piece
+unfolding pieceBy
 pieces disk h stage input output bytes sound o =
     let way = either-way (λ (r : Pieced). inOrder (r .host) ≡ true) in
     way _ _ _ (λ _. o) (λ _. way _ _ _ (λ _. o) (λ _. way _ _ _ (λ _. o) (λ _. way _ _ _ (λ _. o) (λ live. way _ _ _ (λ _. o) (λ fit.
@@ -135,15 +135,15 @@ came-within : (h : Host) → inOrder h ≡ true → h .program .active ≡ true 
 unfolding programInOrder
 came-within h o live = leb-true _ _ (both-left _ _ (both-right _ _ (order-program h o live)))
 
-stopped-order : (disk : List ℕ) (h : Host) (output : List ℕ) → Declared h → inOrder h ≡ true → h .program .active ≡ true
+pub stopped-order : (disk : List ℕ) (h : Host) (output : List ℕ) → Declared h → inOrder h ≡ true → h .program .active ≡ true
     → going (h .program .terms) (h .program .progress) ≡ true → inOrder (stopped disk h output .host) ≡ true
-unfolding stopped failing turnOf settingOf
+unfolding stoppedBy failing turnOf settingBy
 stopped-order disk h output sound o live g =
-    good-order h disk (h .program .came) _ o (came-within h o live)
+    good-order h disk (h .program .came) _ _ o (came-within h o live)
     (failed-good (h .sector) (settingOf h disk) (h .program .progress) (not-failed (settingOf h disk) (turnOf h [] output) g) (order-good h disk o live (sound .staged)))
 
 interrupts : (disk : List ℕ) (h : Host) (output : List ℕ) → Declared h → inOrder h ≡ true → inOrder (interrupt disk h output .host) ≡ true
-unfolding interrupt
+unfolding interruptBy
 interrupts disk h output sound o =
     let way = either-way (λ (r : Interrupted). inOrder (r .host) ≡ true) in
     way _ _ _ (λ _. o) (λ _. way _ _ _ (λ _. o) (λ _. way _ _ _ (λ _. o) (λ _. way _ _ _ (λ _. o) (λ live.
@@ -151,13 +151,13 @@ interrupts disk h output sound o =
 
 -- ---- closing
 
-given-up : (n : ℕ) (disk : List ℕ) (h : Host) → inOrder h ≡ true → inOrder (givenUp n disk h .host) ≡ true
+pub given-up : (n : ℕ) (disk : List ℕ) (h : Host) → inOrder h ≡ true → inOrder (givenUp n disk h .host) ≡ true
 unfolding givenUp noProgram
 given-up n disk h o = with-program h noProgram o (picks (not false) true _ refl)
 
 closing : (disk : List ℕ) (h : Host) (stage : List ℕ) (agree : Bool) (size : ℕ) (root : List ℕ) → Declared h → inOrder h ≡ true
     → inOrder (close disk h stage agree size root .host) ≡ true
-unfolding close agreed
+unfolding closeBy agreedBy
 closing disk h stage agree size root sound o =
     let way = either-way (λ (r : Closed). inOrder (r .host) ≡ true) in
     way _ _ _ (λ _. o) (λ _. way _ _ _ (λ _. o) (λ _. way _ _ _ (λ _. o) (λ live. way _ _ _ (λ _. given-up 0 disk h o) (λ _. way _ _ _ (λ _. o) (λ _.
@@ -167,7 +167,7 @@ closing disk h stage agree size root sound o =
 -- ---- a host that is not in order
 
 pub damaged : (h : Host) (a : Areas) → inOrder h ≡ false → Refused h a
-unfolding formed dropped opened openedHead piece interrupt reached close
+unfolding formed dropped opened openedHead pieceBy interruptBy reachedBy closeBy
 damaged h a e = record {
   forming = λ id. ap (λ (r : Contract). r .number) (picks (not (inOrder h)) _ _ (ap not e));
   dropping = λ id. ap (λ (r : Contract). r .number) (picks (not (inOrder h)) _ _ (ap not e));

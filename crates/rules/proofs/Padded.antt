@@ -9,10 +9,10 @@ use Rattle.area.proofs.Laws.Pick.{by, picks, skips, never, both-left, both-righ
 use Rattle.area.proofs.Laws.Same.{same-eq}
 use Rattle.host.specs.Lists.{some, each}
 use Rattle.host.specs.Empty.{noPlace, newPlace, bare}
-use Rattle.host.specs.With.{withPlaces, withProgram, withSize, withSlots}
+use Rattle.host.specs.With.{withPlaces, withProgram, withSize, withSlots, withDiskRoots}
 use Rattle.host.specs.Places.{hasId, whose}
 use Rattle.host.specs.Calls.{freshed, padded, formedAt, formed, replaced, dropped}
-use Rattle.rules.specs.View.{settingOf, parent}
+use Rattle.rules.specs.View.{settingBy, parent}
 use Rattle.rules.specs.Commit.{givenUp, finalPlace, commit}
 use Rattle.rules.specs.Visit.{Areas, Agreement, closes}
 use Rattle.host.proofs.Padded.{padding, word, fifteen}
@@ -122,7 +122,7 @@ own id c old q size slots f g e =
 
 -- a commit leaves its contract under its id
 committed-before : (h : Host) (a : Areas) (id : List ℕ) → Before h id (commit (a .disk) h (a .stage) .host)
-unfolding commit withProgram withPlaces parent settingOf
+unfolding commit withProgram withPlaces parent settingBy withDiskRoots
 committed-before h a id k =
     let c = h .program .terms .head .contract in
     let old = whose c (h .places) in
@@ -142,9 +142,9 @@ none-formed : (h : Host) (a : Areas) (id : List ℕ) → padded id ≡ true → 
 none-formed h a id e = record {
   forming = λ other. formed-before h id other e;
   dropping = λ other. dropped-before h id other;
-  opening = λ o. held-as id (h .places) _ (nothing h a .opening o);
-  piece = λ bytes. held-as id (h .places) _ (nothing h a .piece bytes);
-  interrupt = held-as id (h .places) _ (nothing h a .interrupt);
+  opening = λ o. held-as id (h .places) _ (nothing h a .opening o .places);
+  piece = λ bytes. held-as id (h .places) _ (nothing h a .piece bytes .places);
+  interrupt = held-as id (h .places) _ (nothing h a .interrupt .places);
   closing = λ g. closed-before h a id g;
 }
 

@@ -6,8 +6,8 @@ use lib.IntN.{pos}
 use Rattle.area.specs.Pick.{pick}
 use Rattle.host.specs.Calls.{formed, dropped}
 use Rattle.host.specs.Calls as Contract
-use Rattle.rules.specs.Calls.{answered, openedHead, opened, pieced, accepted, piece, interrupted, stopped, interrupt, reachedAt, noPair, reached}
-use Rattle.rules.specs.Commit.{closed, givenUp, commit, agreed, close}
+use Rattle.rules.specs.Calls.{answered, openedHead, opened, pieced, accepted, piece, interrupted, stopped, interrupt, reachedAt, noPair, reached, acceptedBy, pieceBy, interruptBy, stoppedBy, reachedBy}
+use Rattle.rules.specs.Commit.{closed, givenUp, commit, close, agreedBy, closeBy}
 use Rattle.rules.specs.Visit.{Areas}
 use Rattle.rules.specs.Demand1.{Refusals}
 use Rattle.host.specs.declared.Host.{Host}
@@ -29,7 +29,7 @@ module _ {R : Type 0} (number : R → ℕ) (refusal : ℕ → R) (right : (n : �
   refused-or n b y q = either-way b (refusal n) y (refused n) q
 
 pub refusals : (h : Host) (a : Areas) → Refusals h a
-unfolding formed dropped opened openedHead piece accepted interrupt stopped reached close agreed commit givenUp
+unfolding formed dropped opened openedHead pieceBy acceptedBy interruptBy stoppedBy reachedBy closeBy agreedBy commit givenUp
 refusals h a = record {
   forming = λ id.
       let or = refused-or (λ r. r .number) (λ n. Contract.answered n h) (λ n. refl) (λ r. r .number ≡ 0 → ⊥) in

@@ -11,13 +11,13 @@ use Rattle.area.proofs.Laws.Pick.{picks, skips, both-join}
 use Rattle.area.proofs.Laws.Slots.{slots-count}
 use Rattle.host.specs.Sizes.{isSize}
 use Rattle.host.specs.Empty.{bare}
-use Rattle.host.specs.With.{withPlaces, withProgram}
+use Rattle.host.specs.With.{withPlaces, withProgram, withStageRoots, withDiskRoots}
 use Rattle.host.specs.Order.{lent, inOrder}
 use Rattle.host.specs.Calls.{answered, lengthRight, freshed, formed, dropped}
 use Rattle.host.proofs.Laws.Sizes.{size-facts, power-size}
 use Rattle.host.proofs.Laws.Order.{facts-lent}
 use Rattle.rules.specs.View.{withRun}
-use Rattle.rules.specs.Calls.{Pieced, Interrupted, openedHead, opened, accepted, piece, stopped, interrupt}
+use Rattle.rules.specs.Calls.{Pieced, Interrupted, openedHead, opened, acceptedBy, piece, stoppedBy, interrupt, pieceBy, interruptBy}
 use Rattle.rules.specs.Commit.{Closed, givenUp, commit}
 use Rattle.rules.specs.Visit.{Areas, Opening, Agreement, opens, gives, stops, closes}
 use Rattle.rules.specs.Sectors.{Fixed, FullSectors}
@@ -89,21 +89,21 @@ module _ (h : Host) (a : Areas) where
       way _ _ _ (λ _. refl) (λ _. way _ _ _ (λ _. refl) (λ _. way _ _ _ (λ _. refl) (λ _. refl))))))
 
   pieces : (bytes : List ℕ) → Still (gives h a bytes .host)
-  unfolding piece accepted withRun withProgram
+  unfolding pieceBy acceptedBy withRun withStageRoots withProgram
   pieces bytes =
       let way = either-way (λ (r : Pieced). Still (r .host)) in
       way _ _ _ (λ _. refl) (λ _. way _ _ _ (λ _. refl) (λ _. way _ _ _ (λ _. refl) (λ _. way _ _ _ (λ _. refl) (λ _.
       way _ _ _ (λ _. refl) (λ _. refl)))))
 
   interrupts : Still (stops h a .host)
-  unfolding interrupt stopped withRun withProgram
+  unfolding interruptBy stoppedBy withRun withStageRoots withProgram
   interrupts =
       let way = either-way (λ (r : Interrupted). Still (r .host)) in
       way _ _ _ (λ _. refl) (λ _. way _ _ _ (λ _. refl) (λ _. way _ _ _ (λ _. refl) (λ _. way _ _ _ (λ _. refl) (λ _.
       way _ _ _ (λ _. refl) (λ _. refl)))))
 
   closing : (g : Agreement) → Still (closes h a g .host)
-  unfolding givenUp commit withProgram withPlaces
+  unfolding givenUp commit withProgram withPlaces withDiskRoots
   closing g = close-ways h a g (λ (r : Closed). Still (r .host)) (λ _ _ _ _. refl) (λ _. refl) (λ _ _ _. refl) (λ _ _ _. refl) (λ _ _ _ _. refl)
 
   pub fixed : Fixed h a

@@ -1,4 +1,5 @@
 -- The last record shows the running pair: each instruction that succeeds writes the pair that it leaves. Assumes nothing.
+use Rattle.rules.specs.Roots.{rootAt}
 use mathlib.Core.Path.{_≡_, refl, sym, ap, _∙_}
 use mathlib.Core.Bool.{Bool, true, false}
 use mathlib.Core.List.{List, [], _++_}
@@ -11,13 +12,13 @@ use Rattle.area.specs.Pick.{pick}
 use Rattle.area.specs.Area.{part}
 use Rattle.area.specs.Little.{bytesOf, le8}
 use Rattle.area.proofs.Laws.Pick.{by, never, skips}
-use Rattle.host.specs.With.{withProgram, withCame, withProgress, withRunning, withStaged}
-use Rattle.rules.specs.View.{Setting, Turn, settingOf, turnOf, withRun, parentSpots}
+use Rattle.host.specs.With.{withProgram, withCame, withProgress, withRunning, withStaged, withStageRoots}
+use Rattle.rules.specs.View.{Setting, Turn, settingBy, settingOf, turnOf, withRun, parentSpots}
 use Rattle.rules.specs.Inputs.{inputsOf}
 use Rattle.rules.specs.Plan.{judged}
 use Rattle.rules.specs.Record.{pairing, runningPair, recordBytes, successBytes}
 use Rattle.rules.specs.Run.{failedProgress, failing, ranProgress, succeeding, stepped, current, step, ready, runs, run}
-use Rattle.rules.specs.Calls.{reachedPair, reached}
+use Rattle.rules.specs.Calls.{reachedPairBy, reachedBy}
 use Rattle.rules.specs.Visit.{Areas}
 use Rattle.rules.specs.Trace.{leftBy, made, after, recordOf, recorded, trail, firstRecords, lastOf, running}
 use Rattle.rules.specs.Demand2.{Tells}
@@ -45,13 +46,13 @@ record-shows number cost pair hashes proof count output e =
 module _ (z : ℕ) (s : Setting) where
   -- what a turn shows
   abbrev shows : Turn → List ℕ
-  shows t = shown (runningPair z s (t .progress) (t .stage))
+  shows t = shown (runningPair z s (rootAt z s t) (t .progress))
 
   stepped-shows : (i : Instruction) (l : List (List ℕ)) (t : Turn) → stepped z s i l t .progress .failed ≡ false
       → part (recordOf z s i l t) 16 40 ≡ shows (stepped z s i l t)
   unfolding stepped recordOf succeeding failing ranProgress failedProgress successBytes runningPair parentSpots withStaged withRunning pick
   stepped-shows i l t =
-      under (eqb (judged z s (t .progress) i l) 0) _ _ _ _ (record-shows 0 _ _ _ _ _ _ (length-root z (s .disk) _ _)) refl
+      under (eqb (judged z s (rootAt z s t) (t .progress) i l) 0) _ _ _ _ (record-shows 0 _ _ _ _ _ _ (length-root _ _)) refl
     where
       under : (b : Bool) (x y : Turn) (u v : List ℕ) → part u 16 40 ≡ shows x → y .progress .failed ≡ true
           → pick b x y .progress .failed ≡ false → part (pick b u v) 16 40 ≡ shows (pick b x y)
@@ -96,7 +97,7 @@ module _ (h : Host) (a : Areas) (all : List ℕ) (k : ℕ) (le : k ≤ h .progra
   -- at least one instruction ran, and none failed
   pub after-shows : 0 < length (firstRecords h a all k) → let w = after h a all k in w .host .program .progress .failed ≡ false
       → part (lastOf [] (firstRecords h a all k)) 16 40 ≡ shown (running (w .host) (leftBy a w))
-  unfolding after made run settingOf turnOf withRun withProgram withProgress withCame
+  unfolding after made run settingBy turnOf withRun withStageRoots withProgram withProgress withCame
   after-shows some f =
       let s = settingOf h (a .disk) in
       let u = turnOf h (a .stage) (a .output) in
@@ -107,7 +108,7 @@ module _ (h : Host) (a : Areas) (all : List ℕ) (k : ℕ) (le : k ≤ h .progra
 -- ---- the call that tells it
 
 pub tells : (h : Host) (a : Areas) → Tells h a
-unfolding reached reachedPair
+unfolding reachedBy reachedPairBy
 tells h a =
     let way = either-way (λ (r : Reached). r .number ≡ 0 → h .program .progress .failed ≡ false → pairing (r .size) (r .root) ≡ running h a) in
     way _ _ _ (λ _ e. absurd (omega arith)) (λ _. way _ _ _ (λ _ e. absurd (omega arith)) (λ _. way _ _ _ (λ _ e. absurd (omega arith))

@@ -7,10 +7,10 @@ use Rattle.area.specs.Pick.{pick}
 use Rattle.area.proofs.Laws.Pick.{picks, skips, either-join}
 use Rattle.host.specs.Order.{inOrder}
 use Rattle.host.proofs.Laws.Order.{order-facts}
-use Rattle.rules.specs.View.{settingOf, parent, areasRight, readOnlyMode}
+use Rattle.rules.specs.View.{settingOf, parent, areasRight, readOnlyMode, settingBy}
 use Rattle.rules.specs.Record.{samePair}
 use Rattle.rules.specs.Calls.{noPair}
-use Rattle.rules.specs.Commit.{Closed, closed, givenUp, agreed, commit, unfinished, close}
+use Rattle.rules.specs.Commit.{Closed, closed, givenUp, agreed, commit, unfinished, close, closeBy, agreedBy}
 use Rattle.rules.specs.Visit.{Areas, Agreement, named, closes, Finished}
 use Rattle.rules.specs.Trace.{starting, running, Unchanged}
 use Rattle.rules.specs.Outcome.{Dropped}
@@ -27,7 +27,7 @@ module _ (h : Host) (a : Areas) where
     -- past 1, 2 and 4
     asked : inOrder h ≡ true → areasRight h (a .disk) (a .stage) ≡ true → h .program .active ≡ true
         → closes h a g ≡ pick (unfinished (h .program)) (closed 13 0 (pos 0) h (a .disk)) (agreed (a .disk) h (a .stage) (named g))
-    unfolding close
+    unfolding closeBy
     asked order areas live =
         skips (not (inOrder h)) _ _ (ap not order) ∙ skips (not (areasRight h (a .disk) (a .stage))) _ _ (ap not areas)
         ∙ skips (not (h .program .active)) _ _ (ap not live) ∙ skips (not (g .agree)) _ _ (ap not agrees)
@@ -47,13 +47,13 @@ module _ (h : Host) (a : Areas) where
       paired = asked (f .order) (f .areas) (f .live) ∙ skips (unfinished (h .program)) _ _ (either-join _ _ (f .good) (f .ended))
 
       pub same-closes : Unchanged h a → closes h a g ≡ givenUp 0 (a .disk) h
-      unfolding agreed
+      unfolding agreedBy
       same-closes u = paired ∙ picks _ _ _ (pairs-same (running h a) (starting h a) u)
 
       -- otherwise the pair that is named decides
       changed : (Unchanged h a → ⊥) → closes h a g
           ≡ pick (samePair (named g) (running h a)) (commit (a .disk) h (a .stage)) (givenUp 14 (a .disk) h)
-      unfolding agreed
+      unfolding agreedBy
       changed c = paired ∙ skips _ _ _ (differ-pairs (running h a) (starting h a) c)
 
       pub right-closes : (Unchanged h a → ⊥) → named g ≡ running h a → closes h a g ≡ commit (a .disk) h (a .stage)
@@ -80,13 +80,13 @@ module _ (h : Host) (a : Areas) where
 
   module _ (f : Finished h a) (mode : readOnlyMode (h .program .terms) ≡ true) where
     starts : starting h a ≡ noPair
-    unfolding readOnlyMode parent settingOf
+    unfolding readOnlyMode parent settingBy
     starts = none-starts (h .sector) (settingOf h (a .disk)) (read-only-free (h .sector) _ (h .places) (order-facts h (f .order) .contracts .each) mode)
 
     runs : running h a ≡ noPair
     unfolding readOnlyMode
     runs =
-        none-runs (h .sector) (settingOf h (a .disk)) (h .program .progress) (a .stage)
+        none-runs (h .sector) (settingOf h (a .disk)) _ (h .program .progress)
         (read-only-reached (h .places) _ _ (order-facts h (f .order) .running (f .live) .terms .parent) mode)
 
     reading : (g : Agreement) → g .agree ≡ true → Reading h a g

@@ -7,7 +7,9 @@ use native.Mathlib.Omega.{arith}
 use lib.ListN.{length, length-append}
 use Rattle.area.specs.Area.{part}
 use Rattle.area.specs.Little.{le8}
-use Rattle.rules.specs.View.{settingOf, turnOf, parent}
+use Rattle.rules.specs.View as View
+use Rattle.rules.specs.View.{settingBy, settingOf, turnOf, parent}
+use Rattle.rules.specs.Roots.{keptRoot, rootBy, rootOf}
 use Rattle.rules.specs.Record.{pairOf, startingPair}
 use Rattle.rules.specs.Calls.{Pieced, accepted}
 use Rattle.rules.specs.Commit.{Closed}
@@ -43,7 +45,7 @@ module _ (h : Host) (o : Opening) (a : Areas) (all : List ℕ) (v : Visit h o a 
 
   -- "Init, is tallied at opening"
   tallies : (k : ℕ) → (after x a all k .tally ≡ o .prices .init + charged x a all k) × (after x a all k .tally ≤ o .budget)
-  unfolding after made settingOf turnOf
+  unfolding after made settingBy turnOf
   tallies k =
       let q = opening-begins h o (v .opening) in
       let sum = summed (x .sector) (settingOf x (a .disk)) all k (turnOf x (a .stage) (a .output)) in
@@ -88,23 +90,26 @@ module _ (h : Host) (o : Opening) (a : Areas) (all : List ℕ) (v : Visit h o a 
 
 -- ---- a close after any pieces
 
-before : (a b : Areas) (h g : Host) (r : Closed) → b .disk ≡ a .disk → g .places ≡ h .places → Untouched b g r → Untouched a h r
-before a b h g r e p u = record { bytes = u .bytes ∙ e; places = u .places ∙ p }
+before : (a b : Areas) (h g : Host) (r : Closed) → b .disk ≡ a .disk → g .places ≡ h .places → g .diskroots ≡ h .diskroots
+    → Untouched b g r → Untouched a h r
+before a b h g r e p q u = record { bytes = u .bytes ∙ e; places = u .places ∙ p; roots = u .roots ∙ q }
 
 pub closing-visits : (h : Host) (o : Opening) (a : Areas) (bs : List (List ℕ)) (g : Agreement) → Declared h
     → Closes h a (visited h o a bs) g
-unfolding startingPair parent settingOf
+unfolding startingPair parent settingBy rootOf rootBy keptRoot
 closing-visits h o a bs g d =
     let first = same-opens h o d in
     let w = visited h o a bs in
-    let last = same-fed (a .disk) (lentTo (opens h o .host) a) bs (first .0) in
+    let last = same-fed (a .disk) (lentTo (opens h o .host) a) bs (first .declared) in
     let none = nothing (w .host) (leftBy a w) in
-    let places = last .1 ∙ first .1 in
+    let places = last .places ∙ first .places in
+    let roots = last .roots ∙ first .roots in
+    let sector = last .sector ∙ first .sector in
     record {
-      starts = ap₂ (λ (z : ℕ) (ps : List Place). pairOf z (a .disk) (parentIn (w .host) ps)) (last .2 ∙ first .2) places;
-      all = λ n agrees changed. agreements (w .host) (leftBy a w) g agrees .commits (last .0) n changed;
-      unchanged = λ u. before a (leftBy a w) h (w .host) _ refl places (unchanged (w .host) (leftBy a w) g u);
-      nothing = λ no. before a (leftBy a w) h (w .host) _ refl places (none .uncommitted g no);
-      failed = λ f. before a (leftBy a w) h (w .host) _ refl places (none .failed g f);
-      unended = λ e. before a (leftBy a w) h (w .host) _ refl places (none .unended g e);
+      starts = (λ i. pairOf (sector i) (View.sector 32 (roots i) []) (parentIn (w .host) (places i)));
+      all = λ n agrees changed. agreements (w .host) (leftBy a w) g agrees .commits (last .declared) n changed;
+      unchanged = λ u. before a (leftBy a w) h (w .host) _ refl places roots (unchanged (w .host) (leftBy a w) g u);
+      nothing = λ no. before a (leftBy a w) h (w .host) _ refl places roots (none .uncommitted g no);
+      failed = λ f. before a (leftBy a w) h (w .host) _ refl places roots (none .failed g f);
+      unended = λ e. before a (leftBy a w) h (w .host) _ refl places roots (none .unended g e);
     }

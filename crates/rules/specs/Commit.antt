@@ -10,11 +10,12 @@ use Rattle.area.specs.Area.{part, put, zeros}
 use Rattle.area.specs.Lowest.{lowest}
 use Rattle.host.specs.Lists.{unused}
 use Rattle.host.specs.Empty.{none, noProgram}
-use Rattle.host.specs.With.{withPlaces, withProgram, withSize, withSlots}
+use Rattle.host.specs.With.{withPlaces, withProgram, withDiskRoots, withSize, withSlots}
 use Rattle.host.specs.Places.{committed, taken}
 use Rattle.host.specs.Order.{inOrder}
 use Rattle.host.specs.Calls.{replaced}
-use Rattle.rules.specs.View.{settingOf, parent, areasRight}
+use Rattle.rules.specs.View.{Way, kept, settingBy, settingOf, parent, areasRight}
+use Rattle.rules.specs.Roots.{rootOf}
 use Rattle.rules.specs.Record.{pairing, samePair, startingPair, runningPair}
 use Rattle.rules.specs.Run.{going}
 use Rattle.host.specs.declared.Place.{Place}
@@ -67,38 +68,47 @@ givenUp n disk h = closed n (h .program .progress .tally) (pos 0) (withProgram h
 unfoldable pub finalPlace : Place → ℕ → List ℕ → Place
 finalPlace p size slots = withSlots (withSize p size) (slots ++ zeros (64 - length slots))
 
--- "final less starting size"
+-- "final less starting size"; the root kept beside a staged sector goes with its bytes
 unfoldable pub commit : List ℕ → Host → List ℕ → Closed
 commit disk h stage =
     let p = h .program .progress in
     let old = parent (settingOf h disk) in
     let slots = finalSlots (h .sector) (h .disk) (h .places) old (p .size) in
     let places = replaced (h .program .terms .head .contract) (finalPlace old (p .size) slots) (h .places) in
-    closed 0 (p .tally) (pos (p .size) -ℤ pos (old .size)) (withProgram (withPlaces h places) noProgram)
+    let roots = copiedBack 32 (h .stageroots) (p .staged) slots 0 (p .size / h .sector) (h .diskroots) in
+    closed 0 (p .tally) (pos (p .size) -ℤ pos (old .size)) (withDiskRoots (withProgram (withPlaces h places) noProgram) roots)
     (copiedBack (h .sector) stage (p .staged) slots 0 (p .size / h .sector) disk)
 
 -- "when final size and root equal the starting ones .. closes with 0 whatever pair is given, and nothing is committed"; else "Agreement
 -- names final size and root", all 32 bytes; 14: "agreed size or root differs: changes dropped, program closed"
-unfoldable pub agreed : List ℕ → Host → List ℕ → Pair → Closed
-agreed disk h stage named =
-    let starting = startingPair (h .sector) (settingOf h disk) in
-    let running = runningPair (h .sector) (settingOf h disk) (h .program .progress) stage in
+unfoldable pub agreedBy : Way → List ℕ → Host → List ℕ → Pair → Closed
+agreedBy way disk h stage named =
+    let s = settingBy way h disk in
+    let starting = startingPair (h .sector) s in
+    let running = runningPair (h .sector) s (rootOf (h .sector) s stage (h .stageroots)) (h .program .progress) in
     let done = commit disk h stage in
     pick (samePair running starting) (givenUp 0 disk h)
     (pick (samePair named running) done
     (givenUp 14 disk h))
+
+abbrev pub agreed : List ℕ → Host → List ℕ → Pair → Closed
+agreed disk h stage named = agreedBy kept disk h stage named
 
 -- "a program not ended, or failed"
 unfoldable pub unfinished : Program → Bool
 unfinished g = either (g .progress .failed) (going (g .terms) (g .progress))
 
 -- "Closing gives up or agrees." 1, 2, 4; 13: "agreement to a program not ended, or failed"
-unfoldable pub close : List ℕ → Host → List ℕ → Bool → ℕ → List ℕ → Closed
-close disk h stage agree size root =
-    let done = agreed disk h stage (pairing size root) in
+unfoldable pub closeBy : Way → List ℕ → Host → List ℕ → Bool → ℕ → List ℕ → Closed
+closeBy way disk h stage agree size root =
+    let done = agreedBy way disk h stage (pairing size root) in
     pick (not (inOrder h)) (closed 1 0 (pos 0) h disk)
     (pick (not (areasRight h disk stage)) (closed 2 0 (pos 0) h disk)
     (pick (not (h .program .active)) (closed 4 0 (pos 0) h disk)
     (pick (not agree) (givenUp 0 disk h)
     (pick (unfinished (h .program)) (closed 13 0 (pos 0) h disk)
     done))))
+
+-- the call
+abbrev pub close : List ℕ → Host → List ℕ → Bool → ℕ → List ℕ → Closed
+close disk h stage agree size root = closeBy kept disk h stage agree size root

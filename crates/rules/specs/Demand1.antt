@@ -14,7 +14,7 @@ use Rattle.rules.specs.Run.{going}
 use Rattle.rules.specs.Calls.{answered, pieced, interrupted, reachedAt, noPair}
 use Rattle.rules.specs.Commit.{closed, givenUp}
 use Rattle.rules.specs.Visit.{Areas, Opening, Agreement, opens, gives, stops, reaches, closes, Ready}
-use Rattle.rules.specs.Outcome.{Refused, Kept, Untouched, Shut}
+use Rattle.rules.specs.Outcome.{Refused, Kept, Standing, Untouched, Shut}
 use Rattle.host.specs.declared.Host.{Host}
 
 -- "A refused call changes no byte and no number": its whole answer is its number, zeros, and host and areas as they were
@@ -32,9 +32,9 @@ pub record Refusals (h : Host) (a : Areas) : Type 0 where
 -- what changes no contract
 pub record Nothing (h : Host) (a : Areas) : Type 0 where
   -- every call before the close
-  pub opening : (o : Opening) → opens h o .host .places ≡ h .places
-  pub piece : (bytes : List ℕ) → gives h a bytes .host .places ≡ h .places
-  pub interrupt : stops h a .host .places ≡ h .places
+  pub opening : (o : Opening) → Standing h (opens h o .host)
+  pub piece : (bytes : List ℕ) → Standing h (gives h a bytes .host)
+  pub interrupt : Standing h (stops h a .host)
   -- every close but an agreement answered with 0
   pub uncommitted : (g : Agreement) → (closes h a g .number ≡ 0 → g .agree ≡ true → ⊥) → Untouched a h (closes h a g)
   -- "A program that fails leaves every contract's size, sectors and root as they were.": whatever its close says

@@ -11,13 +11,13 @@ use Rattle.sia.specs.Encode.{encode, within}
 use Rattle.sia.specs.Decode.{decode, told}
 use Rattle.sia.specs.Trim.{trimmed, Proper}
 use Rattle.rules.specs.View.{Setting, Turn}
-use Rattle.rules.specs.Roots.{sectorRoot, firstRoot}
-use Rattle.rules.specs.Record.{pairing, pairOf}
+use Rattle.rules.specs.Roots.{firstRoot}
+use Rattle.rules.specs.Record.{pairing}
 use Rattle.rules.specs.Run.{going}
 use Rattle.rules.specs.Calls.{Pieced}
 use Rattle.rules.specs.Visit.{Areas, Opening, Agreement, named, opens, reaches, closes, Declared, Finished, Visit}
 use Rattle.rules.specs.Trace.{together, visited, leftBy, closesAfter, firstRecords, lastOf, charged}
-use Rattle.rules.specs.Trace.{parentIn, starting, running, Unchanged}
+use Rattle.rules.specs.Trace.{parentIn, pairIn, starting, running, Unchanged}
 use Rattle.rules.specs.Outcome.{Instructed, Untouched, Dropped, Committed}
 use Rattle.sia.specs.declared.Head.{Head}
 use Rattle.sia.specs.declared.Instruction.{Instruction}
@@ -49,14 +49,14 @@ pub record Agreed (h : Host) (a : Areas) (g : Agreement) : Type 0 where
   pub commits : Declared h → closes h a g .number ≡ 0 → (Unchanged h a → ⊥) → Committed h a (closes h a g)
   -- either way the parent's size and root are then the running pair
   pub stands : Declared h → closes h a g .number ≡ 0
-      → pairOf (h .sector) (closes h a g .disk) (parentIn h (closes h a g .host .places)) ≡ running h a
+      → pairIn (h .sector) (closes h a g .host) (closes h a g .disk) (parentIn h (closes h a g .host .places)) ≡ running h a
   -- one that names the running pair, of a program that has ended and not failed, is answered with 0
   pub done : Finished h a → named g ≡ running h a → closes h a g .number ≡ 0
 
 -- a program opened on h, given pieces that leave w, and closed: it commits, or leaves what stood before it was opened
 pub record Closes (h : Host) (a : Areas) (w : Pieced) (g : Agreement) : Type 0 where
   -- its starting pair is that of the parent before it was opened
-  pub starts : starting (w .host) (leftBy a w) ≡ pairOf (h .sector) (a .disk) (parentIn (w .host) (h .places))
+  pub starts : starting (w .host) (leftBy a w) ≡ pairIn (h .sector) h (a .disk) (parentIn (w .host) (h .places))
   pub all : closesAfter a w g .number ≡ 0 → g .agree ≡ true → (Unchanged (w .host) (leftBy a w) → ⊥)
       → Committed (w .host) (leftBy a w) (closesAfter a w g)
   pub unchanged : Unchanged (w .host) (leftBy a w) → Untouched a h (closesAfter a w g)
@@ -81,5 +81,4 @@ pub record Demand2 : Type 0 where
   pub ids : (one two : List ℕ) → same one two ≡ true → one ≡ two
   pub equals : (one two : List ℕ) → length one ≡ 32 → length two ≡ 32 → ((i : ℕ) → i < 32 → getD one i 0 ≡ getD two i 0)
       → same one two ≡ true
-  pub roots : (z : ℕ) (disk key : List ℕ) (l : List Spot) (x : Spot) (xs : List Spot) → firstRoot z disk key l ≡ x ∷ xs
-      → sectorRoot z disk [] x ≡ key
+  pub roots : (f : Spot → List ℕ) (key : List ℕ) (l : List Spot) (x : Spot) (xs : List Spot) → firstRoot f key l ≡ x ∷ xs → f x ≡ key

@@ -7,6 +7,7 @@ use Rattle.rules.specs.Demand3.{Demand3}
 use Rattle.rules.specs.Padded.{ShortIds}
 use Rattle.rules.specs.Unchanged.{NothingToAgree}
 use Rattle.rules.specs.Sectors.{FullSectors}
+use Rattle.rules.specs.KeptRoots.{KeptRoots}
 
 pub record Demands : Type 0 where
   -- "No input breaks it."
@@ -21,3 +22,5 @@ pub record Demands : Type 0 where
   pub unchanged : NothingToAgree
   -- "Full sectors."
   pub sectors : FullSectors
+  -- "Keep the sector roots."
+  pub roots : KeptRoots

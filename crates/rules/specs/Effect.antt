@@ -1,10 +1,11 @@
 -- What an instruction that can run does to the stage. z is the sector size. Assumes nothing.
-use mathlib.Core.List.{List}
+use mathlib.Core.List.{List, [], _∷_}
 use Prim.Native.Nat.{ℕ, _+_, _*_, _/_, _%_}
 use lib.ListN.{getD, set}
 use lib.Dec.{ltb, eqb}
 use Rattle.area.specs.Pick.{pick}
 use Rattle.area.specs.Area.{part, put, zeros}
+use Rattle.tree.specs.Tree.{root}
 use Rattle.host.specs.Empty.{none}
 use Rattle.host.specs.Places.{freeCopy}
 use Rattle.rules.specs.View.{Setting, sector, parent, spotOf}
@@ -71,3 +72,9 @@ effect z e size Swap a g =
     (spanWritten z e (a .second) (spanRead z e (a .first) (a .len) g) g)
 effect z e size Truncate a g = resized z e size (a .first) g
 effect z e size Unknown a g = g
+
+-- the roots kept beside the stage's slots after it: beside the slot of each position that was written to, the root of the sector's bytes now
+unfoldable pub rehashed : ℕ → Staging → List ℕ → List ℕ → List ℕ
+rehashed z g [] roots = roots
+rehashed z g (at ∷ l) roots =
+    put (rehashed z g l roots) (getD (g .staged) at none * 32) (root (part (g .bytes) (getD (g .staged) at none * z) z))

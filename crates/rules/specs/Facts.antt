@@ -1,7 +1,7 @@
 -- What code and proofs rely on while instructions run, as facts with names. z is the sector size. Assumes nothing.
 use mathlib.Core.Path.{_≡_}
 use mathlib.Core.Bool.{Bool, true}
-use Prim.Native.Nat.{ℕ, _*_, _/_, _≤_, _<_}
+use Prim.Native.Nat.{ℕ, _+_, _*_, _/_, _%_, _≤_, _<_}
 use lib.ListN.{length}
 use lib.Dec.{ltb}
 use Rattle.sia.specs.Encode.{every}
@@ -46,3 +46,11 @@ pub record Solid (z : ℕ) (s : Setting) : Type 0 where
   pub slots : every (λ n. ltb n (s .sectors)) (taken z (s .places)) ≡ true
   pub small : every (placeInOrder z) (s .places) ≡ true
   pub disk : length (s .disk) ≡ s .sectors * z
+
+-- a range of whole segments within one of m sectors
+pub record Within (z m at n : ℕ) : Type 0 where
+  pub below : at / z < m
+  pub one : at % z + n ≤ z
+  pub some : 0 < n
+  pub first : at % 64 ≡ 0
+  pub many : n % 64 ≡ 0

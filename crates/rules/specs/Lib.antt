@@ -10,6 +10,7 @@ pub mod Run
 pub mod Facts
 pub mod Calls
 pub mod Commit
+pub mod Sound
 pub mod Bench
 pub mod Visit
 pub mod Trace
@@ -18,6 +19,7 @@ pub mod Renaming
 pub mod Padded
 pub mod Unchanged
 pub mod Sectors
+pub mod KeptRoots
 pub mod Demand1
 pub mod Demand2
 pub mod Demand3

@@ -16,14 +16,15 @@ use Rattle.host.specs.Empty.{none, noProgram}
 use Rattle.host.specs.Places.{whose}
 use Rattle.host.specs.Calls.{formed, dropped}
 use Rattle.rules.specs.View.{Setting, Turn}
+use Rattle.rules.specs.Roots.{rootAt}
 use Rattle.rules.specs.Inputs.{argsOf}
 use Rattle.rules.specs.Plan.{cost, judged}
-use Rattle.rules.specs.Record.{pairOf, failureBytes}
+use Rattle.rules.specs.Record.{failureBytes}
 use Rattle.rules.specs.Run.{stepped, run}
 use Rattle.rules.specs.Commit.{Closed}
 use Rattle.rules.specs.Class.{isKnown, classOf}
 use Rattle.rules.specs.Visit.{Areas, Opening, Agreement, opens, gives, stops, reaches, closes, Ready}
-use Rattle.rules.specs.Trace.{recordOf, sectorsOf, parentIn, running, runningSectors}
+use Rattle.rules.specs.Trace.{recordOf, sectorsOf, parentIn, pairIn, running, runningSectors}
 use Rattle.sia.specs.declared.Instruction.{Instruction}
 use Rattle.host.specs.declared.Host.{Host}
 
@@ -50,6 +51,7 @@ pub record Kept (h : Host) (a : Areas) : Type 0 where
 pub record Failed (z : ℕ) (s : Setting) (number : ℕ) (t after : Turn) : Type 0 where
   pub progress : after .progress ≡ withFailed (withWritten (t .progress) (t .progress .written + 72)) true
   pub stage : after .stage ≡ t .stage
+  pub roots : after .roots ≡ t .roots
   pub output : after .output ≡ put (t .output) (t .progress .written) (failureBytes z s number)
 
 -- one instruction
@@ -57,17 +59,25 @@ pub record Instructed (z : ℕ) (s : Setting) (i : Instruction) (l : List (List 
   -- "each record": from the first free byte of the output area
   pub writes : stepped z s i l t .output ≡ put (t .output) (t .progress .written) (recordOf z s i l t)
   -- its number is one of document 01's table, and so has a class
-  pub classed : isKnown (classOf (judged z s (t .progress) i l)) ≡ true
-  pub fails : (judged z s (t .progress) i l ≡ 0 → ⊥) → Failed z s (judged z s (t .progress) i l) t (stepped z s i l t)
+  pub classed : isKnown (classOf (judged z s (rootAt z s t) (t .progress) i l)) ≡ true
+  pub fails : (judged z s (rootAt z s t) (t .progress) i l ≡ 0 → ⊥)
+      → Failed z s (judged z s (rootAt z s t) (t .progress) i l) t (stepped z s i l t)
   -- "A failure ends the program": nothing runs after it
   pub ends : (input : List ℕ) (k : ℕ) → t .progress .failed ≡ true → run z s input k t ≡ t
-  pub costs : judged z s (t .progress) i l ≡ 0 → stepped z s i l t .progress .tally
+  pub costs : judged z s (rootAt z s t) (t .progress) i l ≡ 0 → stepped z s i l t .progress .tally
       ≡ t .progress .tally + cost (s .terms .head .length) (s .terms .prices) (opOf (i .name)) (argsOf (opOf (i .name)) l .len)
 
--- a close leaves the disk's bytes and the contracts as they were, and so the size, the sectors and the root of each
+-- a call leaves the contracts as they were: their places, and the roots kept beside the disk's slots
+pub record Standing (h after : Host) : Type 0 where
+  pub places : after .places ≡ h .places
+  pub roots : after .diskroots ≡ h .diskroots
+
+-- a close leaves the disk's bytes, the contracts and the roots kept beside the disk's slots as they were, and so the size, the sectors and
+-- the root of each contract
 pub record Untouched (a : Areas) (h : Host) (after : Closed) : Type 0 where
   pub bytes : after .disk ≡ a .disk
   pub places : after .host .places ≡ h .places
+  pub roots : after .host .diskroots ≡ h .diskroots
 
 -- the stage slots that a host has taken: those of the staged positions of an open program
 unfoldable pub stageTaken : Host → List ℕ
@@ -89,17 +99,21 @@ pub record Dropped (a : Areas) (h : Host) (after : Closed) : Type 0 where
   pub growth : after .growth ≡ pos 0
 
 -- a close commits: the parent has the size, root and bytes that it was read with; every other contract is as it was, and so is each slot
--- into which no staged position goes ("No other byte changes."); the tally, and the growth, "final less starting size"
+-- into which no staged position goes ("No other byte changes."), its bytes and the root kept beside it; the roots kept beside the stage's
+-- slots stay; the tally, and the growth, "final less starting size"
 pub record Committed (h : Host) (a : Areas) (after : Closed) : Type 0 where
-  pub parent : pairOf (h .sector) (after .disk) (parentIn h (after .host .places)) ≡ running h a
+  pub parent : pairIn (h .sector) (after .host) (after .disk) (parentIn h (after .host .places)) ≡ running h a
   pub sectors : sectorsOf (h .sector) (after .disk) (parentIn h (after .host .places)) ≡ runningSectors h a
   pub others : (id : List ℕ) → same (h .program .terms .head .contract) id ≡ false
       → (whose id (after .host .places) ≡ whose id (h .places))
-      × (sectorsOf (h .sector) (after .disk) (whose id (h .places)) ≡ sectorsOf (h .sector) (a .disk) (whose id (h .places)))
+      × ((sectorsOf (h .sector) (after .disk) (whose id (h .places)) ≡ sectorsOf (h .sector) (a .disk) (whose id (h .places)))
+      × (pairIn (h .sector) (after .host) (after .disk) (whose id (h .places)) ≡ pairIn (h .sector) h (a .disk) (whose id (h .places))))
   pub slots : (n : ℕ)
       → ((at : ℕ) → at < h .program .progress .size / h .sector → eqb (getD (h .program .progress .staged) at none) none ≡ false
       → getD (parentIn h (after .host .places) .slots) at 0 ≡ n → ⊥)
-      → part (after .disk) (n * h .sector) (h .sector) ≡ part (a .disk) (n * h .sector) (h .sector)
+      → (part (after .disk) (n * h .sector) (h .sector) ≡ part (a .disk) (n * h .sector) (h .sector))
+      × (part (after .host .diskroots) (n * 32) 32 ≡ part (h .diskroots) (n * 32) 32)
+  pub stage : after .host .stageroots ≡ h .stageroots
   pub long : length (after .disk) ≡ length (a .disk)
   pub tally : after .tally ≡ h .program .progress .tally
   pub growth : after .growth ≡ pos (h .program .progress .size) -ℤ pos (parentIn h (h .places) .size)

@@ -1,4 +1,4 @@
--- Whether an instruction can run and what it costs: numbers alone, but for ReadSector, which looks a root up. z is the sector size.
+-- Whether an instruction can run and what it costs: numbers alone, but for ReadSector, which looks a root up: f reads roots. z is the sector size.
 -- Assumes nothing.
 use mathlib.Core.Bool.{Bool, true, false, not}
 use mathlib.Core.List.{List, [], _∷_}
@@ -59,18 +59,18 @@ unlessNone [] = missing
 unlessNone (x ∷ xs) = seen (x ∷ xs)
 
 -- ReadSector: the first committed sector with that root
-unfoldable pub sectorSource : ℕ → Setting → List ℕ → Source
-sectorSource z s key = unlessNone (firstRoot z (s .disk) key (allSpots z s))
+unfoldable pub sectorSource : ℕ → Setting → (Spot → List ℕ) → List ℕ → Source
+sectorSource z s f key = unlessNone (firstRoot f key (allSpots z s))
 
 -- the other instructions look nothing up
-unfoldable pub sourceOf : ℕ → Setting → Progress → Op → List ℕ → Source
-sourceOf z s p Read key = contractSource z s p key
-sourceOf z s p ReadSector key = sectorSource z s key
-sourceOf z s p Write key = seen []
-sourceOf z s p Copy key = seen []
-sourceOf z s p Swap key = seen []
-sourceOf z s p Truncate key = seen []
-sourceOf z s p Unknown key = seen []
+unfoldable pub sourceOf : ℕ → Setting → (Spot → List ℕ) → Progress → Op → List ℕ → Source
+sourceOf z s f p Read key = contractSource z s p key
+sourceOf z s f p ReadSector key = sectorSource z s f key
+sourceOf z s f p Write key = seen []
+sourceOf z s f p Copy key = seen []
+sourceOf z s f p Swap key = seen []
+sourceOf z s f p Truncate key = seen []
+sourceOf z s f p Unknown key = seen []
 
 -- ---- 26: spans
 
@@ -193,17 +193,17 @@ judgedSource z s p asked from op a =
     (pick (ltb (s .terms .room) (p .written + recordCount z asked from op a + 72)) 42 0)))))
 
 -- 23 to 42, where name and operands are right
-unfoldable pub judgedInputs : ℕ → Setting → Progress → Instruction → Op → List (List ℕ) → ℕ
-judgedInputs z s p i op l =
+unfoldable pub judgedInputs : ℕ → Setting → (Spot → List ℕ) → Progress → Instruction → Op → List (List ℕ) → ℕ
+judgedInputs z s f p i op l =
     let a = argsOf op l in
-    let from = sourceOf z s p op (a .key) in
+    let from = sourceOf z s f p op (a .key) in
     pick (not (wellFormed op l)) 23
     (pick (both (changes op) (readOnlyMode (s .terms))) 24
     (pick (not (isThere from)) 25
     (judgedSource z s p (i .proof) from op a)))
 
-unfoldable pub judged : ℕ → Setting → Progress → Instruction → List (List ℕ) → ℕ
-judged z s p i l =
+unfoldable pub judged : ℕ → Setting → (Spot → List ℕ) → Progress → Instruction → List (List ℕ) → ℕ
+judged z s f p i l =
     pick (illFormed i) 21
     (pick (pastEnd (s .terms .head .length) i) 22
-    (judgedInputs z s p i (opOf (i .name)) l))
+    (judgedInputs z s f p i (opOf (i .name)) l))

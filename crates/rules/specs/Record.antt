@@ -1,4 +1,4 @@
--- Pairs of a size and a root, and the bytes of a record. z is the sector size. Assumes nothing.
+-- Pairs of a size and a root, and the bytes of a record. z is the sector size; f reads roots. Assumes nothing.
 use mathlib.Core.Bool.{Bool}
 use mathlib.Core.List.{List, [], _∷_, _++_}
 use Prim.Native.Nat.{ℕ, _/_, _%_}
@@ -9,7 +9,7 @@ use Rattle.area.specs.Area.{same, part}
 use Rattle.area.specs.Little.{le8}
 use Rattle.host.specs.With.{withRunning, withStaged}
 use Rattle.rules.specs.View.{Setting, sector, parent, parentSpots, committedSpots}
-use Rattle.rules.specs.Roots.{contractRoot, rangeProof}
+use Rattle.rules.specs.Roots.{rootOnDisk, contractRoot, rangeProof}
 use Rattle.rules.specs.Inputs.{Args}
 use Rattle.rules.specs.Plan.{Source, spots, proofCount, outputCount}
 use Rattle.rules.specs.Effect.{Staging}
@@ -29,16 +29,16 @@ unfoldable pub samePair : Pair → Pair → Bool
 samePair one two = both (eqb (one .size) (two .size)) (same (one .root) (two .root))
 
 -- a contract as its committed sectors are
-unfoldable pub pairOf : ℕ → List ℕ → Place → Pair
-pairOf z disk p = record { size = p .size; root = contractRoot z disk [] (committedSpots z p) }
+unfoldable pub pairOf : ℕ → (Spot → List ℕ) → Place → Pair
+pairOf z f p = record { size = p .size; root = contractRoot f (committedSpots z p) }
 
 -- the parent's; size 0 and root zeros in read-only mode
 unfoldable pub startingPair : ℕ → Setting → Pair
-startingPair z s = pairOf z (s .disk) (parent s)
+startingPair z s = pairOf z (rootOnDisk z s) (parent s)
 
--- the parent as it is read now, with the stage's bytes
-unfoldable pub runningPair : ℕ → Setting → Progress → List ℕ → Pair
-runningPair z s p stage = record { size = p .size; root = contractRoot z (s .disk) stage (parentSpots z s p) }
+-- the parent as it is read now
+unfoldable pub runningPair : ℕ → Setting → (Spot → List ℕ) → Progress → Pair
+runningPair z s f p = record { size = p .size; root = contractRoot f (parentSpots z s p) }
 
 -- ---- records
 
@@ -56,9 +56,9 @@ unfoldable pub outputOf : ℕ → List ℕ → List ℕ → List Spot → Args �
 outputOf z disk stage [] a = []
 outputOf z disk stage (x ∷ xs) a = part (sector z disk stage (getD (x ∷ xs) (a .first / z) x)) (a .first % z) (a .len)
 
--- of an instruction that ran: n is its cost, g the stage after it, size the new size, p the progress before it
-unfoldable pub successBytes : ℕ → Setting → Progress → Bool → Source → Op → Args → ℕ → ℕ → Staging → List ℕ
-successBytes z s p asked from op a n size g =
-    recordBytes 0 n (runningPair z s (withStaged (withRunning p size) (g .staged)) (g .bytes))
-    (proofCount z asked from a) (pick asked (rangeProof z (s .disk) (g .bytes) (spots from) (a .first) (a .len)) [])
+-- of an instruction that ran: n is its cost, g the stage after it, f the roots after it, size the new size, p the progress before it
+unfoldable pub successBytes : ℕ → Setting → (Spot → List ℕ) → Progress → Bool → Source → Op → Args → ℕ → ℕ → Staging → List ℕ
+successBytes z s f p asked from op a n size g =
+    recordBytes 0 n (runningPair z s f (withStaged (withRunning p size) (g .staged)))
+    (proofCount z asked from a) (pick asked (rangeProof z f (s .disk) (g .bytes) (spots from) (a .first) (a .len)) [])
     (outputCount op a) (pick (eqb (outputCount op a) 0) [] (outputOf z (s .disk) (g .bytes) (spots from) a))

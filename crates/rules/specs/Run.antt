@@ -10,8 +10,9 @@ use Rattle.sia.specs.Names.{opOf}
 use Rattle.sia.specs.Empty.{noInstruction}
 use Rattle.rules.specs.View.{Setting, Turn}
 use Rattle.rules.specs.Inputs.{need, inputsOf, Args, argsOf}
-use Rattle.rules.specs.Plan.{sourceOf, cost, newSize, recordCount, judged}
-use Rattle.rules.specs.Effect.{groundOf, effect}
+use Rattle.rules.specs.Roots.{rootOf, rootAt}
+use Rattle.rules.specs.Plan.{sourceOf, cost, touched, newSize, recordCount, judged}
+use Rattle.rules.specs.Effect.{groundOf, effect, rehashed}
 use Rattle.rules.specs.Record.{failureBytes, successBytes}
 use Rattle.sia.specs.declared.Instruction.{Instruction}
 use Rattle.sia.specs.declared.Op.{Op}
@@ -27,30 +28,37 @@ failedProgress p = record { ran = p .ran; tally = p .tally; written = p .written
 -- "Records are written from the first free byte of the output area onward."
 unfoldable pub failing : ℕ → Setting → ℕ → Turn → Turn
 failing z s number t =
-    record { progress = failedProgress (t .progress); stage = t .stage; output = put (t .output) (t .progress .written) (failureBytes z s number) }
+    record {
+      progress = failedProgress (t .progress);
+      stage = t .stage;
+      output = put (t .output) (t .progress .written) (failureBytes z s number);
+      roots = t .roots;
+    }
 
 unfoldable pub ranProgress : Progress → ℕ → ℕ → ℕ → List ℕ → Progress
 ranProgress p cost count size staged =
     record { ran = p .ran + 1; tally = p .tally + cost; written = p .written + count; size = size; failed = p .failed; staged = staged }
 
--- it runs: "Cost, fixed before running", its effect, its record
+-- it runs: "Cost, fixed before running", its effect, the roots of the sectors that it wrote, its record
 unfoldable pub succeeding : ℕ → Setting → Bool → Op → Args → Turn → Turn
 succeeding z s asked op a t =
     let p = t .progress in
-    let from = sourceOf z s p op (a .key) in
+    let from = sourceOf z s (rootAt z s t) p op (a .key) in
     let n = cost (s .terms .head .length) (s .terms .prices) op (a .len) in
     let size = newSize (p .size) op a in
     let g = effect z (groundOf s) (p .size) op a (record { staged = p .staged; bytes = t .stage }) in
+    let roots = rehashed z g (touched z (p .size) op a) (t .roots) in
     record {
       progress = ranProgress p n (recordCount z asked from op a) size (g .staged);
       stage = g .bytes;
-      output = put (t .output) (p .written) (successBytes z s p asked from op a n size g);
+      output = put (t .output) (p .written) (successBytes z s (rootOf z s (g .bytes) roots) p asked from op a n size g);
+      roots = roots;
     }
 
 -- one instruction, its inputs given
 unfoldable pub stepped : ℕ → Setting → Instruction → List (List ℕ) → Turn → Turn
 stepped z s i l t =
-    let n = judged z s (t .progress) i l in
+    let n = judged z s (rootAt z s t) (t .progress) i l in
     let runs = succeeding z s (i .proof) (opOf (i .name)) (argsOf (opOf (i .name)) l) t in
     pick (eqb n 0) runs (failing z s n t)
 

@@ -10,13 +10,14 @@ use Rattle.area.specs.Area.{put}
 use Rattle.sia.specs.Names.{opOf}
 use Rattle.sia.specs.Empty.{noInstruction}
 use Rattle.host.specs.Places.{whose}
-use Rattle.rules.specs.View.{Setting, Turn, settingOf, turnOf, withRun, parentSpots, committedSpots, whole}
+use Rattle.rules.specs.View.{Way, kept, Setting, Turn, settingBy, settingOf, turnOf, withRun, parentSpots, committedSpots, whole}
+use Rattle.rules.specs.Roots.{rootOf, rootAt, rootOnDisk}
 use Rattle.rules.specs.Inputs.{need, inputsOf, argsOf}
-use Rattle.rules.specs.Plan.{sourceOf, cost, newSize, judged}
-use Rattle.rules.specs.Effect.{groundOf, effect}
-use Rattle.rules.specs.Record.{startingPair, runningPair, failureBytes, successBytes}
+use Rattle.rules.specs.Plan.{sourceOf, cost, touched, newSize, judged}
+use Rattle.rules.specs.Effect.{groundOf, effect, rehashed}
+use Rattle.rules.specs.Record.{pairOf, startingPair, runningPair, failureBytes, successBytes}
 use Rattle.rules.specs.Run.{current, step, ready, run}
-use Rattle.rules.specs.Calls.{Pieced, pieced, piece}
+use Rattle.rules.specs.Calls.{Pieced, pieced, pieceBy, piece}
 use Rattle.rules.specs.Commit.{Closed}
 use Rattle.rules.specs.Visit.{Areas, Opening, Agreement, opens, closes}
 use Rattle.sia.specs.declared.Instruction.{Instruction}
@@ -36,9 +37,12 @@ abbrev pub lentTo : Host → Areas → Pieced
 lentTo h a = pieced 0 (h .program .progress .tally) h (a .stage) (a .input) (a .output)
 
 -- what pieces leave that are given in turn: "Areas are lent back as they were left, with no interrupt and no other call between."
-unfoldable pub fed : List ℕ → Pieced → List (List ℕ) → Pieced
-fed disk w [] = w
-fed disk w (b ∷ bs) = fed disk (piece disk (w .host) (w .stage) (w .input) (w .output) b) bs
+unfoldable pub fedBy : Way → List ℕ → Pieced → List (List ℕ) → Pieced
+fedBy way disk w [] = w
+fedBy way disk w (b ∷ bs) = fedBy way disk (pieceBy way disk (w .host) (w .stage) (w .input) (w .output) b) bs
+
+abbrev pub fed : List ℕ → Pieced → List (List ℕ) → Pieced
+fed disk w bs = fedBy kept disk w bs
 
 -- each of them is answered with 0
 abbrev pub AllAccepted : List ℕ → Pieced → List (List ℕ) → Type 0
@@ -48,8 +52,11 @@ AllAccepted disk w (b ∷ bs) =
     × AllAccepted disk (piece disk (w .host) (w .stage) (w .input) (w .output) b) bs
 
 -- a head is opened and then pieces are given
+abbrev pub visitedBy : Way → Host → Opening → Areas → List (List ℕ) → Pieced
+visitedBy way h o a bs = fedBy way (a .disk) (lentTo (opens h o .host) a) bs
+
 abbrev pub visited : Host → Opening → Areas → List (List ℕ) → Pieced
-visited h o a bs = fed (a .disk) (lentTo (opens h o .host) a) bs
+visited h o a bs = visitedBy kept h o a bs
 
 -- the areas as pieces left them
 abbrev pub leftBy : Areas → Pieced → Areas
@@ -61,7 +68,7 @@ closesAfter a w g = closes (w .host) (leftBy a w) g
 
 -- what k bytes leave
 unfoldable pub made : Host → ℕ → Turn → List ℕ → Pieced
-made h k t area = pieced 0 (t .progress .tally) (withRun h k (t .progress)) (t .stage) area (t .output)
+made h k t area = pieced 0 (t .progress .tally) (withRun h k (t .progress) (t .roots)) (t .stage) area (t .output)
 
 -- the state once k bytes have come: the run on the whole data, stopped at the first need that has not come
 unfoldable pub after : Host → Areas → List ℕ → ℕ → Pieced
@@ -75,10 +82,11 @@ recordOf z s i l t =
     let p = t .progress in
     let op = opOf (i .name) in
     let x = argsOf op l in
-    let n = judged z s p i l in
+    let n = judged z s (rootAt z s t) p i l in
     let price = cost (s .terms .head .length) (s .terms .prices) op (x .len) in
-    let good = successBytes z s p (i .proof) (sourceOf z s p op (x .key)) op x price
-    (newSize (p .size) op x) (effect z (groundOf s) (p .size) op x (record { staged = p .staged; bytes = t .stage })) in
+    let g = effect z (groundOf s) (p .size) op x (record { staged = p .staged; bytes = t .stage }) in
+    let f = rootOf z s (g .bytes) (rehashed z g (touched z (p .size) op x) (t .roots)) in
+    let good = successBytes z s f p (i .proof) (sourceOf z s (rootAt z s t) p op (x .key)) op x price (newSize (p .size) op x) g in
     pick (eqb n 0) good (failureBytes z s n)
 
 -- that of the instruction whose turn it is
@@ -100,10 +108,13 @@ ripe s k i (suc n) =
     pick (leb (need (s .terms .head .length) (getD (s .terms .head .instructions) i noInstruction)) k) more 0
 
 -- the records of the whole run: what the data gives when all of it has come
-unfoldable pub wholeRun : Host → Areas → List ℕ → List (List ℕ)
-wholeRun h a all =
+unfoldable pub wholeRunBy : Way → Host → Areas → List ℕ → List (List ℕ)
+wholeRunBy way h a all =
     let d = h .program .terms .head in
-    trail (h .sector) (settingOf h (a .disk)) all (d .length) (d .count) (turnOf h (a .stage) (a .output))
+    trail (h .sector) (settingBy way h (a .disk)) all (d .length) (d .count) (turnOf h (a .stage) (a .output))
+
+abbrev pub wholeRun : Host → Areas → List ℕ → List (List ℕ)
+wholeRun h a all = wholeRunBy kept h a all
 
 -- m "counts, from the front up to and including the first failure, the instructions which, with all before them, need only bytes already
 -- come"
@@ -133,7 +144,7 @@ charges z s input k (suc n) t =
     let i = current s t in
     let l = inputsOf i input in
     let price = cost (s .terms .head .length) (s .terms .prices) (opOf (i .name)) (argsOf (opOf (i .name)) l .len) in
-    let own = pick (eqb (judged z s (t .progress) i l) 0) price 0 in
+    let own = pick (eqb (judged z s (rootAt z s t) (t .progress) i l) 0) price 0 in
     let more = own + charges z s input k n (step z s input t) in
     pick (ready s k t) more 0
 
@@ -151,13 +162,19 @@ sectorsOf z disk p = whole z disk [] (committedSpots z p)
 abbrev pub parentIn : Host → List Place → Place
 parentIn h ps = whose (h .program .terms .head .contract) ps
 
+-- a contract's size and root, as a host and the disk have it; z is the host's sector size
+abbrev pub pairIn : ℕ → Host → List ℕ → Place → Pair
+pairIn z h disk p = pairOf z (rootOnDisk z (settingOf h disk)) p
+
 -- the parent as committed, and so as it was when the program was opened: its size and root
 abbrev pub starting : Host → Areas → Pair
 starting h a = startingPair (h .sector) (settingOf h (a .disk))
 
 -- the parent as it is read now: its size and root, and its sectors
 abbrev pub running : Host → Areas → Pair
-running h a = runningPair (h .sector) (settingOf h (a .disk)) (h .program .progress) (a .stage)
+running h a =
+    let s = settingOf h (a .disk) in
+    runningPair (h .sector) s (rootOf (h .sector) s (a .stage) (h .stageroots)) (h .program .progress)
 
 abbrev pub runningSectors : Host → Areas → List ℕ
 runningSectors h a = whole (h .sector) (a .disk) (a .stage) (parentSpots (h .sector) (settingOf h (a .disk)) (h .program .progress))

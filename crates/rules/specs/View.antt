@@ -10,7 +10,7 @@ use Rattle.sia.specs.Names.{readOnly}
 use Rattle.sia.specs.Encode.{joined}
 use Rattle.host.specs.Lists.{each, count, unused}
 use Rattle.host.specs.Empty.{none}
-use Rattle.host.specs.With.{withProgram, withCame, withProgress}
+use Rattle.host.specs.With.{withProgram, withStageRoots, withCame, withProgress}
 use Rattle.host.specs.Places.{whose, committed, taken}
 use Rattle.host.specs.declared.Place.{Place}
 use Rattle.host.specs.declared.Terms.{Terms}
@@ -21,35 +21,51 @@ use Rattle.rules.specs.declared.Spot.the-variants.{OnDisk, InStage}
 
 -- ---- what stays and what changes while instructions run
 
--- what stays: the sectors of disk and stage, the contracts, the terms of the program, the disk's bytes
+-- how the root of a sector is known: as it is kept beside the sector's slot, which is what the calls do; or worked out from the sector's
+-- bytes, which is document 01
+pub data Way : Type 0 where
+  kept : Way
+  worked : Way
+
+-- what stays: the sectors of disk and stage, the contracts, the terms of the program, the disk's bytes, the roots kept beside its slots, and
+-- how roots are known
 pub record Setting : Type 0 where
   pub sectors : ℕ
   pub copies : ℕ
   pub places : List Place
   pub terms : Terms
   pub disk : List ℕ
+  pub roots : List ℕ
+  pub way : Way
 
--- what changes: the progress of the program, the stage's bytes, the output's bytes
+-- what changes: the progress of the program, the stage's bytes, the output's bytes, the roots kept beside the stage's slots
 pub record Turn : Type 0 where
   pub progress : Progress
   pub stage : List ℕ
   pub output : List ℕ
+  pub roots : List ℕ
 
-abbrev pub setting : ℕ → ℕ → List Place → Terms → List ℕ → Setting
-setting sectors copies places terms disk = record { sectors = sectors; copies = copies; places = places; terms = terms; disk = disk }
+-- that of the calls
+abbrev pub setting : ℕ → ℕ → List Place → Terms → List ℕ → List ℕ → Setting
+setting sectors copies places terms disk roots =
+    record { sectors = sectors; copies = copies; places = places; terms = terms; disk = disk; roots = roots; way = kept }
 
-abbrev pub turn : Progress → List ℕ → List ℕ → Turn
-turn progress stage output = record { progress = progress; stage = stage; output = output }
+abbrev pub turn : Progress → List ℕ → List ℕ → List ℕ → Turn
+turn progress stage output roots = record { progress = progress; stage = stage; output = output; roots = roots }
 
-unfoldable pub settingOf : Host → List ℕ → Setting
-settingOf h disk = setting (h .disk) (h .stage) (h .places) (h .program .terms) disk
+unfoldable pub settingBy : Way → Host → List ℕ → Setting
+settingBy way h disk =
+    record { sectors = h .disk; copies = h .stage; places = h .places; terms = h .program .terms; disk = disk; roots = h .diskroots; way = way }
+
+abbrev pub settingOf : Host → List ℕ → Setting
+settingOf h disk = settingBy kept h disk
 
 unfoldable pub turnOf : Host → List ℕ → List ℕ → Turn
-turnOf h stage output = turn (h .program .progress) stage output
+turnOf h stage output = turn (h .program .progress) stage output (h .stageroots)
 
--- the host when k bytes have come and its program has made this progress
-unfoldable pub withRun : Host → ℕ → Progress → Host
-withRun h k p = withProgram h (withProgress (withCame (h .program) k) p)
+-- the host when k bytes have come, its program has made this progress, and these roots are kept beside the stage's slots
+unfoldable pub withRun : Host → ℕ → Progress → List ℕ → Host
+withRun h k p roots = withStageRoots (withProgram h (withProgress (withCame (h .program) k) p)) roots
 
 -- "a call that lends them must lend the same lengths"
 unfoldable pub diskRight : Host → List ℕ → Bool

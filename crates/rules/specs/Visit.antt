@@ -8,11 +8,12 @@ use lib.ListN.{length}
 use Rattle.area.specs.Little.{Bytes}
 use Rattle.sia.specs.Decode.{decode}
 use Rattle.host.specs.Order.{inOrder}
-use Rattle.rules.specs.View.{areasRight}
+use Rattle.rules.specs.View.{Way, areasRight}
 use Rattle.rules.specs.Record.{pairing}
 use Rattle.rules.specs.Run.{going}
-use Rattle.rules.specs.Calls.{opened, Pieced, piece, Interrupted, interrupt, reached}
-use Rattle.rules.specs.Commit.{Closed, close}
+use Rattle.rules.specs.Calls.{opened, Pieced, pieceBy, piece, Interrupted, interruptBy, interrupt, reachedBy, reached}
+use Rattle.rules.specs.Commit.{Closed, closeBy, close}
+use Rattle.rules.specs.Sound.{sound}
 use Rattle.host.specs.declared.Place.{Place}
 use Rattle.host.specs.declared.Prices.{Prices}
 use Rattle.host.specs.declared.Host.{Host}
@@ -63,6 +64,20 @@ reaches h a = reached (a .disk) h (a .stage)
 abbrev pub closes : Host → Areas → Agreement → Closed
 closes h a g = close (a .disk) h (a .stage) (g .agree) (g .size) (g .root)
 
+-- ---- the calls with roots known in a way: `kept` is the calls above, `worked` is document 01
+
+abbrev pub givesBy : Way → Host → Areas → List ℕ → Pieced
+givesBy way h a bytes = pieceBy way (a .disk) h (a .stage) (a .input) (a .output) bytes
+
+abbrev pub stopsBy : Way → Host → Areas → Interrupted
+stopsBy way h a = interruptBy way (a .disk) h (a .output)
+
+abbrev pub reachesBy : Way → Host → Areas → Reached
+reachesBy way h a = reachedBy way (a .disk) h (a .stage)
+
+abbrev pub closesBy : Way → Host → Areas → Agreement → Closed
+closesBy way h a g = closeBy way (a .disk) h (a .stage) (g .agree) (g .size) (g .root)
+
 -- ---- hosts that code can hold
 
 -- the slots of each place are an array of 64
@@ -74,11 +89,18 @@ Shaped (p ∷ ps) = (length (p .slots) ≡ 64) × Shaped ps
 pub record Declared (h : Host) : Type 0 where
   pub places : Shaped (h .places)
   pub staged : length (h .program .progress .staged) ≡ 64
+  pub disk : length (h .diskroots) ≡ 2048
+  pub stage : length (h .stageroots) ≡ 512
 
 -- a host that can be called: in order, its arrays as declared
 pub record Ready (h : Host) : Type 0 where
   pub order : inOrder h ≡ true
   pub declared : Declared h
+
+-- "a host is sound when it is in order and each kept root is its sector's": with the areas that are lent; its arrays as declared
+pub record Sound (h : Host) (disk stage : List ℕ) : Type 0 where
+  pub declared : Declared h
+  pub right : sound disk h stage ≡ true
 
 -- a host with a program that an agreement can close, and its areas: in order, the lengths right, a program open that has ended and not failed
 pub record Finished (h : Host) (a : Areas) : Type 0 where

@@ -29,3 +29,9 @@ pub struct Reached {
     pub size: u64,
     pub root: [u8; 32],
 }
+
+// What the call that asks whether a host is sound answers: document 01's number, and yes or no.
+pub struct Sounded {
+    pub number: u64,
+    pub sound: bool,
+}

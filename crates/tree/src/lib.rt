@@ -6,6 +6,7 @@ ghost use mathlib.Core.Path.{_≡_};
 ghost use Rattle.tree.specs.Answers.{rootGiven, rooted, joined, noCount, countGiven, counted};
 
 pub mod asked;
+pub mod doubling;
 pub mod hashing;
 pub mod walks;
 

@@ -9,7 +9,7 @@ use Rattle.host.specs.declared.Place.{Place}
 use Rattle.host.specs.declared.Host.{Host}
 use Rattle.host.proofs.Host as host
 use Rattle.host.proofs.Place as place
-use Rattle.host.proofs.Laws.Lengths.{placed, hosted}
+use Rattle.host.proofs.Laws.Lengths.{placed, hosted, disk-rooted, stage-rooted}
 use Rattle.rules.specs.Visit.{Shaped, Declared}
 
 -- the places of a host, which are a field of it
@@ -24,4 +24,6 @@ pub sounds : (h : Host) (vs : List Val) → Is (row host.the-type) h vs → Decl
 sounds h vs g = record {
   places = let a = g .1 .1 .1 .1 .1 .0 in field-placed (h .places) (a .0) (a .1 .1);
   staged = hosted h vs g;
+  disk = disk-rooted h vs g;
+  stage = stage-rooted h vs g;
 }

@@ -18,6 +18,7 @@ use Rattle.rules.specs.View.{Setting, parent, freeCopies}
 use Rattle.rules.specs.Inputs.{Args}
 use Rattle.rules.specs.Plan.{badSpan, badSpans, touched, wanted, newSize}
 use Rattle.rules.specs.Facts.{Good, Solid}
+use Rattle.rules.specs.declared.Spot.{Spot}
 use Rattle.rules.specs.Effect.{groundOf, Staging, copied, effect}
 use Rattle.rules.proofs.Laws.Effects.{Passed, neither, whole-sectors, sector-below, asks, asks-some, asks-two, copied-map, wanted-one, swap-asks, span-in, past-first}
 use Rattle.rules.proofs.Laws.Spots.{unstaged, committed-slot}
@@ -113,25 +114,25 @@ module _ (z : ℕ) (s : Setting) (p : Progress) (bytes : List ℕ) (good : Good 
 
   -- by the instruction
 
-  writes : (a : Args) (n : ℕ) → Passed z s p Write a n → Over z (groundOf s) (staging (p .staged) bytes) (a .first) (a .len)
+  writes : {f : Spot → List ℕ} (a : Args) (n : ℕ) → Passed z s f p Write a n → Over z (groundOf s) (staging (p .staged) bytes) (a .first) (a .len)
   unfolding badSpans wanted touched
   writes a n q = over (a .first) (a .len) (q .spans) (omega (arith, q .free, wanted-one (p .staged) (a .first / z)))
 
-  copies : (a : Args) (n : ℕ) → Passed z s p Copy a n → Over z (groundOf s) (staging (p .staged) bytes) (a .first) (a .len)
+  copies : {f : Spot → List ℕ} (a : Args) (n : ℕ) → Passed z s f p Copy a n → Over z (groundOf s) (staging (p .staged) bytes) (a .first) (a .len)
   unfolding badSpans wanted touched
   copies a n q = over (a .first) (a .len) (either-left _ _ (q .spans)) (omega (arith, q .free, wanted-one (p .staged) (a .first / z)))
 
-  sources : (a : Args) (n : ℕ) → Passed z s p Copy a n → From z (groundOf s) (staging (p .staged) bytes) (a .second) (a .len)
+  sources : {f : Spot → List ℕ} (a : Args) (n : ℕ) → Passed z s f p Copy a n → From z (groundOf s) (staging (p .staged) bytes) (a .second) (a .len)
   unfolding badSpans
   sources a n q = source (a .second) (a .len) (either-right _ _ (q .spans))
 
-  swaps : (a : Args) (n : ℕ) → Passed z s p Swap a n → Two z (groundOf s) (staging (p .staged) bytes) (a .first) (a .second) (a .len)
+  swaps : {f : Spot → List ℕ} (a : Args) (n : ℕ) → Passed z s f p Swap a n → Two z (groundOf s) (staging (p .staged) bytes) (a .first) (a .second) (a .len)
   unfolding badSpans wanted touched
   swaps a n q =
       spans (a .first) (a .second) (a .len) (either-left _ _ (q .spans)) (either-right _ _ (q .spans))
       (subst (λ (x : ℕ). x ≤ freeCopies s p) (swap-asks (eqb (a .first / z) (a .second / z)) (p .staged) (a .second / z) (a .first / z)) (q .free))
 
-  truncates : (a : Args) (n : ℕ) → Passed z s p Truncate a n → Sized z (groundOf s) (staging (p .staged) bytes) (p .size) (a .first)
+  truncates : {f : Spot → List ℕ} (a : Args) (n : ℕ) → Passed z s f p Truncate a n → Sized z (groundOf s) (staging (p .staged) bytes) (p .size) (a .first)
   unfolding wanted touched newSize
   truncates a n q =
       sized (a .first) (omega (arith, q .fits))
@@ -143,20 +144,20 @@ module _ (z : ℕ) (s : Setting) (p : Progress) (bytes : List ℕ) (good : Good 
       ))
 
   -- an instruction that can run has what its effect asks
-  pub stands : (op : Op) (a : Args) (n : ℕ) (bs : List ℕ) → Passed z s p op a n
+  pub stands : {f : Spot → List ℕ} (op : Op) (a : Args) (n : ℕ) (bs : List ℕ) → Passed z s f p op a n
       → Stands z (groundOf s) (p .size) op (args (a .first) (a .second) (a .len) bs) (staging (p .staged) bytes)
-  stands op a n bs q =
+  stands {f} op a n bs q =
       record {
         lent = lent;
-        write = λ o. writes a n (subst (λ (x : Op). Passed z s p x a n) o q);
-        copy = λ o. copies a n (subst (λ (x : Op). Passed z s p x a n) o q);
-        source = λ o. sources a n (subst (λ (x : Op). Passed z s p x a n) o q);
-        swap = λ o. swaps a n (subst (λ (x : Op). Passed z s p x a n) o q);
-        truncate = λ o. truncates a n (subst (λ (x : Op). Passed z s p x a n) o q);
+        write = λ o. writes a n (subst (λ (x : Op). Passed z s f p x a n) o q);
+        copy = λ o. copies a n (subst (λ (x : Op). Passed z s f p x a n) o q);
+        source = λ o. sources a n (subst (λ (x : Op). Passed z s f p x a n) o q);
+        swap = λ o. swaps a n (subst (λ (x : Op). Passed z s f p x a n) o q);
+        truncate = λ o. truncates a n (subst (λ (x : Op). Passed z s f p x a n) o q);
       }
 
   -- the same where the code has the parent's disk slots
-  pub stands-with : (slots : List ℕ) → slots ≡ parent s .slots → (op : Op) (a : Args) (n : ℕ) (bs : List ℕ) → Passed z s p op a n
+  pub stands-with : {f : Spot → List ℕ} (slots : List ℕ) → slots ≡ parent s .slots → (op : Op) (a : Args) (n : ℕ) (bs : List ℕ) → Passed z s f p op a n
       → Stands z (ground (s .copies) slots (s .disk)) (p .size) op (args (a .first) (a .second) (a .len) bs) (staging (p .staged) bytes)
   stands-with slots own op a n bs q =
       subst (λ (l : List ℕ). Stands z (ground (s .copies) l (s .disk)) (p .size) op (args (a .first) (a .second) (a .len) bs) (staging (p .staged) bytes))

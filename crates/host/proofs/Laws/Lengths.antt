@@ -31,3 +31,10 @@ hosted h vs g =
     let program = g .1 .1 .1 .1 .1 .1 .0 in
     let progress = program .1 .1 .1 .1 .1 .0 in
     long u8-field (h .program .progress .staged) (progress .1 .1 .1 .1 .1 .1 .1 .0 .1 .0 .1)
+
+-- 32 bytes for each slot: of the disk, 64 slots; of the stage, 16
+pub disk-rooted : (h : Host) (vs : List Val) → Is (row host.the-type) h vs → length (h .diskroots) ≡ 2048
+disk-rooted h vs g = long u8-field (h .diskroots) (g .1 .1 .1 .1 .1 .1 .1 .0 .1 .0 .1)
+
+pub stage-rooted : (h : Host) (vs : List Val) → Is (row host.the-type) h vs → length (h .stageroots) ≡ 512
+stage-rooted h vs g = long u8-field (h .stageroots) (g .1 .1 .1 .1 .1 .1 .1 .1 .0 .1 .0 .1)

@@ -1,7 +1,7 @@
 -- Instructions keep the lengths of stage and output. Assumes nothing.
 use mathlib.Core.Path.{_≡_, refl, sym, ap, _∙_, subst}
 use mathlib.Core.Bool.{Bool, true, false, not}
-use mathlib.Core.List.{List}
+use mathlib.Core.List.{List, [], _∷_}
 use Prim.Native.Nat.{ℕ, zero, suc, _/_}
 use lib.ListN.{length, getD}
 use lib.Dec.{ltb, eqb}
@@ -14,12 +14,13 @@ use Rattle.host.specs.Empty.{none}
 use Rattle.rules.specs.View.{Setting, Turn}
 use Rattle.rules.specs.Inputs.{Args, argsOf, inputsOf}
 use Rattle.rules.specs.Plan.{judged}
-use Rattle.rules.specs.Effect.{Ground, groundOf, Staging, newCopy, copied, laid, spanWritten, resized, effect}
+use Rattle.rules.specs.Effect.{Ground, groundOf, Staging, newCopy, copied, laid, spanWritten, resized, effect, rehashed}
 use Rattle.rules.specs.Run.{failing, succeeding, stepped, current, step, ready, runs}
 use Rattle.rules.proofs.Laws.Steps.{runs-go, runs-stop}
 use Rattle.sia.specs.declared.Op.{Op}
 use Rattle.sia.specs.declared.Op.the-variants.{Read, ReadSector, Write, Copy, Swap, Truncate, Unknown}
 use Rattle.sia.specs.declared.Instruction.{Instruction}
+use Rattle.rules.specs.Roots.{rootAt}
 
 -- ---- areas keep their lengths
 
@@ -60,24 +61,30 @@ effect-bytes z n size Swap a g = written-length z n (a .first) _ _ ∙ written-l
 effect-bytes z n size Truncate a g = resized-length z n size (a .first) g
 effect-bytes z n size Unknown a g = refl
 
+pub rehashed-length : (z : ℕ) (g : Staging) (l copies : List ℕ) → length (rehashed z g l copies) ≡ length copies
+unfolding rehashed
+rehashed-length z g [] copies = refl
+rehashed-length z g (at ∷ l) copies = length-put _ _ _ ∙ rehashed-length z g l copies
+
 -- the areas of two turns are equally long
 pub record Alike (t u : Turn) : Type 0 where
   pub stage : length (t .stage) ≡ length (u .stage)
   pub output : length (t .output) ≡ length (u .output)
+  pub roots : length (t .roots) ≡ length (u .roots)
 
 pub stepped-alike : (z : ℕ) (s : Setting) (i : Instruction) (l : List (List ℕ)) (t : Turn) → Alike (stepped z s i l t) t
 unfolding stepped succeeding failing
 stepped-alike z s i l t =
-    by (eqb (judged z s (t .progress) i l) 0)
-    (λ e. subst (λ (x : Turn). Alike x t) (sym (picks (eqb (judged z s (t .progress) i l) 0) _ _ e))
-    (record { stage = effect-bytes z (groundOf s) (t .progress .size) (opOf (i .name)) (argsOf (opOf (i .name)) l) _; output = length-put (t .output) _ _ }))
-    (λ e. subst (λ (x : Turn). Alike x t) (sym (skips (eqb (judged z s (t .progress) i l) 0) _ _ e)) (record { stage = refl; output = length-put (t .output) _ _ }))
+    by (eqb (judged z s (rootAt z s t) (t .progress) i l) 0)
+    (λ e. subst (λ (x : Turn). Alike x t) (sym (picks (eqb (judged z s (rootAt z s t) (t .progress) i l) 0) _ _ e))
+    (record { stage = effect-bytes z (groundOf s) (t .progress .size) (opOf (i .name)) (argsOf (opOf (i .name)) l) _; output = length-put (t .output) _ _; roots = rehashed-length z _ _ (t .roots) }))
+    (λ e. subst (λ (x : Turn). Alike x t) (sym (skips (eqb (judged z s (rootAt z s t) (t .progress) i l) 0) _ _ e)) (record { stage = refl; output = length-put (t .output) _ _; roots = refl }))
 
 pub runs-alike : (z : ℕ) (s : Setting) (a : List ℕ) (k n : ℕ) (t : Turn) → Alike (runs z s a k n t) t
 unfolding runs step
-runs-alike z s a k zero t = record { stage = refl; output = refl }
+runs-alike z s a k zero t = record { stage = refl; output = refl; roots = refl }
 runs-alike z s a k (suc n) t =
     by (ready s k t)
     (λ r. let u = stepped-alike z s (current s t) (inputsOf (current s t) a) t in let v = runs-alike z s a k n (step z s a t) in
-    subst (λ (x : Turn). Alike x t) (sym (runs-go z s a k n t r)) (record { stage = v .stage ∙ u .stage; output = v .output ∙ u .output }))
-    (λ r. subst (λ (x : Turn). Alike x t) (sym (runs-stop z s a k (suc n) t r)) (record { stage = refl; output = refl }))
+    subst (λ (x : Turn). Alike x t) (sym (runs-go z s a k n t r)) (record { stage = v .stage ∙ u .stage; output = v .output ∙ u .output; roots = v .roots ∙ u .roots }))
+    (λ r. subst (λ (x : Turn). Alike x t) (sym (runs-stop z s a k (suc n) t r)) (record { stage = refl; output = refl; roots = refl }))

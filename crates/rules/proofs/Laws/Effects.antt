@@ -29,6 +29,7 @@ use Rattle.sia.specs.declared.Op.{Op}
 use Rattle.sia.specs.declared.Op.the-variants.{Read, ReadSector, Write, Copy, Swap, Truncate, Unknown}
 use Rattle.sia.specs.declared.Instruction.{Instruction}
 use Rattle.host.specs.declared.Progress.{Progress}
+use Rattle.rules.specs.declared.Spot.{Spot}
 
 -- both parts of a test that does not hold
 pub neither : (a b : Bool) → either a b ≡ false → (a ≡ false) × (b ≡ false)
@@ -42,18 +43,18 @@ passes true n r e = absurd (omega arith)
 passes false n r e = (refl, e)
 
 -- what is known of an instruction that runs
-pub record Passed (z : ℕ) (s : Setting) (p : Progress) (op : Op) (a : Args) (count : ℕ) : Type 0 where
+pub record Passed (z : ℕ) (s : Setting) (f : Spot → List ℕ) (p : Progress) (op : Op) (a : Args) (count : ℕ) : Type 0 where
   pub allowed : both (changes op) (readOnlyMode (s .terms)) ≡ false
-  pub spans : badSpans z (p .size) (sourceOf z s p op (a .key)) op a ≡ false
+  pub spans : badSpans z (p .size) (sourceOf z s f p op (a .key)) op a ≡ false
   pub paid : p .tally + cost (s .terms .head .length) (s .terms .prices) op (a .len) ≤ s .terms .budget
   pub free : wanted z p op a ≤ freeCopies s p
   pub fits : newSize (p .size) op a + others (s .terms .head .contract) (s .places) ≤ s .sectors * z
   pub room : p .written + count + 72 ≤ s .terms .room
 
-passed-inputs : (z : ℕ) (s : Setting) (p : Progress) (i : Instruction) (op : Op) (l : List (List ℕ)) → judgedInputs z s p i op l ≡ 0
-    → Passed z s p op (argsOf op l) (recordCount z (i .proof) (sourceOf z s p op (argsOf op l .key)) op (argsOf op l))
+passed-inputs : (z : ℕ) (s : Setting) (f : Spot → List ℕ) (p : Progress) (i : Instruction) (op : Op) (l : List (List ℕ)) → judgedInputs z s f p i op l ≡ 0
+    → Passed z s f p op (argsOf op l) (recordCount z (i .proof) (sourceOf z s f p op (argsOf op l .key)) op (argsOf op l))
 unfolding judgedInputs judgedSource
-passed-inputs z s p i op l e =
+passed-inputs z s f p i op l e =
     let c23 = passes _ 22 _ e in
     let c24 = passes _ 23 _ (c23 .1) in
     let c25 = passes _ 24 _ (c24 .1) in
@@ -65,10 +66,10 @@ passed-inputs z s p i op l e =
     let c42 = passes _ 41 _ (c41 .1) in
     record { allowed = c24 .0; spans = c26 .0; paid = ltb-false _ _ (c28 .0); free = ltb-false _ _ (c40 .0); fits = ltb-false _ _ (c41 .0); room = ltb-false _ _ (c42 .0) }
 
-pub passed : (z : ℕ) (s : Setting) (p : Progress) (i : Instruction) (l : List (List ℕ)) → judged z s p i l ≡ 0
-    → Passed z s p (opOf (i .name)) (argsOf (opOf (i .name)) l) (recordCount z (i .proof) (sourceOf z s p (opOf (i .name)) (argsOf (opOf (i .name)) l .key)) (opOf (i .name)) (argsOf (opOf (i .name)) l))
+pub passed : (z : ℕ) (s : Setting) (f : Spot → List ℕ) (p : Progress) (i : Instruction) (l : List (List ℕ)) → judged z s f p i l ≡ 0
+    → Passed z s f p (opOf (i .name)) (argsOf (opOf (i .name)) l) (recordCount z (i .proof) (sourceOf z s f p (opOf (i .name)) (argsOf (opOf (i .name)) l .key)) (opOf (i .name)) (argsOf (opOf (i .name)) l))
 unfolding judged
-passed z s p i l e = passed-inputs z s p i (opOf (i .name)) l (passes _ 21 _ (passes _ 20 _ e .1) .1)
+passed z s f p i l e = passed-inputs z s f p i (opOf (i .name)) l (passes _ 21 _ (passes _ 20 _ e .1) .1)
 
 -- ---- positions
 
@@ -93,7 +94,7 @@ copied-map z n at g = under (eqb (getD (g .staged) at none) none) _ _
     under true x y = refl
     under false x y = refl
 
-written-map : (z : ℕ) (n : Ground) (at : ℕ) (bs : List ℕ) (g : Staging) → spanWritten z n at bs g .staged ≡ copiedMap (n .copies) (at / z) (g .staged)
+pub written-map : (z : ℕ) (n : Ground) (at : ℕ) (bs : List ℕ) (g : Staging) → spanWritten z n at bs g .staged ≡ copiedMap (n .copies) (at / z) (g .staged)
 unfolding spanWritten laid
 written-map z n at bs g = copied-map z n (at / z) g
 
@@ -132,11 +133,11 @@ asks-same : (l m : List ℕ) (at : ℕ) → getD l at none ≡ getD m at none �
 unfolding asks
 asks-same l m at e = ap (λ (x : ℕ). pick {A = ℕ} (eqb x none) 1 0) e
 
-copied-new : (copies at : ℕ) (staged : List ℕ) → eqb (getD staged at none) none ≡ true → copiedMap copies at staged ≡ set staged at (lowest (unused staged) 0 copies)
+pub copied-new : (copies at : ℕ) (staged : List ℕ) → eqb (getD staged at none) none ≡ true → copiedMap copies at staged ≡ set staged at (lowest (unused staged) 0 copies)
 unfolding copiedMap
 copied-new copies at staged e = picks (eqb (getD staged at none) none) _ staged e
 
-copied-old : (copies at : ℕ) (staged : List ℕ) → eqb (getD staged at none) none ≡ false → copiedMap copies at staged ≡ staged
+pub copied-old : (copies at : ℕ) (staged : List ℕ) → eqb (getD staged at none) none ≡ false → copiedMap copies at staged ≡ staged
 unfolding copiedMap
 copied-old copies at staged e = skips (eqb (getD staged at none) none) _ staged e
 
@@ -240,15 +241,15 @@ new-copy-map : (z : ℕ) (n : Ground) (at : ℕ) (bs : List ℕ) (g : Staging) �
 unfolding newCopy freeCopy
 new-copy-map z n at bs g = refl
 
-resized-more : (z : ℕ) (n : Ground) (now to : ℕ) (g : Staging) → ltb now to ≡ true → resized z n now to g .staged ≡ set (g .staged) (now / z) (lowest (unused (g .staged)) 0 (n .copies))
+pub resized-more : (z : ℕ) (n : Ground) (now to : ℕ) (g : Staging) → ltb now to ≡ true → resized z n now to g .staged ≡ set (g .staged) (now / z) (lowest (unused (g .staged)) 0 (n .copies))
 unfolding resized
 resized-more z n now to g e = ap (λ (x : Staging). x .staged) (picks (ltb now to) _ _ e) ∙ new-copy-map z n (now / z) (zeros z) g
 
-resized-less : (z : ℕ) (n : Ground) (now to : ℕ) (g : Staging) → ltb now to ≡ false → ltb to now ≡ true → resized z n now to g .staged ≡ set (g .staged) (to / z) none
+pub resized-less : (z : ℕ) (n : Ground) (now to : ℕ) (g : Staging) → ltb now to ≡ false → ltb to now ≡ true → resized z n now to g .staged ≡ set (g .staged) (to / z) none
 unfolding resized
 resized-less z n now to g e d = ap (λ (x : Staging). x .staged) (skips (ltb now to) _ _ e ∙ picks (ltb to now) _ _ d)
 
-resized-same : (z : ℕ) (n : Ground) (now to : ℕ) (g : Staging) → ltb now to ≡ false → ltb to now ≡ false → resized z n now to g .staged ≡ g .staged
+pub resized-same : (z : ℕ) (n : Ground) (now to : ℕ) (g : Staging) → ltb now to ≡ false → ltb to now ≡ false → resized z n now to g .staged ≡ g .staged
 unfolding resized
 resized-same z n now to g e d = ap (λ (x : Staging). x .staged) (skips (ltb now to) _ _ e ∙ skips (ltb to now) _ _ d)
 
@@ -258,7 +259,7 @@ pub record Sized (z now to : ℕ) : Type 0 where
   pub up : to ≤ now + z
   pub down : now ≤ to + z
 
-sized : (z now to : ℕ) → badSize z now to ≡ false → Sized z now to
+pub sized : (z now to : ℕ) → badSize z now to ≡ false → Sized z now to
 unfolding badSize
 sized z now to e =
     let a = neither _ _ e in
@@ -296,8 +297,8 @@ swap-asks false staged at to = wanted-two staged at to
 -- ---- each instruction
 
 module _ (z : ℕ) (s : Setting) (p : Progress) (start : ℕ) (pos : 0 < z) (few : s .copies ≤ 16) (most : s .sectors ≤ length (p .staged)) (whole : p .size % z ≡ 0)
-    (under : p .size / z ≤ length (p .staged)) (f : Staged (s .copies) start (p .size / z) (p .staged)) (bytes : List ℕ) where
-  pub effect-kept : (op : Op) (a : Args) (n : ℕ) → Passed z s p op a n → Staged (s .copies) start (newSize (p .size) op a / z) (effect z (groundOf s) (p .size) op a (record { staged = p .staged; bytes = bytes }) .staged)
+    (under : p .size / z ≤ length (p .staged)) (f : Staged (s .copies) start (p .size / z) (p .staged)) (bytes : List ℕ) {r : Spot → List ℕ} where
+  pub effect-kept : (op : Op) (a : Args) (n : ℕ) → Passed z s r p op a n → Staged (s .copies) start (newSize (p .size) op a / z) (effect z (groundOf s) (p .size) op a (record { staged = p .staged; bytes = bytes }) .staged)
   unfolding effect newSize badSpans wanted touched
   effect-kept Read a n q = f
   effect-kept ReadSector a n q = f
@@ -331,7 +332,7 @@ effect-length z n size Truncate a g =
     (λ d. ap length (resized-same z n size (a .first) g e d)))
 effect-length z n size Unknown a g = refl
 
-pub size-whole : (z : ℕ) (s : Setting) (p : Progress) (op : Op) (a : Args) (n : ℕ) → Passed z s p op a n → p .size % z ≡ 0 → newSize (p .size) op a % z ≡ 0
+pub size-whole : (z : ℕ) (s : Setting) {r : Spot → List ℕ} (p : Progress) (op : Op) (a : Args) (n : ℕ) → Passed z s r p op a n → p .size % z ≡ 0 → newSize (p .size) op a % z ≡ 0
 unfolding newSize badSpans
 size-whole z s p Read a n q w = w
 size-whole z s p ReadSector a n q w = w

@@ -12,19 +12,27 @@ use Rattle.area.specs.Pick.{pick}
 use Rattle.area.specs.Area.{part, put, tab}
 use Rattle.area.proofs.Laws.Pick.{by, picks, skips}
 use Rattle.area.proofs.Laws.Puts.{length-put, part-put, part-before, part-behind}
-use Rattle.tree.specs.Tree.{root}
+use Rattle.tree.specs.Tree.{join}
 use Rattle.sia.specs.Encode.{joined}
 use Rattle.host.specs.Lists.{each}
 use Rattle.host.specs.Empty.{none}
-use Rattle.rules.specs.View.{whole}
 use Rattle.rules.specs.Roots.{contractRoot}
 use Rattle.rules.specs.Commit.{copiedBack}
 use Rattle.rules.specs.declared.Spot.{Spot}
 
 -- ---- slots
 
+-- bytes within slot k leave slot m
+pub other-span : (z : ℕ) (a : List ℕ) (k m off : ℕ) (bs : List ℕ) → off + length bs ≤ z → (k ≡ m → ⊥) → part (put a (k * z + off) bs) (m * z) z ≡ part a (m * z) z
+other-span z a k m off bs few ne =
+    by (ltb m k)
+    (λ e. let le = mul-le-mul-right {m = suc m} {n = k} z (ltb-true m k e) in part-before a (k * z + off) bs (m * z) z (omega (arith, suc-mul m z)))
+    (λ e. by (ltb k m)
+    (λ d. let le = mul-le-mul-right {m = suc k} {n = m} z (ltb-true k m d) in part-behind a (k * z + off) bs (m * z) z (omega (arith, suc-mul k z)))
+    (λ d. absurd (ne (omega (arith, ltb-false m k e, ltb-false k m d)))))
+
 -- n bytes or fewer in slot k leave slot m
-other-slot : (z : ℕ) (a : List ℕ) (k m : ℕ) (bs : List ℕ) → length bs ≤ z → (k ≡ m → ⊥) → part (put a (k * z) bs) (m * z) z ≡ part a (m * z) z
+pub other-slot : (z : ℕ) (a : List ℕ) (k m : ℕ) (bs : List ℕ) → length bs ≤ z → (k ≡ m → ⊥) → part (put a (k * z) bs) (m * z) z ≡ part a (m * z) z
 other-slot z a k m bs few ne =
     by (ltb m k)
     (λ e. let le = mul-le-mul-right {m = suc m} {n = k} z (ltb-true m k e) in part-before a (k * z) bs (m * z) z (omega (arith, suc-mul m z)))
@@ -32,7 +40,7 @@ other-slot z a k m bs few ne =
     (λ d. let le = mul-le-mul-right {m = suc k} {n = m} z (ltb-true k m d) in part-behind a (k * z) bs (m * z) z (omega (arith, suc-mul k z)))
     (λ d. absurd (ne (omega (arith, ltb-false m k e, ltb-false k m d)))))
 
-few-part : (a : List ℕ) (at n : ℕ) → length (part a at n) ≤ n
+pub few-part : (a : List ℕ) (at n : ℕ) → length (part a at n) ≤ n
 unfolding part
 few-part a at n = omega (arith, length-take n (drop at a))
 
@@ -116,10 +124,9 @@ joined-tab f g d (x ∷ xs) i zero k e h = absurd (omega arith)
 joined-tab f g d (x ∷ xs) i (suc n) k e h =
     ap₂ _++_ (h 0 i (omega arith) (omega arith)) (joined-tab f g d xs (suc i) n k (omega arith) (λ j m lt q. h (suc j) m (omega arith) (omega arith)))
 
-pub roots-alike : (z : ℕ) (disk stage other area : List ℕ) (l m : List Spot) → length l ≡ length m → whole z disk stage l ≡ whole z other area m
-    → contractRoot z disk stage l ≡ contractRoot z other area m
+pub roots-alike : (f g : Spot → List ℕ) (l m : List Spot) → length l ≡ length m → joined f l ≡ joined g m → contractRoot f l ≡ contractRoot g m
 unfolding contractRoot
-roots-alike z disk stage other area [] [] n e = refl
-roots-alike z disk stage other area [] (y ∷ ys) n e = absurd (omega arith)
-roots-alike z disk stage other area (x ∷ xs) [] n e = absurd (omega arith)
-roots-alike z disk stage other area (x ∷ xs) (y ∷ ys) n e = ap root e
+roots-alike f g [] [] n e = refl
+roots-alike f g [] (y ∷ ys) n e = absurd (omega arith)
+roots-alike f g (x ∷ xs) [] n e = absurd (omega arith)
+roots-alike f g (x ∷ xs) (y ∷ ys) n e = ap join e

@@ -28,6 +28,8 @@ use Rattle.sia.specs.declared.Instruction.{Instruction}
 use Rattle.host.specs.declared.Place.{Place}
 use Rattle.host.specs.declared.Terms.{Terms}
 use Rattle.host.specs.declared.Progress.{Progress}
+use Rattle.rules.specs.declared.Spot.{Spot}
+use Rattle.rules.specs.Roots.{rootAt}
 
 -- ---- progress
 
@@ -86,7 +88,7 @@ failed-good z s p e g =
       entries = g .entries;
     }
 
-pub ran-good : (z : ℕ) (s : Setting) (p : Progress) (op : Op) (a : Args) (n : ℕ) (bytes : List ℕ) → Lent z s → p .failed ≡ false → p .ran < s .terms .head .count → Passed z s p op a n → Good z s p
+pub ran-good : (z : ℕ) (s : Setting) (p : Progress) (op : Op) (a : Args) (n : ℕ) (bytes : List ℕ) {r : Spot → List ℕ} → Lent z s → p .failed ≡ false → p .ran < s .terms .head .count → Passed z s r p op a n → Good z s p
     → Good z s (ranProgress p (cost (s .terms .head .length) (s .terms .prices) op (a .len)) n (newSize (p .size) op a) (effect z (groundOf s) (p .size) op a (record { staged = p .staged; bytes = bytes }) .staged))
 unfolding ranProgress
 ran-good z s p op a n bytes L e lt q g =
@@ -115,10 +117,10 @@ ran-good z s p op a n bytes L e lt q g =
 pub stepped-good : (z : ℕ) (s : Setting) (i : Instruction) (l : List (List ℕ)) (t : Turn) → Lent z s → going (s .terms) (t .progress) ≡ true → Good z s (t .progress) → Good z s (stepped z s i l t .progress)
 unfolding stepped succeeding failing
 stepped-good z s i l t L h g =
-    by (eqb (judged z s (t .progress) i l) 0)
-    (λ e. subst (λ (x : Turn). Good z s (x .progress)) (sym (picks (eqb (judged z s (t .progress) i l) 0) _ _ e))
-    (ran-good z s (t .progress) (opOf (i .name)) (argsOf (opOf (i .name)) l) _ (t .stage) L (not-failed s t h) (left-going s t h .1) (passed z s (t .progress) i l (eqb-true _ _ e)) g))
-    (λ e. subst (λ (x : Turn). Good z s (x .progress)) (sym (skips (eqb (judged z s (t .progress) i l) 0) _ _ e)) (failed-good z s (t .progress) (not-failed s t h) g))
+    by (eqb (judged z s (rootAt z s t) (t .progress) i l) 0)
+    (λ e. subst (λ (x : Turn). Good z s (x .progress)) (sym (picks (eqb (judged z s (rootAt z s t) (t .progress) i l) 0) _ _ e))
+    (ran-good z s (t .progress) (opOf (i .name)) (argsOf (opOf (i .name)) l) _ (t .stage) L (not-failed s t h) (left-going s t h .1) (passed z s (rootAt z s t) (t .progress) i l (eqb-true _ _ e)) g))
+    (λ e. subst (λ (x : Turn). Good z s (x .progress)) (sym (skips (eqb (judged z s (rootAt z s t) (t .progress) i l) 0) _ _ e)) (failed-good z s (t .progress) (not-failed s t h) g))
 
 pub runs-good : (z : ℕ) (s : Setting) (a : List ℕ) (k n : ℕ) (t : Turn) → Lent z s → Good z s (t .progress) → Good z s (runs z s a k n t .progress)
 unfolding runs step

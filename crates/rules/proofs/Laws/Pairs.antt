@@ -12,11 +12,12 @@ use Rattle.area.specs.Area.{tab}
 use Rattle.host.specs.Lists.{each}
 use Rattle.host.specs.Places.{whose, committed}
 use Rattle.rules.specs.View.{Setting, parent, spotOf, parentSpots, committedSpots}
-use Rattle.rules.specs.Roots.{contractRoot}
+use Rattle.rules.specs.Roots.{rootOnDisk, contractRoot}
 use Rattle.rules.specs.Record.{pairing, samePair, pairOf, startingPair, runningPair}
 use Rattle.rules.specs.Calls.{noPair}
 use Rattle.rules.proofs.Laws.Spots.{whose-nobody}
 use Rattle.host.specs.declared.Progress.{Progress}
+use Rattle.rules.specs.declared.Spot.{Spot}
 use Rattle.rules.specs.declared.Spot.the-variants.{OnDisk}
 use Rattle.rules.specs.declared.Pair.{Pair}
 
@@ -41,10 +42,10 @@ unfolding startingPair pairOf parent committedSpots committed each contractRoot 
 none-starts z s e =
     let p = whose (s .terms .head .contract) (s .places) in
     ap₂ pairing (whose-nobody _ (s .places) e)
-    (ap (λ (l : List ℕ). contractRoot z (s .disk) [] (each OnDisk l)) (skips (p .held) (take (p .size / z) (p .slots)) [] e))
+    (ap (λ (l : List ℕ). contractRoot (rootOnDisk z s) (each OnDisk l)) (skips (p .held) (take (p .size / z) (p .slots)) [] e))
 
-pub none-runs : (z : ℕ) (s : Setting) (p : Progress) (stage : List ℕ) → p .size ≡ 0 → runningPair z s p stage ≡ noPair
+pub none-runs : (z : ℕ) (s : Setting) (f : Spot → List ℕ) (p : Progress) → p .size ≡ 0 → runningPair z s f p ≡ noPair
 unfolding runningPair parentSpots tab contractRoot noPair
-none-runs z s p stage e =
+none-runs z s f p e =
     let none = ap (λ (n : ℕ). n / z) e ∙ zero-div z in
-    ap₂ pairing e (ap (λ (n : ℕ). contractRoot z (s .disk) stage (tab 0 n (spotOf (parent s .slots) (p .staged)))) none)
+    ap₂ pairing e (ap (λ (n : ℕ). contractRoot f (tab 0 n (spotOf (parent s .slots) (p .staged)))) none)

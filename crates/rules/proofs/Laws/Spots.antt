@@ -20,7 +20,7 @@ use Rattle.host.specs.Places.{hasId, whose, committed, taken}
 use Rattle.host.specs.Order.{placeInOrder, slotInOrder}
 use Rattle.host.specs.Facts.{Staged}
 use Rattle.rules.specs.View.{Setting, parent, spotOf, parentSpots, committedSpots, allSpots}
-use Rattle.rules.specs.Roots.{sectorRoot, firstRoot}
+use Rattle.rules.specs.Roots.{firstRoot}
 use Rattle.rules.specs.Plan.{Source, missing, seen, spots, unlessNone, contractSource, sectorSource, sourceOf}
 use Rattle.rules.specs.Facts.{Solid, startOf, valid}
 use Rattle.rules.proofs.Laws.Staged.{slot-none}
@@ -61,17 +61,17 @@ unfolding every
 every-aft p [] m h = h
 every-aft p (x ∷ xs) m h = every-aft p xs m (both-right _ _ h)
 
-every-tab : {A : Type 0} (p : A → Bool) (f : ℕ → A) (i n : ℕ) → ((j : ℕ) → i ≤ j → j < i + n → p (f j) ≡ true) → every p (tab i n f) ≡ true
+pub every-tab : {A : Type 0} (p : A → Bool) (f : ℕ → A) (i n : ℕ) → ((j : ℕ) → i ≤ j → j < i + n → p (f j) ≡ true) → every p (tab i n f) ≡ true
 unfolding every tab
 every-tab p f i zero g = refl
 every-tab p f i (suc n) g = both-join _ _ (g i (omega arith) (omega arith)) (every-tab p f (suc i) n (λ j lo hi. g j (omega arith) (omega arith)))
 
-every-pick : {A : Type 0} (p : A → Bool) (b : Bool) (l m : List A) → every p l ≡ true → every p m ≡ true → every p (pick b l m) ≡ true
+pub every-pick : {A : Type 0} (p : A → Bool) (b : Bool) (l m : List A) → every p l ≡ true → every p m ≡ true → every p (pick b l m) ≡ true
 unfolding pick
 every-pick p true l m u v = u
 every-pick p false l m u v = v
 
-disk-valid : (s : Setting) (l : List ℕ) → every (λ n. ltb n (s .sectors)) l ≡ true → every (valid s) (each OnDisk l) ≡ true
+pub disk-valid : (s : Setting) (l : List ℕ) → every (λ n. ltb n (s .sectors)) l ≡ true → every (valid s) (each OnDisk l) ≡ true
 unfolding every each valid
 disk-valid s [] h = refl
 disk-valid s (x ∷ xs) h = both-join _ _ (both-left _ _ h) (disk-valid s xs (both-right _ _ h))
@@ -105,22 +105,34 @@ committed-held : (z : ℕ) (p : Place) → p .held ≡ true → committed z p �
 unfolding committed
 committed-held z p e = picks (p .held) _ [] e
 
-root-valid : (z : ℕ) (s : Setting) (key : List ℕ) (l : List Spot) → every (valid s) l ≡ true → every (valid s) (firstRoot z (s .disk) key l) ≡ true
-unfolding firstRoot every
-root-valid z s key [] h = refl
-root-valid z s key (x ∷ xs) h =
-    every-pick (valid s) _ (x ∷ []) (firstRoot z (s .disk) key xs) (both-join _ _ (both-left _ _ h) refl) (root-valid z s key xs (both-right _ _ h))
+-- ---- what holds of all committed sectors holds of the one that is found
 
-empty-valid : (s : Setting) (l : List Spot) → every (valid s) l ≡ true → every (valid s) (spots (unlessNone l)) ≡ true
+pub disk-every : (P : Spot → Bool) (l : List ℕ) → every (λ n. P (OnDisk n)) l ≡ true → every P (each OnDisk l) ≡ true
+unfolding every each
+disk-every P [] h = refl
+disk-every P (x ∷ xs) h = both-join _ _ (both-left _ _ h) (disk-every P xs (both-right _ _ h))
+
+first-every : (P : Spot → Bool) (f : Spot → List ℕ) (key : List ℕ) (l : List Spot) → every P l ≡ true → every P (firstRoot f key l) ≡ true
+unfolding firstRoot every
+first-every P f key [] h = refl
+first-every P f key (x ∷ xs) h =
+    every-pick P _ (x ∷ []) (firstRoot f key xs) (both-join _ _ (both-left _ _ h) refl) (first-every P f key xs (both-right _ _ h))
+
+unless-every : (P : Spot → Bool) (l : List Spot) → every P l ≡ true → every P (spots (unlessNone l)) ≡ true
 unfolding unlessNone spots
-empty-valid s [] h = h
-empty-valid s (x ∷ xs) h = h
+unless-every P [] h = h
+unless-every P (x ∷ xs) h = h
+
+pub sector-every : (P : Spot → Bool) (z : ℕ) (s : Setting) (f : Spot → List ℕ) (key : List ℕ) → every P (allSpots z s) ≡ true
+    → every P (spots (sectorSource z s f key)) ≡ true
+unfolding sectorSource
+sector-every P z s f key h = unless-every P _ (first-every P f key (allSpots z s) h)
 
 none-valid : (s : Setting) → every (valid s) [] ≡ true
 unfolding every
 none-valid s = refl
 
-pick-spots : (b : Bool) (x y : Source) → spots (pick b x y) ≡ pick b (spots x) (spots y)
+pub pick-spots : (b : Bool) (x y : Source) → spots (pick b x y) ≡ pick b (spots x) (spots y)
 unfolding pick
 pick-spots true x y = refl
 pick-spots false x y = refl
@@ -169,15 +181,15 @@ module _ (z : ℕ) (s : Setting) (p : Progress) (solid : Solid z s) (f : Staged 
       (ap (λ (l : List Spot). every (valid s) l) (pick-spots _ (seen (parentSpots z s p)) _)
       ∙ every-pick (valid s) _ (parentSpots z s p) _ parent-valid (disk-valid s (committed z (whose id (s .places))) (whose-every _ z id (s .places) (solid .slots))))
 
-  pub source-valid : (op : Op) (key : List ℕ) → every (valid s) (spots (sourceOf z s p op key)) ≡ true
-  unfolding sourceOf sectorSource allSpots spots
-  source-valid Read key = contract-valid key
-  source-valid ReadSector key = empty-valid s _ (root-valid z s key _ (disk-valid s (taken z (s .places)) (solid .slots)))
-  source-valid Write key = none-valid s
-  source-valid Copy key = none-valid s
-  source-valid Swap key = none-valid s
-  source-valid Truncate key = none-valid s
-  source-valid Unknown key = none-valid s
+  pub source-valid : (r : Spot → List ℕ) (op : Op) (key : List ℕ) → every (valid s) (spots (sourceOf z s r p op key)) ≡ true
+  unfolding sourceOf spots allSpots
+  source-valid r Read key = contract-valid key
+  source-valid r ReadSector key = sector-every (valid s) z s r key (disk-valid s (taken z (s .places)) (solid .slots))
+  source-valid r Write key = none-valid s
+  source-valid r Copy key = none-valid s
+  source-valid r Swap key = none-valid s
+  source-valid r Truncate key = none-valid s
+  source-valid r Unknown key = none-valid s
 
 -- ---- and there are at most 64 of them
 
@@ -193,7 +205,7 @@ few-committed z p e =
     omega (arith, ap length (picks (p .held) (take (p .size / z) (p .slots)) [] h), length-take (p .size / z) (p .slots), leb-true (p .size / z) 64 q))
     (λ h. omega (arith, ap length (skips (p .held) (take (p .size / z) (p .slots)) [] h)))
 
-few-whose : (z : ℕ) (id : List ℕ) (ps : List Place) → every (placeInOrder z) ps ≡ true → length (committed z (whose id ps)) ≤ 64
+pub few-whose : (z : ℕ) (id : List ℕ) (ps : List Place) → every (placeInOrder z) ps ≡ true → length (committed z (whose id ps)) ≤ 64
 unfolding whose every
 few-whose z id [] h = few-committed z noPlace (no-place-in-order z)
 few-whose z id (p ∷ ps) h =
@@ -206,13 +218,13 @@ unfolding each
 length-each [] = refl
 length-each (x ∷ xs) = ap suc (length-each xs)
 
-few-first : (z : ℕ) (disk key : List ℕ) (l : List Spot) → length (spots (unlessNone (firstRoot z disk key l))) ≤ 1
+few-first : (f : Spot → List ℕ) (key : List ℕ) (l : List Spot) → length (spots (unlessNone (firstRoot f key l))) ≤ 1
 unfolding firstRoot unlessNone spots
-few-first z disk key [] = omega arith
-few-first z disk key (x ∷ xs) =
-    by (same (sectorRoot z disk [] x) key)
-    (λ e. rw (picks (same (sectorRoot z disk [] x) key) (x ∷ []) (firstRoot z disk key xs) e) (omega arith))
-    (λ e. rw (skips (same (sectorRoot z disk [] x) key) (x ∷ []) (firstRoot z disk key xs) e) (few-first z disk key xs))
+few-first f key [] = omega arith
+few-first f key (x ∷ xs) =
+    by (same (f x) key)
+    (λ e. rw (picks (same (f x) key) (x ∷ []) (firstRoot f key xs) e) (omega arith))
+    (λ e. rw (skips (same (f x) key) (x ∷ []) (firstRoot f key xs) e) (few-first f key xs))
 
 few-pick : (b : Bool) (l m : List Spot) → length l ≤ 64 → length m ≤ 64 → length (pick b l m) ≤ 64
 unfolding pick
@@ -229,13 +241,13 @@ few-contract z s p id h u =
     (few-pick _ _ _ (omega (arith, length-tab 0 (p .size / z) (spotOf (parent s .slots) (p .staged)), u))
     (omega (arith, length-each (committed z (whose id (s .places))), few-whose z id (s .places) h)))))
 
-pub few-spots : (z : ℕ) (s : Setting) (p : Progress) (op : Op) (key : List ℕ) → every (placeInOrder z) (s .places) ≡ true → p .size / z ≤ 64
-    → length (spots (sourceOf z s p op key)) ≤ 64
+pub few-spots : (z : ℕ) (s : Setting) (f : Spot → List ℕ) (p : Progress) (op : Op) (key : List ℕ) → every (placeInOrder z) (s .places) ≡ true → p .size / z ≤ 64
+    → length (spots (sourceOf z s f p op key)) ≤ 64
 unfolding sourceOf sectorSource spots
-few-spots z s p Read key h u = few-contract z s p key h u
-few-spots z s p ReadSector key h u = omega (arith, few-first z (s .disk) key (allSpots z s))
-few-spots z s p Write key h u = omega arith
-few-spots z s p Copy key h u = omega arith
-few-spots z s p Swap key h u = omega arith
-few-spots z s p Truncate key h u = omega arith
-few-spots z s p Unknown key h u = omega arith
+few-spots z s f p Read key h u = few-contract z s p key h u
+few-spots z s f p ReadSector key h u = omega (arith, few-first f key (allSpots z s))
+few-spots z s f p Write key h u = omega arith
+few-spots z s f p Copy key h u = omega arith
+few-spots z s f p Swap key h u = omega arith
+few-spots z s f p Truncate key h u = omega arith
+few-spots z s f p Unknown key h u = omega arith

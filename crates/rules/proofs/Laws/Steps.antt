@@ -23,6 +23,8 @@ use Rattle.sia.specs.declared.Op.{Op}
 use Rattle.sia.specs.declared.Operand.{Operand}
 use Rattle.sia.specs.declared.Instruction.{Instruction}
 use Rattle.host.specs.declared.Progress.{Progress}
+use Rattle.rules.specs.declared.Spot.{Spot}
+use Rattle.rules.specs.Roots.{rootAt}
 
 -- ---- inputs lie below the need
 
@@ -66,16 +68,16 @@ inputs-below (o ∷ os) a b k h e =
 
 -- ---- one instruction reads the input only below its need
 
-pub judged-ill : (z : ℕ) (s : Setting) (p : Progress) (i : Instruction) (l : List (List ℕ)) → illFormed i ≡ true → judged z s p i l ≡ 21
+pub judged-ill : (z : ℕ) (s : Setting) (f : Spot → List ℕ) (p : Progress) (i : Instruction) (l : List (List ℕ)) → illFormed i ≡ true → judged z s f p i l ≡ 21
 unfolding judged
-judged-ill z s p i l e = picks (illFormed i) 21 _ e
+judged-ill z s f p i l e = picks (illFormed i) 21 _ e
 
-pub judged-past : (z : ℕ) (s : Setting) (p : Progress) (i : Instruction) (l : List (List ℕ)) → illFormed i ≡ false → pastEnd (s .terms .head .length) i ≡ true → judged z s p i l ≡ 22
+pub judged-past : (z : ℕ) (s : Setting) (f : Spot → List ℕ) (p : Progress) (i : Instruction) (l : List (List ℕ)) → illFormed i ≡ false → pastEnd (s .terms .head .length) i ≡ true → judged z s f p i l ≡ 22
 unfolding judged
-judged-past z s p i l e f = skips (illFormed i) 21 _ e ∙ picks (pastEnd (s .terms .head .length) i) 22 _ f
+judged-past z s r p i l e f = skips (illFormed i) 21 _ e ∙ picks (pastEnd (s .terms .head .length) i) 22 _ f
 
 -- a failure does not look at the inputs
-pub stepped-fails : (z : ℕ) (s : Setting) (i : Instruction) (l : List (List ℕ)) (t : Turn) (n : ℕ) → judged z s (t .progress) i l ≡ suc n → stepped z s i l t ≡ failing z s (suc n) t
+pub stepped-fails : (z : ℕ) (s : Setting) (i : Instruction) (l : List (List ℕ)) (t : Turn) (n : ℕ) → judged z s (rootAt z s t) (t .progress) i l ≡ suc n → stepped z s i l t ≡ failing z s (suc n) t
 unfolding stepped
 stepped-fails z s i l t n e = rw e (skips (eqb (suc n) 0) _ _ (eqb·suc-zero n))
 
@@ -88,9 +90,9 @@ stepped-below : (z : ℕ) (s : Setting) (i : Instruction) (t : Turn) (a b : List
 unfolding inputsOf
 stepped-below z s i t a b k h e =
     by (illFormed i)
-    (λ x. stepped-fails z s i _ t 20 (judged-ill z s (t .progress) i _ x) ∙ sym (stepped-fails z s i _ t 20 (judged-ill z s (t .progress) i _ x)))
+    (λ x. stepped-fails z s i _ t 20 (judged-ill z s (rootAt z s t) (t .progress) i _ x) ∙ sym (stepped-fails z s i _ t 20 (judged-ill z s (rootAt z s t) (t .progress) i _ x)))
     (λ x. by (pastEnd (s .terms .head .length) i)
-    (λ y. stepped-fails z s i _ t 21 (judged-past z s (t .progress) i _ x y) ∙ sym (stepped-fails z s i _ t 21 (judged-past z s (t .progress) i _ x y)))
+    (λ y. stepped-fails z s i _ t 21 (judged-past z s (rootAt z s t) (t .progress) i _ x y) ∙ sym (stepped-fails z s i _ t 21 (judged-past z s (rootAt z s t) (t .progress) i _ x y)))
     (λ y. ap (λ (l : List (List ℕ)). stepped z s i l t) (inputs-below (operandsIn i) a b k (subst (λ (n : ℕ). n ≤ k) (need-sound (s .terms .head .length) i x y) h) e)))
 
 pub ready-need : (s : Setting) (k : ℕ) (t : Turn) → ready s k t ≡ true → need (s .terms .head .length) (current s t) ≤ k
@@ -155,12 +157,12 @@ pub stepped-left : (z : ℕ) (s : Setting) (i : Instruction) (l : List (List ℕ
 unfolding stepped
 stepped-left z s i l t g =
     let q = left-going s t g in
-    by (eqb (judged z s (t .progress) i l) 0)
-    (λ e. rw (picks (eqb (judged z s (t .progress) i l) 0) (succeeding z s (i .proof) (opOf (i .name)) (argsOf (opOf (i .name)) l) t) (failing z s (judged z s (t .progress) i l) t) e) (succeeds q))
-    (λ e. rw (skips (eqb (judged z s (t .progress) i l) 0) (succeeding z s (i .proof) (opOf (i .name)) (argsOf (opOf (i .name)) l) t) (failing z s (judged z s (t .progress) i l) t) e) (fails q))
+    by (eqb (judged z s (rootAt z s t) (t .progress) i l) 0)
+    (λ e. rw (picks (eqb (judged z s (rootAt z s t) (t .progress) i l) 0) (succeeding z s (i .proof) (opOf (i .name)) (argsOf (opOf (i .name)) l) t) (failing z s (judged z s (rootAt z s t) (t .progress) i l) t) e) (succeeds q))
+    (λ e. rw (skips (eqb (judged z s (rootAt z s t) (t .progress) i l) 0) (succeeding z s (i .proof) (opOf (i .name)) (argsOf (opOf (i .name)) l) t) (failing z s (judged z s (rootAt z s t) (t .progress) i l) t) e) (fails q))
   where
-    fails : (left s t ≡ s .terms .head .count - t .progress .ran) × (t .progress .ran < s .terms .head .count) → left s (failing z s (judged z s (t .progress) i l) t) < left s t
-    fails q = let e : left s (failing z s (judged z s (t .progress) i l) t) ≡ 0 = left-failing z s (judged z s (t .progress) i l) t in omega arith
+    fails : (left s t ≡ s .terms .head .count - t .progress .ran) × (t .progress .ran < s .terms .head .count) → left s (failing z s (judged z s (rootAt z s t) (t .progress) i l) t) < left s t
+    fails q = let e : left s (failing z s (judged z s (rootAt z s t) (t .progress) i l) t) ≡ 0 = left-failing z s (judged z s (rootAt z s t) (t .progress) i l) t in omega arith
 
     succeeds : (left s t ≡ s .terms .head .count - t .progress .ran) × (t .progress .ran < s .terms .head .count) → left s (succeeding z s (i .proof) (opOf (i .name)) (argsOf (opOf (i .name)) l) t) < left s t
     succeeds q = let e : left s (succeeding z s (i .proof) (opOf (i .name)) (argsOf (opOf (i .name)) l) t) ≡ s .terms .head .count - (t .progress .ran + 1) = left-succeeding z s (i .proof) (opOf (i .name)) (argsOf (opOf (i .name)) l) t (not-failed s t g) in omega arith

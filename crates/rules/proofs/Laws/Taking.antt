@@ -11,12 +11,12 @@ use Rattle.area.specs.Pick.{pick, both}
 use Rattle.area.specs.Area.{put}
 use Rattle.area.proofs.Laws.Pick.{skips, both-left, both-right, both-join}
 use Rattle.area.proofs.Laws.Puts.{length-put}
-use Rattle.host.specs.With.{withProgram, withCame, withProgress}
+use Rattle.host.specs.With.{withProgram, withCame, withProgress, withStageRoots}
 use Rattle.host.specs.Order.{programInOrder, inOrder}
 use Rattle.host.proofs.Laws.Order.{order-facts}
-use Rattle.rules.specs.View.{settingOf, turnOf, withRun, diskRight, areasRight}
+use Rattle.rules.specs.View.{settingBy, settingOf, turnOf, withRun, diskRight, areasRight}
 use Rattle.rules.specs.Run.{run}
-use Rattle.rules.specs.Calls.{Pieced, accepted, inputRight, outputRight, piece}
+use Rattle.rules.specs.Calls.{Pieced, accepted, inputRight, outputRight, piece, acceptedBy, pieceBy}
 use Rattle.rules.specs.Trace.{together, AllAccepted}
 use Rattle.rules.specs.Facts.{Good, Lent, Solid}
 use Rattle.rules.proofs.Laws.Areas.{or-right, either-second, runs-alike}
@@ -26,7 +26,7 @@ use Rattle.host.specs.declared.Host.{Host}
 
 -- ---- a host that takes pieces
 
--- a host in order with a program open, and areas as stated; its staged positions are an array of 64
+-- a host in order with a program open, and areas as stated; its arrays are as declared
 pub record Taking (disk : List ℕ) (w : Pieced) : Type 0 where
   pub order : inOrder (w .host) ≡ true
   pub areas : areasRight (w .host) disk (w .stage) ≡ true
@@ -34,15 +34,17 @@ pub record Taking (disk : List ℕ) (w : Pieced) : Type 0 where
   pub input : length (w .input) ≡ w .host .program .terms .head .length
   pub output : length (w .output) ≡ w .host .program .terms .room
   pub entries : length (w .host .program .progress .staged) ≡ 64
+  pub diskRoots : length (w .host .diskroots) ≡ 2048
+  pub stageRoots : length (w .host .stageroots) ≡ 512
 
 -- the parts of `inOrder`
 pub order-lent : (h : Host) (disk : List ℕ) → inOrder h ≡ true → Lent (h .sector) (settingOf h disk)
-unfolding settingOf
+unfolding settingBy
 order-lent h disk e = let o = order-facts h e in record { size = o .size; few = o .stageMost; most = o .diskMost }
 
 -- a host in order whose areas are right
 pub order-solid : (h : Host) (disk stage : List ℕ) → inOrder h ≡ true → areasRight h disk stage ≡ true → Solid (h .sector) (settingOf h disk)
-unfolding areasRight diskRight settingOf
+unfolding areasRight diskRight settingBy
 order-solid h disk stage e areas =
     let o = order-facts h e in
     record {
@@ -62,14 +64,14 @@ unfolding inOrder
 order-program h e live = either-second (h .program .active) _ (both-right _ _ (both-right _ _ (both-right _ _ (both-right _ _ e)))) live
 
 pub order-good : (h : Host) (disk : List ℕ) → inOrder h ≡ true → h .program .active ≡ true → length (h .program .progress .staged) ≡ 64 → Good (h .sector) (settingOf h disk) (h .program .progress)
-unfolding settingOf programInOrder
+unfolding settingBy programInOrder
 order-good h disk e live len =
     let q = order-program h e live in
     record { orderly = progress-facts (h .sector) (settingOf h disk) (h .program .progress) (both-right _ _ (both-right _ _ q)); terms = both-left _ _ q; entries = len }
 
-pub good-order : (h : Host) (disk : List ℕ) (k : ℕ) (p : Progress) → inOrder h ≡ true → k ≤ h .program .terms .head .length → Good (h .sector) (settingOf h disk) p → inOrder (withRun h k p) ≡ true
-unfolding inOrder withRun withProgram withProgress withCame programInOrder settingOf
-good-order h disk k p e le g =
+pub good-order : (h : Host) (disk : List ℕ) (k : ℕ) (p : Progress) (roots : List ℕ) → inOrder h ≡ true → k ≤ h .program .terms .head .length → Good (h .sector) (settingOf h disk) p → inOrder (withRun h k p roots) ≡ true
+unfolding inOrder withRun withStageRoots withProgram withProgress withCame programInOrder settingBy
+good-order h disk k p roots e le g =
     let b = both-right _ _ e in
     let c = both-right _ _ b in
     both-join _ _ (both-left _ _ e) (both-join _ _ (both-left _ _ b) (both-join _ _ (both-left _ _ c) (both-join _ _ (both-left _ _ (both-right _ _ c))
@@ -83,14 +85,14 @@ unfolding pick
 both-no true b e = e
 both-no false b e = refl
 
-areas-again : (h : Host) (disk stage new : List ℕ) (k : ℕ) (p : Progress) → length new ≡ length stage → areasRight h disk stage ≡ true → areasRight (withRun h k p) disk new ≡ true
-unfolding areasRight diskRight withRun withProgram withProgress withCame
-areas-again h disk stage new k p e a = both-join _ _ (both-left _ _ a) (ap (λ (n : ℕ). eqb n (h .stage * h .sector)) e ∙ both-right _ _ a)
+areas-again : (h : Host) (disk stage new : List ℕ) (k : ℕ) (p : Progress) (roots : List ℕ) → length new ≡ length stage → areasRight h disk stage ≡ true → areasRight (withRun h k p roots) disk new ≡ true
+unfolding areasRight diskRight withRun withStageRoots withProgram withProgress withCame
+areas-again h disk stage new k p roots e a = both-join _ _ (both-left _ _ a) (ap (λ (n : ℕ). eqb n (h .stage * h .sector)) e ∙ both-right _ _ a)
 
 module _ (disk : List ℕ) (w : Pieced) (t : Taking disk w) (b : List ℕ) (fit : w .host .program .came + length b ≤ w .host .program .terms .head .length) where
   -- it is accepted
   pub takes : piece disk (w .host) (w .stage) (w .input) (w .output) b ≡ accepted disk (w .host) (w .stage) (w .input) (w .output) b
-  unfolding piece inputRight outputRight
+  unfolding pieceBy inputRight outputRight
   takes =
       let h = w .host in
       let input : both (eqb (length (w .input)) (h .program .terms .head .length)) (eqb (length (w .output)) (h .program .terms .room)) ≡ true = both-join _ _ (eq-eqb _ _ (t .input)) (eq-eqb _ _ (t .output)) in
@@ -102,7 +104,7 @@ module _ (disk : List ℕ) (w : Pieced) (t : Taking disk w) (b : List ℕ) (fit 
 
   -- and leaves a host that takes pieces
   pub stays : Taking disk (accepted disk (w .host) (w .stage) (w .input) (w .output) b)
-  unfolding accepted run withRun withProgram withProgress withCame turnOf
+  unfolding acceptedBy run withRun withStageRoots withProgram withProgress withCame turnOf
   stays =
       let h = w .host in
       let s = settingOf h disk in
@@ -110,24 +112,26 @@ module _ (disk : List ℕ) (w : Pieced) (t : Taking disk w) (b : List ℕ) (fit 
       let g = runs-good (w .host .sector) s (put (w .input) (h .program .came) b) (h .program .came + length b) (s .terms .head .count) (turnOf h (w .stage) (w .output)) L (order-good h disk (t .order) (t .live) (t .entries)) in
       let a = runs-alike (w .host .sector) s (put (w .input) (h .program .came) b) (h .program .came + length b) (s .terms .head .count) (turnOf h (w .stage) (w .output)) in
       record {
-        order = good-order h disk (h .program .came + length b) _ (t .order) fit g;
-        areas = areas-again (w .host) disk (w .stage) _ _ _ (a .stage) (t .areas);
+        order = good-order h disk (h .program .came + length b) _ _ (t .order) fit g;
+        areas = areas-again (w .host) disk (w .stage) _ _ _ _ (a .stage) (t .areas);
         live = t .live;
         input = length-put (w .input) _ b ∙ t .input;
         output = a .output ∙ t .output;
         entries = g .entries;
+        diskRoots = t .diskRoots;
+        stageRoots = a .roots ∙ t .stageRoots;
       }
 
 came-accepted : (disk : List ℕ) (w : Pieced) (b : List ℕ) → accepted disk (w .host) (w .stage) (w .input) (w .output) b .host .program .came ≡ w .host .program .came + length b
-unfolding accepted withRun withProgram withProgress withCame
+unfolding acceptedBy withRun withStageRoots withProgram withProgress withCame
 came-accepted disk w b = refl
 
 length-accepted : (disk : List ℕ) (w : Pieced) (b : List ℕ) → accepted disk (w .host) (w .stage) (w .input) (w .output) b .host .program .terms .head .length ≡ w .host .program .terms .head .length
-unfolding accepted withRun withProgram withProgress withCame
+unfolding acceptedBy withRun withStageRoots withProgram withProgress withCame
 length-accepted disk w b = refl
 
 answer-accepted : (disk : List ℕ) (w : Pieced) (b : List ℕ) → accepted disk (w .host) (w .stage) (w .input) (w .output) b .number ≡ 0
-unfolding accepted
+unfolding acceptedBy
 answer-accepted disk w b = refl
 
 -- pieces that together stay within the declared length are all accepted

@@ -23,10 +23,11 @@ use Rattle.rules.specs.Trace.{recordOf, recorded, trail, ripe}
 use Rattle.rules.proofs.Laws.Steps.{runs-go, runs-stop, ready-going, left, left-most, not-failed, step-left, none-left, ready-more}
 use Rattle.sia.specs.declared.Operand.{Operand}
 use Rattle.sia.specs.declared.Instruction.{Instruction}
+use Rattle.rules.specs.Roots.{rootAt}
 
 pub stepped-output : (z : ℕ) (s : Setting) (i : Instruction) (l : List (List ℕ)) (t : Turn) → stepped z s i l t .output ≡ put (t .output) (t .progress .written) (recordOf z s i l t)
 unfolding stepped recordOf succeeding failing pick
-stepped-output z s i l t = under (eqb (judged z s (t .progress) i l) 0) _ _ _ _ refl refl
+stepped-output z s i l t = under (eqb (judged z s (rootAt z s t) (t .progress) i l) 0) _ _ _ _ refl refl
   where
     under : (b : Bool) (x y : Turn) (u v : List ℕ) → x .output ≡ put (t .output) (t .progress .written) u → y .output ≡ put (t .output) (t .progress .written) v
         → pick b x y .output ≡ put (t .output) (t .progress .written) (pick b u v)
@@ -111,10 +112,10 @@ need-within d i =
 
 stepped-next : (z : ℕ) (s : Setting) (i : Instruction) (l : List (List ℕ)) (t : Turn) → (stepped z s i l t .progress .ran ≡ t .progress .ran + 1) ⊎ (stepped z s i l t .progress .failed ≡ true)
 unfolding stepped succeeding failing ranProgress failedProgress pick
-stepped-next z s i l t = under (eqb (judged z s (t .progress) i l) 0)
+stepped-next z s i l t = under (eqb (judged z s (rootAt z s t) (t .progress) i l) 0)
   where
-    under : (b : Bool) → (pick b (succeeding z s (i .proof) (opOf (i .name)) (argsOf (opOf (i .name)) l) t) (failing z s (judged z s (t .progress) i l) t) .progress .ran ≡ t .progress .ran + 1)
-        ⊎ (pick b (succeeding z s (i .proof) (opOf (i .name)) (argsOf (opOf (i .name)) l) t) (failing z s (judged z s (t .progress) i l) t) .progress .failed ≡ true)
+    under : (b : Bool) → (pick b (succeeding z s (i .proof) (opOf (i .name)) (argsOf (opOf (i .name)) l) t) (failing z s (judged z s (rootAt z s t) (t .progress) i l) t) .progress .ran ≡ t .progress .ran + 1)
+        ⊎ (pick b (succeeding z s (i .proof) (opOf (i .name)) (argsOf (opOf (i .name)) l) t) (failing z s (judged z s (rootAt z s t) (t .progress) i l) t) .progress .failed ≡ true)
     under true = inl refl
     under false = inr refl
 

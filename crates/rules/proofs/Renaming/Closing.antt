@@ -11,14 +11,15 @@ use borrow.Author.Tests.{not-false}
 use Rattle.area.specs.Pick.{pick, either}
 use Rattle.area.proofs.Laws.Pick.{by}
 use Rattle.host.specs.Empty.{noProgram}
-use Rattle.host.specs.With.{withPlaces, withProgram, withSize, withSlots}
+use Rattle.host.specs.With.{withPlaces, withProgram, withDiskRoots, withSize, withSlots}
 use Rattle.host.specs.Places.{whose, committed, taken}
 use Rattle.host.specs.Order.{parentInOrder, inOrder}
 use Rattle.host.proofs.Laws.Order.{order-facts}
 use Rattle.host.specs.Calls.{replaced}
-use Rattle.rules.specs.View.{settingOf, parent}
+use Rattle.rules.specs.View.{settingOf, parent, settingBy}
+use Rattle.rules.specs.Roots.{rootOf}
 use Rattle.rules.specs.Record.{samePair, startingPair, runningPair}
-use Rattle.rules.specs.Commit.{Closed, closed, givenUp, cut, newSlots, finalSlots, copiedBack, finalPlace, commit, agreed, unfinished, close}
+use Rattle.rules.specs.Commit.{Closed, closed, givenUp, cut, newSlots, finalSlots, copiedBack, finalPlace, commit, agreed, unfinished, close, closeBy, agreedBy}
 use Rattle.host.specs.Renaming.{Renaming, placeAs, hostAs}
 use Rattle.host.proofs.Renaming.Places.{allAs, id-as, taken-as, replaced-as, in-order-as}
 use Rattle.rules.proofs.Laws.Sizes.{nothing-reached}
@@ -26,10 +27,15 @@ use Rattle.rules.proofs.Renaming.Sight.{starting-as, running-as}
 use Rattle.host.specs.declared.Place.{Place}
 use Rattle.host.specs.declared.Terms.{Terms}
 use Rattle.host.specs.declared.Host.{Host}
+use Rattle.rules.specs.declared.Spot.{Spot}
 use Rattle.rules.specs.declared.Pair.{Pair}
 use Rattle.host.proofs.Laws.Ways.{down}
 use Rattle.host.proofs.Renaming.Contracts.{active-as, whose-places}
 use Rattle.rules.proofs.Renaming.Programs.{terms-of, setting-as, going-as, areas-as}
+
+-- the roots that a host with these areas is read with
+abbrev rootsOf : Host → List ℕ → List ℕ → Spot → List ℕ
+rootsOf h disk stage = rootOf (h .sector) (settingOf h disk) stage (h .stageroots)
 
 -- ---- commits
 
@@ -50,10 +56,10 @@ module _ (r : List ℕ → List ℕ) (new : Renaming r) where
       ap (startingPair (h .sector)) (setting-as r new h disk e) ∙ starting-as r new (h .sector) (settingOf h disk)
 
   pair-as : (disk : List ℕ) (h : Host) (stage : List ℕ) → h .program .active ≡ true
-      → runningPair (hostAs r h .sector) (settingOf (hostAs r h) disk) (hostAs r h .program .progress) stage
-      ≡ runningPair (h .sector) (settingOf h disk) (h .program .progress) stage
-  unfolding hostAs
-  pair-as disk h stage e = rw (setting-as r new h disk e, running-as r new (h .sector) (settingOf h disk) (h .program .progress) stage)
+      → runningPair (hostAs r h .sector) (settingOf (hostAs r h) disk) (rootsOf (hostAs r h) disk stage) (hostAs r h .program .progress)
+      ≡ runningPair (h .sector) (settingOf h disk) (rootsOf h disk stage) (h .program .progress)
+  unfolding hostAs rootOf
+  pair-as disk h stage e = rw (setting-as r new h disk e, running-as r new (h .sector) (settingOf h disk) (rootsOf h disk stage) (h .program .progress))
 
   ended-same : (h : Host) → unfinished (hostAs r h .program) ≡ unfinished (h .program)
   unfolding unfinished hostAs
@@ -94,13 +100,14 @@ module _ (r : List ℕ → List ℕ) (new : Renaming r) where
   body z disk h stage c old =
       let p = h .program .progress in
       let slots = finalSlots z (h .disk) (h .places) old (p .size) in
+      let roots = copiedBack 32 (h .stageroots) (p .staged) slots 0 (p .size / z) (h .diskroots) in
       closed 0 (p .tally) (pos (p .size) -ℤ pos (old .size))
-      (withProgram (withPlaces h (replaced c (finalPlace old (p .size) slots) (h .places))) noProgram)
+      (withDiskRoots (withProgram (withPlaces h (replaced c (finalPlace old (p .size) slots) (h .places))) noProgram) roots)
       (copiedBack z stage (p .staged) slots 0 (p .size / z) disk)
 
   body-as : (disk : List ℕ) (h : Host) (stage c : List ℕ) → parentInOrder (h .places) c (h .program .progress .size) ≡ true
       → body (hostAs r h .sector) disk (hostAs r h) stage (r c) (placeAs r (whose c (h .places))) ≡ closedAs (body (h .sector) disk h stage c (whose c (h .places)))
-  unfolding closedAs hostAs withProgram withPlaces noProgram pick finalPlace withSize withSlots
+  unfolding closedAs hostAs withProgram withPlaces withDiskRoots noProgram pick finalPlace withSize withSlots
   body-as disk h stage c e =
       let size = h .program .progress .size in
       let old = whose c (h .places) in
@@ -109,7 +116,7 @@ module _ (r : List ℕ → List ℕ) (new : Renaming r) where
 
   commit-as : (disk : List ℕ) (h : Host) (stage : List ℕ) → h .program .active ≡ true → inOrder h ≡ true
       → commit disk (hostAs r h) stage ≡ closedAs (commit disk h stage)
-  unfolding commit parent settingOf
+  unfolding commit parent settingBy
   commit-as disk h stage live o =
       let c = h .program .terms .head .contract in
       ap₂ (body (hostAs r h .sector) disk (hostAs r h) stage) (ap (λ (t : Terms). t .head .contract) (terms-of r new h live))
@@ -118,7 +125,7 @@ module _ (r : List ℕ → List ℕ) (new : Renaming r) where
 
   agreed-as : (disk : List ℕ) (h : Host) (stage : List ℕ) (named : Pair) → h .program .active ≡ true → inOrder h ≡ true
       → agreed disk (hostAs r h) stage named ≡ closedAs (agreed disk h stage named)
-  unfolding agreed
+  unfolding agreedBy
   agreed-as disk h stage named live o =
       down closedAs _ _ _ _ _ _ (ap₂ samePair (pair-as disk h stage live) (start-as disk h live)) (λ _. given-up-as 0 disk h) (λ _.
       down closedAs _ _ _ _ _ _ (ap (samePair named) (pair-as disk h stage live)) (λ _. commit-as disk h stage live o)
@@ -126,7 +133,7 @@ module _ (r : List ℕ → List ℕ) (new : Renaming r) where
 
   pub close-as : (disk : List ℕ) (h : Host) (stage : List ℕ) (agree : Bool) (size : ℕ) (root : List ℕ)
       → close disk (hostAs r h) stage agree size root ≡ closedAs (close disk h stage agree size root)
-  unfolding close
+  unfolding closeBy
   close-as disk h stage agree size root =
       down closedAs _ _ _ _ _ _ (ap not (in-order-as r new h)) (λ _. closed-not 1 h disk) (λ o.
       down closedAs _ _ _ _ _ _ (ap not (areas-as r new h disk stage)) (λ _. closed-not 2 h disk) (λ _.

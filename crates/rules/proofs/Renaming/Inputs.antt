@@ -7,7 +7,7 @@ use lib.ListN.{length}
 use lib.Dec.{eqb}
 use Rattle.rules.specs.View.{Setting}
 use Rattle.rules.specs.Inputs.{nth, isKey, wellFormed, Args, readArgs, argsOf}
-use Rattle.rules.specs.Plan.{sourceOf, newSize}
+use Rattle.rules.specs.Plan.{sourceOf, touched, newSize}
 use Rattle.rules.specs.Effect.{Ground, Staging, effect}
 use Rattle.rules.specs.Record.{outputOf}
 use Rattle.host.specs.Renaming.{Renaming}
@@ -35,6 +35,16 @@ new-key size Copy a k = refl
 new-key size Swap a k = refl
 new-key size Truncate a k = refl
 new-key size Unknown a k = refl
+
+pub touched-key : (z size : ℕ) (op : Op) (a : Args) (k : List ℕ) → touched z size op (withKey a k) ≡ touched z size op a
+unfolding touched
+touched-key z size Read a k = refl
+touched-key z size ReadSector a k = refl
+touched-key z size Write a k = refl
+touched-key z size Copy a k = refl
+touched-key z size Swap a k = refl
+touched-key z size Truncate a k = refl
+touched-key z size Unknown a k = refl
 
 pub effect-key : (z : ℕ) (e : Ground) (size : ℕ) (op : Op) (a : Args) (k : List ℕ) (g : Staging)
     → effect z e size op (withKey a k) g ≡ effect z e size op a g
@@ -66,16 +76,16 @@ module _ (r : List ℕ → List ℕ) (new : Renaming r) where
   keyAs Truncate k = k
   keyAs Unknown k = k
 
-  pub source-as : (z : ℕ) (s : Setting) (p : Progress) (op : Op) (key : List ℕ)
-      → sourceOf z (settingAs r new s) p op (keyAs op key) ≡ sourceOf z s p op key
+  pub source-as : (z : ℕ) (s : Setting) (f : Spot → List ℕ) (p : Progress) (op : Op) (key : List ℕ)
+      → sourceOf z (settingAs r new s) f p op (keyAs op key) ≡ sourceOf z s f p op key
   unfolding sourceOf
-  source-as z s p Read key = contract-as r new z s p key
-  source-as z s p ReadSector key = sector-as r new z s key
-  source-as z s p Write key = refl
-  source-as z s p Copy key = refl
-  source-as z s p Swap key = refl
-  source-as z s p Truncate key = refl
-  source-as z s p Unknown key = refl
+  source-as z s f p Read key = contract-as r new z s p key
+  source-as z s f p ReadSector key = sector-as r new z s f key
+  source-as z s f p Write key = refl
+  source-as z s f p Copy key = refl
+  source-as z s f p Swap key = refl
+  source-as z s f p Truncate key = refl
+  source-as z s f p Unknown key = refl
 
   nth-as : (l : List (List ℕ)) → nth (firstAs r l) 0 ≡ r (nth l 0)
   unfolding firstAs

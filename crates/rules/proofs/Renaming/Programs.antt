@@ -10,10 +10,11 @@ use borrow.Author.Tests.{not-false}
 use Rattle.area.specs.Pick.{both}
 use Rattle.area.specs.Area.{put}
 use Rattle.area.proofs.Laws.Pick.{by, picks, skips}
-use Rattle.host.specs.With.{withProgram, withCame, withProgress}
-use Rattle.rules.specs.View.{Setting, setting, Turn, settingOf, turnOf, withRun, diskRight, areasRight}
+use Rattle.host.specs.With.{withProgram, withCame, withProgress, withStageRoots}
+use Rattle.rules.specs.View.{Setting, setting, Turn, settingOf, turnOf, withRun, diskRight, areasRight, settingBy}
+use Rattle.rules.specs.Roots.{rootOf}
 use Rattle.rules.specs.Run.{going, run}
-use Rattle.rules.specs.Calls.{Pieced, pieced, accepted, inputRight, outputRight, piece, Interrupted, interrupted, stopped, interrupt}
+use Rattle.rules.specs.Calls.{Pieced, pieced, accepted, inputRight, outputRight, piece, Interrupted, interrupted, stopped, interrupt, acceptedBy, pieceBy, interruptBy, stoppedBy, reachedBy, reachedPairBy}
 use Rattle.rules.specs.Calls.{reachedPair, reachedAt, reached}
 use Rattle.rules.specs.Visit.{Areas, gives}
 use Rattle.host.specs.Renaming.{Renaming, termsAs, hostAs}
@@ -48,8 +49,8 @@ module _ (r : List ℕ → List ℕ) (new : Renaming r) where
       (λ idle. ap f (skips (h .program .active) (termsAs r (h .program .terms)) (h .program .terms) idle))
 
   pub setting-as : (h : Host) (disk : List ℕ) → h .program .active ≡ true → settingOf (hostAs r h) disk ≡ settingAs r new (settingOf h disk)
-  unfolding settingOf hostAs
-  setting-as h disk e = ap (λ (t : Terms). setting (h .disk) (h .stage) (allAs r new (h .places)) t disk) (terms-of h e)
+  unfolding settingBy hostAs
+  setting-as h disk e = ap (λ (t : Terms). setting (h .disk) (h .stage) (allAs r new (h .places)) t disk (h .diskroots)) (terms-of h e)
 
   pub going-as : (h : Host) → going (hostAs r h .program .terms) (hostAs r h .program .progress) ≡ going (h .program .terms) (h .program .progress)
   unfolding going hostAs
@@ -66,7 +67,7 @@ module _ (r : List ℕ → List ℕ) (new : Renaming r) where
 
   stopped-as : (disk : List ℕ) (h : Host) (output : List ℕ) → h .program .active ≡ true
       → stopped disk (hostAs r h) output ≡ interruptedAs (stopped disk h output)
-  unfolding interruptedAs stopped turnOf withRun withProgram withProgress withCame hostAs
+  unfolding interruptedAs stoppedBy turnOf withRun withStageRoots withProgram withProgress withCame hostAs
   stopped-as disk h output e = rw (setting-as h disk e, failing-as r new (h .sector) (settingOf h disk) 20 (turnOf h [] output))
 
   disk-as : (h : Host) (disk : List ℕ) → diskRight (hostAs r h) disk ≡ diskRight h disk
@@ -89,7 +90,7 @@ module _ (r : List ℕ → List ℕ) (new : Renaming r) where
 
   pub interrupt-as : (disk : List ℕ) (h : Host) (output : List ℕ)
       → interrupt disk (hostAs r h) output ≡ interruptedAs (interrupt disk h output)
-  unfolding interrupt
+  unfolding interruptBy
   interrupt-as disk h output =
       down interruptedAs _ _ _ _ _ _ (ap not (in-order-as r new h)) (λ _. interrupted-not 1 h output) (λ _.
       down interruptedAs _ _ _ _ _ _ (ap not (disk-as h disk)) (λ _. interrupted-not 2 h output) (λ _.
@@ -102,12 +103,12 @@ module _ (r : List ℕ → List ℕ) (new : Renaming r) where
 
   reached-pair-as : (disk : List ℕ) (h : Host) (stage : List ℕ) → h .program .active ≡ true
       → reachedPair disk (hostAs r h) stage ≡ reachedPair disk h stage
-  unfolding reachedPair hostAs
+  unfolding reachedPairBy hostAs rootOf
   reached-pair-as disk h stage e =
-      rw (setting-as h disk e, starting-as r new (h .sector) (settingOf h disk), running-as r new (h .sector) (settingOf h disk) (h .program .progress) stage)
+      rw (setting-as h disk e, starting-as r new (h .sector) (settingOf h disk), running-as r new (h .sector) (settingOf h disk) (rootOf (h .sector) (settingOf h disk) stage (h .stageroots)) (h .program .progress))
 
   pub reached-as : (disk : List ℕ) (h : Host) (stage : List ℕ) → reached disk (hostAs r h) stage ≡ reached disk h stage
-  unfolding reached
+  unfolding reachedBy
   reached-as disk h stage =
       down still _ _ _ _ _ _ (ap not (in-order-as r new h)) (λ _. refl) (λ _.
       down still _ _ _ _ _ _ (ap not (areas-as h disk stage)) (λ _. refl) (λ _.
@@ -139,7 +140,7 @@ module _ (r : List ℕ → List ℕ) (new : Renaming r) where
       run-same : h .program .active ≡ true
           → run (h .sector) (settingOf (hostAs r h) (a .disk)) other (came + length bytes′) (turnOf (hostAs r h) (a .stage) (a .output))
           ≡ run (h .sector) (settingOf h (a .disk)) one (came + length bytes) (turnOf h (a .stage) (a .output))
-      unfolding turnOf hostAs settingOf
+      unfolding turnOf hostAs settingBy
       run-same e =
           let t = turnOf h (a .stage) (a .output) in
           ap₂ (λ (s : Setting) (n : ℕ). run (h .sector) s other (came + n) t) (setting-as h (a .disk) e) long′
@@ -157,14 +158,14 @@ module _ (r : List ℕ → List ℕ) (new : Renaming r) where
       accepted-as : h .program .active ≡ true
           → PieceAs (accepted (a .disk) (hostAs r h) (a .stage) input (a .output) bytes′)
           (accepted (a .disk) h (a .stage) (a .input) (a .output) bytes)
-      unfolding accepted withRun withProgram withProgress withCame hostAs
+      unfolding acceptedBy withRun withStageRoots withProgram withProgress withCame hostAs
       accepted-as e = record {
         is = ap₂ (λ (t : Turn) (n : ℕ).
-            pieced 0 (t .progress .tally) (withRun (hostAs r h) (came + n) (t .progress)) (t .stage) other (t .output)) (run-same e) long′;
+            pieced 0 (t .progress .tally) (withRun (hostAs r h) (came + n) (t .progress) (t .roots)) (t .stage) other (t .output)) (run-same e) long′;
       }
 
       pub piece-as : PieceAs (piece (a .disk) (hostAs r h) (a .stage) input (a .output) bytes′) (gives h a bytes)
-      unfolding piece
+      unfolding pieceBy
       piece-as =
           downs PieceAs _ _ _ _ _ _ (ap not (in-order-as r new h)) (λ _. piece-not 1) (λ _.
           downs PieceAs _ _ _ _ _ _ (ap not (areas-as h (a .disk) (a .stage))) (λ _. piece-not 2) (λ _.

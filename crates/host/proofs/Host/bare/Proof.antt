@@ -1,6 +1,7 @@
 -- `host::Host::bare` meets its contract: 8 times no contract, and no program. Assumes nothing.
 use mathlib.Core.Path.{ap₂}
 use lib.ListN.{replicate}
+use Rattle.area.specs.Area.{zeros}
 use Rattle.host.specs.declared.Place.{Place}
 use Rattle.host.specs.declared.Program.{Program}
 use Rattle.host.specs.Empty.{bare}
@@ -17,7 +18,16 @@ none-requires-2 c κs = search needs
 returns : tie.Need-returns
 unfolding bare
 returns c =
-    ap₂ (λ (none : Place) (program : Program). record { sector = c .before .before .args .sector; disk = c .before .before .args .disk; stage = c .before .before .args .stage; places = replicate 8 none; program = program })
+    let a = c .before .before .args in
+    ap₂ (λ (none : Place) (program : Program). record {
+      sector = a .sector;
+      disk = a .disk;
+      stage = a .stage;
+      places = replicate 8 none;
+      program = program;
+      diskroots = zeros 2048;
+      stageroots = zeros 512;
+    })
     (c .before .none .ensures) (c .none2 .ensures)
 
 pub bare-spec : {M : Type 1} → statement M
