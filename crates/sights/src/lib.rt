@@ -1,4 +1,4 @@
-// What is seen: of the parent, of a committed contract, and of the sector that has a root.
+// What is seen: of the parent, of a committed contract, and of the sector that has a root, by the roots that are kept.
 // These are inner functions: what they require, their callers prove.
 ghost use mathlib.Core.Path.{_≡_};
 ghost use mathlib.Core.Bool.{true};
@@ -13,7 +13,7 @@ ghost use Rattle.host.specs.Places.{taken};
 ghost use Rattle.host.specs.Listed.{listed};
 ghost use Rattle.host.specs.Order.{placeInOrder};
 ghost use Rattle.rules.specs.View.{spotOf, committedSpots};
-ghost use Rattle.rules.specs.Roots.{sectorRoot, firstRoot};
+ghost use Rattle.rules.specs.Roots.{keptRoot, firstRoot};
 ghost use Rattle.rules.specs.declared.Spot.the-variants.{OnDisk};
 ghost use Rattle.view.specs.Seen.{spotsOf, holds};
 use host::Place;
@@ -76,14 +76,13 @@ pub fn committed_seen(z: u64, place: Place) -> Seen
     parent_seen(z, place, staged, size)
 }
 
-// Whether the sector in disk slot n has that root, all 32 bytes.
-fn has_root(z: usize, disk: &[u8], n: usize, key: [u8; 32]) -> bool
-    requires { ⌜ Size z ⌝ }
-    requires { ⌜ holds z (now disk) n ≡ true ⌝ }
-    ensures { λ r. ⌜ r ≡ same (sectorRoot z (now (disk .entry)) [] (OnDisk n)) key ⌝ }
+// Whether the root kept beside disk slot n is that one, all 32 bytes.
+fn has_root<'a>(diskroots: &'a [u8], stageroots: &'a [u8], n: usize, key: [u8; 32]) -> bool
+    requires { ⌜ holds 32 (now diskroots) n ≡ true ⌝ }
+    ensures { λ r. ⌜ r ≡ same (keptRoot (now (diskroots .entry)) (now (stageroots .entry)) (OnDisk n)) key ⌝ }
 {
-    let root = view::sector_root(z, disk, disk, Spot::OnDisk(n));
-    agrees(&root, &key)
+    let root = view::kept_root(diskroots, stageroots, Spot::OnDisk(n));
+    agrees(root, &key)
 }
 
 // Whether two roots are the same, all bytes of both.
@@ -102,15 +101,15 @@ fn slot_at(slots: &[u8], i: usize) -> u8
 }
 
 // The first sector with that root, of those in the disk slots listed; no sector where none has it.
-fn first_root(z: usize, disk: &[u8], slots: &[u8], key: [u8; 32]) -> Seen
-    requires { ⌜ Size z ⌝ }
-    requires { ⌜ every (holds z (now disk)) (now slots) ≡ true ⌝ }
-    ensures { λ r. ⌜ (spotsOf r ≡ firstRoot z (now (disk .entry)) key (each OnDisk (now (slots .entry)))) × (r .count ≤ 1) ⌝ }
+fn first_root<'a>(diskroots: &'a [u8], stageroots: &'a [u8], slots: &[u8], key: [u8; 32]) -> Seen
+    requires { ⌜ every (holds 32 (now diskroots)) (now slots) ≡ true ⌝ }
+    ensures { λ r. ⌜ (spotsOf r ≡
+        firstRoot (keptRoot (now (diskroots .entry)) (now (stageroots .entry))) key (each OnDisk (now (slots .entry)))) × (r .count ≤ 1) ⌝ }
 {
     let mut i: usize = 0;
     while i < slots.len() {
         let n = slot_at(slots, i);
-        if has_root(z, disk, n as usize, key) {
+        if has_root(diskroots, stageroots, n as usize, key) {
             return one(n);
         }
         i += 1;
@@ -119,23 +118,31 @@ fn first_root(z: usize, disk: &[u8], slots: &[u8], key: [u8; 32]) -> Seen
 }
 
 // The same, of the slots that an array lists.
-fn first_listed(z: usize, disk: &[u8], all: Slots, key: [u8; 32]) -> Seen
-    requires { ⌜ Size z ⌝ }
+fn first_listed<'a>(diskroots: &'a [u8], stageroots: &'a [u8], all: Slots, key: [u8; 32]) -> Seen
     requires { ⌜ all .count ≤ 512 ⌝ }
-    requires { ⌜ every (holds z (now disk)) (listed all) ≡ true ⌝ }
-    ensures { λ r. ⌜ (spotsOf r ≡ firstRoot z (now (disk .entry)) key (each OnDisk (listed all))) × (r .count ≤ 1) ⌝ }
+    requires { ⌜ every (holds 32 (now diskroots)) (listed all) ≡ true ⌝ }
+    ensures { λ r. ⌜ (spotsOf r ≡
+        firstRoot (keptRoot (now (diskroots .entry)) (now (stageroots .entry))) key (each OnDisk (listed all))) × (r .count ≤ 1) ⌝ }
 {
     let items = all.items;
     let count = all.count;
-    first_root(z, disk, &items[..count], key)
+    first_root(diskroots, stageroots, &items[..count], key)
 }
 
-// The first committed sector with that root, by contract place, then position; no sector where none has it.
-pub fn find_root(z: u64, disk: &[u8], places: [Place; 8], key: [u8; 32]) -> Seen
+// The first committed sector with that root, by contract place, then position; no sector where none has it. Kept roots are compared: no
+// sector is hashed.
+pub fn find_root<'a>(
+    z: u64,
+    diskroots: &'a [u8],
+    stageroots: &'a [u8],
+    places: [Place; 8],
+    key: [u8; 32],
+) -> Seen
     requires { ⌜ Size z ⌝ }
-    requires { ⌜ every (holds z (now disk)) (taken z places) ≡ true ⌝ }
-    ensures { λ r. ⌜ (spotsOf r ≡ firstRoot z (now (disk .entry)) key (each OnDisk (taken z places))) × (r .count ≤ 1) ⌝ }
+    requires { ⌜ every (holds 32 (now diskroots)) (taken z places) ≡ true ⌝ }
+    ensures { λ r. ⌜ (spotsOf r ≡
+        firstRoot (keptRoot (now (diskroots .entry)) (now (stageroots .entry))) key (each OnDisk (taken z places))) × (r .count ≤ 1) ⌝ }
 {
     let all = host::slots_taken(z, places);
-    first_listed(z as usize, disk, all, key)
+    first_listed(diskroots, stageroots, all, key)
 }

@@ -11,12 +11,11 @@ use borrow.Author.Tests.{ltb-true, ltb-false, le-leb, eqb-true, eqb-false, not-f
 use Rattle.area.specs.Area.{part, tab}
 use Rattle.area.specs.Slots.{Size}
 use Rattle.area.proofs.Laws.Pick.{both-left, both-right, both-join, either-left, either-right}
-use Rattle.area.proofs.Laws.Slots.{slot-ends, slot-below, segments-all, segments-few}
+use Rattle.area.proofs.Laws.Slots.{slot-ends, slot-below}
 use Rattle.sia.specs.Encode.{every}
 use Rattle.tree.specs.Walk.{count}
-use Rattle.tree.proofs.Promise.{proofs}
-use Rattle.rules.specs.View.{Setting, sector, spotOf, parent, parentSpots, whole}
-use Rattle.rules.specs.Roots.{segments, rangeProof, rangeCount}
+use Rattle.rules.specs.View.{Setting, sector, spotOf, parent, parentSpots}
+use Rattle.rules.specs.Roots.{segments, rangeCount}
 use Rattle.rules.specs.Inputs.{Args}
 use Rattle.rules.specs.Plan.{badSpan, badProof}
 use Rattle.rules.specs.Record.{outputOf}
@@ -26,22 +25,23 @@ use Rattle.host.specs.declared.Place.{Place}
 use Rattle.host.specs.declared.Progress.{Progress}
 use Rattle.rules.specs.declared.Spot.{Spot}
 use Rattle.rules.specs.declared.Spot.the-variants.{OnDisk, InStage}
-use Rattle.view.specs.Seen.{spotsOf, holds, lies, spanOf, Lies, Inside, Ranged}
+use Rattle.view.specs.Seen.{spotsOf, holds, lies, spanOf, Lies, Known, Inside, Ranged}
 use Rattle.view.specs.declared.Seen.{Seen}
-use Rattle.view.proofs.Laws.Roots.{long, seen-count, seen-at}
+use Rattle.view.proofs.Laws.Roots.{seen-count, seen-at}
 
--- ---- slots that there are lie within the areas
+-- ---- slots that there are lie within the areas, and their roots, 32 bytes each, within those that are kept
 
-below : (z : ℕ) (area : List ℕ) (m n : ℕ) → length area ≡ m * z → ltb n m ≡ true → holds z area n ≡ true
+below : (z : ℕ) (area : List ℕ) (m n : ℕ) → m * z ≤ length area → ltb n m ≡ true → holds z area n ≡ true
 unfolding holds
 below z area m n e h = le-leb (n * z + z) (length area) (omega (arith, slot-ends z n m (ltb-true n m h)))
 
-pub slots-hold : (z : ℕ) (disk : List ℕ) (m : ℕ) (l : List ℕ) → length disk ≡ m * z → every (λ n. ltb n m) l ≡ true → every (holds z disk) l ≡ true
+pub slots-hold : (z : ℕ) (area : List ℕ) (m : ℕ) (l : List ℕ) → m * z ≤ length area → every (λ n. ltb n m) l ≡ true
+    → every (holds z area) l ≡ true
 unfolding every
-slots-hold z disk m [] e h = refl
-slots-hold z disk m (x ∷ xs) e h = both-join _ _ (below z disk m x e (both-left _ _ h)) (slots-hold z disk m xs e (both-right _ _ h))
+slots-hold z area m [] e h = refl
+slots-hold z area m (x ∷ xs) e h = both-join _ _ (below z area m x e (both-left _ _ h)) (slots-hold z area m xs e (both-right _ _ h))
 
-module _ (z : ℕ) (s : Setting) (disk stage : List ℕ) (d : length disk ≡ s .sectors * z) (e : length stage ≡ s .copies * z) where
+module _ (z : ℕ) (s : Setting) (disk stage : List ℕ) (d : s .sectors * z ≤ length disk) (e : s .copies * z ≤ length stage) where
   pub valid-lies : (x : Spot) → valid s x ≡ true → lies z disk stage x ≡ true
   unfolding valid lies
   valid-lies (OnDisk n) h = below z disk (s .sectors) n d h
@@ -52,11 +52,23 @@ module _ (z : ℕ) (s : Setting) (disk stage : List ℕ) (d : length disk ≡ s 
   every-lies [] h = refl
   every-lies (x ∷ xs) h = both-join _ _ (valid-lies x (both-left _ _ h)) (every-lies xs (both-right _ _ h))
 
-  pub seen-valid : Size z → (v : Seen) (l : List Spot) → spotsOf v ≡ l → length l ≤ 64 → every (valid s) l ≡ true → Lies z disk stage v
-  seen-valid size v l q few h = record {
+module _ (s : Setting) (v : Seen) (l : List Spot) (q : spotsOf v ≡ l) (few : length l ≤ 64) (h : every (valid s) l ≡ true) where
+  seen-few : v .count ≤ 64
+  seen-few = omega (arith, seen-count v, ap length q)
+
+  pub seen-valid : (z : ℕ) (disk stage : List ℕ) → Size z → s .sectors * z ≤ length disk → s .copies * z ≤ length stage
+      → Lies z disk stage v
+  seen-valid z disk stage size d e = record {
     size = size;
-    few = omega (arith, seen-count v, ap length q);
-    spots = ap (every (lies z disk stage)) q ∙ every-lies l h;
+    few = seen-few;
+    spots = ap (every (lies z disk stage)) q ∙ every-lies z s disk stage d e l h;
+  }
+
+  pub seen-known : (diskroots stageroots : List ℕ) → s .sectors * 32 ≤ length diskroots → s .copies * 32 ≤ length stageroots
+      → Known diskroots stageroots v
+  seen-known diskroots stageroots d e = record {
+    few = seen-few;
+    spots = ap (every (lies 32 diskroots stageroots)) q ∙ every-lies 32 s diskroots stageroots d e l h;
   }
 
 -- ---- checks 26 and 27 give what is asked of a span and of a range
@@ -100,21 +112,8 @@ pub count-range : (z : ℕ) (l : List Spot) (m at n : ℕ) → m ≡ length l �
 unfolding rangeCount
 count-range z l m at n e = ap (λ (k : ℕ). count (segments z k) (at / 64) ((at + n) / 64)) e
 
--- and that of the bytes of its proof, so that `range_proof` has room
-pub proof-room : (z : ℕ) (disk stage : List ℕ) (v : Seen) (at n : ℕ) → Lies z disk stage v → 0 < v .count
-    → length (rangeProof z disk stage (spotsOf v) at n) ≡ 32 * rangeCount z (spotsOf v) at n
-unfolding rangeProof rangeCount
-proof-room z disk stage v at n l some =
-    let few : length (spotsOf v) ≤ 64 = omega (arith, seen-count v, l .few) in
-    let m = length (spotsOf v) in
-    let long = long z (l .size) disk stage (spotsOf v) (l .spots) few in
-    let k : length (whole z disk stage (spotsOf v)) / 64 ≡ segments z m = omega (arith, long, segments-all z (l .size) m) in
-    let one : z ≤ m * z = omega (arith, slot-ends z 0 m (omega (arith, seen-count v))) in
-    proofs .proof-long (whole z disk stage (spotsOf v)) (at / 64) ((at + n) / 64)
-    (omega (arith, long, one, l .size .least)) (omega (arith, k, segments-few z (l .size) m (omega arith)))
-    ∙ ap (λ (x : ℕ). 32 * count x (at / 64) ((at + n) / 64)) k
-
 -- `parent_seen` sees the parent
-pub parent-spots : (z : ℕ) (s : Setting) (p : Progress) (q : Place) → q ≡ parent s → tab 0 (p .size / z) (spotOf (q .slots) (p .staged)) ≡ parentSpots z s p
+pub parent-spots : (z : ℕ) (s : Setting) (p : Progress) (q : Place) → q ≡ parent s
+    → tab 0 (p .size / z) (spotOf (q .slots) (p .staged)) ≡ parentSpots z s p
 unfolding parentSpots
 parent-spots z s p q e = ap (λ (x : Place). tab 0 (p .size / z) (spotOf (x .slots) (p .staged))) e

@@ -1,4 +1,3 @@
 -- The laws, a file for each subject.
 pub mod Sectors
-pub mod Pieces
 pub mod Roots

@@ -1,4 +1,4 @@
--- What is seen, as spots, and when it lies within the areas. z is the sector size. Assumes nothing.
+-- What is seen, as spots, when it lies within the areas, and when its roots are kept. z is the sector size. Assumes nothing.
 use mathlib.Core.Path.{_≡_}
 use mathlib.Core.Bool.{Bool, true}
 use mathlib.Core.List.{List}
@@ -31,6 +31,11 @@ pub record Lies (z : ℕ) (disk stage : List ℕ) (v : Seen) : Type 0 where
   pub size : Size z
   pub few : v .count ≤ 64
   pub spots : every (lies z disk stage) (spotsOf v) ≡ true
+
+-- at most 64 sectors are seen, and a root is kept beside each
+pub record Known (diskroots stageroots : List ℕ) (v : Seen) : Type 0 where
+  pub few : v .count ≤ 64
+  pub spots : every (lies 32 diskroots stageroots) (spotsOf v) ≡ true
 
 -- the n bytes from `at` on, in the sector where they begin
 abbrev pub spanOf : ℕ → List ℕ → List ℕ → Seen → ℕ → ℕ → List ℕ

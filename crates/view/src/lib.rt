@@ -1,10 +1,11 @@
-// What the machine sees of contracts: the bytes of a sector, in whichever area holds it, and its root. Crate sights says what is seen, crate roots
-// has roots and proofs of it.
+// What the machine sees of contracts: the bytes of a sector, in whichever area holds it, and its root, kept or worked out. Crate sights
+// says what is seen, crate roots has roots and proofs of it.
 // These are inner functions: what they require, their callers prove.
 
-mod roots; // roots.rt: the root of a sector, and the hashes of a proof
+mod roots; // roots.rt: the root of a sector, kept or worked out, and the hashes of a proof
 mod sectors; // sectors.rt: where a sector is, and its bytes
 
+pub use roots::kept_root;
 pub use roots::range_count;
 pub use roots::sector_root;
 pub use sectors::sector;

@@ -14,8 +14,8 @@ use Rattle.host.specs.Lists.{each}
 use Rattle.host.specs.Empty.{none}
 use Rattle.host.specs.Places.{committed}
 use Rattle.host.specs.declared.Place.{Place}
-use Rattle.rules.specs.View.{sector, spotOf, committedSpots}
-use Rattle.rules.specs.Roots.{sectorRoot, firstRoot}
+use Rattle.rules.specs.View.{spotOf, committedSpots}
+use Rattle.rules.specs.Roots.{firstRoot}
 use Rattle.rules.specs.declared.Spot.{Spot}
 use Rattle.rules.specs.declared.Spot.the-variants.{OnDisk}
 
@@ -50,29 +50,24 @@ pub seen-nothing : (z : ℕ) (p : Place) → p .held ≡ false → [] ≡ commit
 unfolding committedSpots committed each
 seen-nothing z p e = ap (each OnDisk) (no (p .held) (take (p .size / z) (p .slots)) [] e refl)
 
--- ---- one turn of the loop that looks for a root: slot i and those behind it are left
+-- ---- one turn of the loop that looks for a root: slot i and those behind it are left. f reads roots
 
--- the stage is not looked at for a sector on the disk
-pub disk-root : (z : ℕ) (disk stage : List ℕ) (n : ℕ) → sectorRoot z disk stage (OnDisk n) ≡ sectorRoot z disk [] (OnDisk n)
-unfolding sectorRoot sector
-disk-root z disk stage n = refl
-
-module _ (z : ℕ) (disk key l : List ℕ) (i : ℕ) where
-  pub first-here : {n : ℕ} → i < length l → n ≡ getD l i 0 → same (sectorRoot z disk [] (OnDisk n)) key ≡ true
-      → OnDisk n ∷ [] ≡ firstRoot z disk key (each OnDisk (drop i l))
+module _ (f : Spot → List ℕ) (key l : List ℕ) (i : ℕ) where
+  pub first-here : {n : ℕ} → i < length l → n ≡ getD l i 0 → same (f (OnDisk n)) key ≡ true
+      → OnDisk n ∷ [] ≡ firstRoot f key (each OnDisk (drop i l))
   unfolding firstRoot each
   first-here h q e = rw (drop-cons l i 0 h, ← q) (yes _ _ _ e refl)
 
-  pub first-further : {n : ℕ} → i < length l → n ≡ getD l i 0 → same (sectorRoot z disk [] (OnDisk n)) key ≡ false
-      → firstRoot z disk key (each OnDisk (drop i l)) ≡ firstRoot z disk key (each OnDisk (drop (i + 1) l))
+  pub first-further : {n : ℕ} → i < length l → n ≡ getD l i 0 → same (f (OnDisk n)) key ≡ false
+      → firstRoot f key (each OnDisk (drop i l)) ≡ firstRoot f key (each OnDisk (drop (i + 1) l))
   unfolding firstRoot each
   first-further h q e = rw (drop-cons l i 0 h, ← q, add-one i) (skips _ _ _ e)
 
-  pub first-none : length l ≤ i → [] ≡ firstRoot z disk key (each OnDisk (drop i l))
+  pub first-none : length l ≤ i → [] ≡ firstRoot f key (each OnDisk (drop i l))
   unfolding firstRoot each
   first-none h = rw (drop-of-length-le l {i = i} h)
 
 -- of other slots that are the same
-pub first-same : (z : ℕ) (disk key : List ℕ) {l m : List ℕ} {x : List Spot} → x ≡ firstRoot z disk key (each OnDisk l) → l ≡ m
-    → x ≡ firstRoot z disk key (each OnDisk m)
-first-same z disk key e q = e ∙ ap (λ (l : List ℕ). firstRoot z disk key (each OnDisk l)) q
+pub first-same : (f : Spot → List ℕ) (key : List ℕ) {l m : List ℕ} {x : List Spot} → x ≡ firstRoot f key (each OnDisk l) → l ≡ m
+    → x ≡ firstRoot f key (each OnDisk m)
+first-same f key e q = e ∙ ap (λ (l : List ℕ). firstRoot f key (each OnDisk l)) q

@@ -12,12 +12,12 @@ slots-taken-requires c κs = search needs
 
 first-listed-requires : tie.Need-first-listed-requires
 first-listed-requires c κs =
-    let s = c .before .before in
+    let s = c .before .before .before in
     let all = c .slots-taken .ensures in
-    (s .pre .0, (all .1, ap (every (holds (s .args .z) (s .args .disk .now))) (all .0) ∙ s .pre .1))
+    (all .1, ap (every (holds 32 (s .args .diskroots .now))) (all .0) ∙ s .pre .1)
 
 returns : tie.Need-returns
-returns c = (first-same _ _ _ (c .first-listed .ensures .0) (c .before .slots-taken .ensures .0), c .first-listed .ensures .1)
+returns c = (first-same _ _ (c .first-listed .ensures .0) (c .before .slots-taken .ensures .0), c .first-listed .ensures .1)
 
 pub find-root-spec : {M : Type 1} → statement M
 find-root-spec = tie.close (tie.spec slots-taken-requires first-listed-requires returns)

@@ -7,15 +7,17 @@ use Rattle.sights.proofs.first_listed.Statement.{statement}
 use Rattle.sights.proofs.first_listed.Tie as tie
 
 array-share-prefix-items : tie.Need-array-share-prefix-items
-array-share-prefix-items c = omega (arith, c .before .before .pre .1 .0, listing (c .before .before .args .all) _ (c .before .before .good .1 .1 .0))
+array-share-prefix-items c =
+    let s = c .before .before .before in
+    omega (arith, s .pre .0, listing (s .args .all) _ (s .good .1 .1 .0))
 
 slice-aggregate-first-root : tie.Need-slice-aggregate-first-root
 slice-aggregate-first-root c =
-    let s = c .before .before .before in
-    sym (length-take-le _ _ (omega (arith, s .pre .1 .0, listing (s .args .all) _ (s .good .1 .1 .0))))
+    let s = c .before .before .before .before in
+    sym (length-take-le _ _ (omega (arith, s .pre .0, listing (s .args .all) _ (s .good .1 .1 .0))))
 
 first-root-requires : tie.Need-first-root-requires
-first-root-requires c κs = let s = c .before .before .before in (s .pre .0, s .pre .1 .1)
+first-root-requires c κs = c .before .before .before .before .pre .1
 
 returns : tie.Need-returns
 returns c = c .first-root .ensures

@@ -14,7 +14,7 @@ use Rattle.host.specs.Empty.{none}
 use Rattle.rules.specs.View.{sector, spotOf}
 use Rattle.rules.specs.declared.Spot.{Spot}
 use Rattle.rules.specs.declared.Spot.the-variants.{OnDisk, InStage}
-use Rattle.view.specs.Seen.{spotsOf, holds, lies, Lies}
+use Rattle.view.specs.Seen.{spotsOf, holds, lies}
 use Rattle.view.specs.declared.Seen.{Seen}
 
 -- ---- where a position is
@@ -84,12 +84,12 @@ every-tab p f i (suc n) (suc k) h e =
     ap (λ (j : ℕ). p (f j)) (let q : i + suc k ≡ suc i + k = omega arith in q) ∙ every-tab p f (suc i) n k (omega arith) (both-right _ _ e)
 
 -- a position that is seen lies within its area
-pub seen-lies : (z : ℕ) (disk stage : List ℕ) (v : Seen) (i : ℕ) {x : Spot} → Lies z disk stage v → i < v .count → x ≡ spotOf (v .slots) (v .staged) i
-    → lies z disk stage x ≡ true
+pub seen-lies : (z : ℕ) (disk stage : List ℕ) (v : Seen) (i : ℕ) {x : Spot} → every (lies z disk stage) (spotsOf v) ≡ true → i < v .count
+    → x ≡ spotOf (v .slots) (v .staged) i → lies z disk stage x ≡ true
 unfolding spotsOf
 seen-lies z disk stage v i l h e =
     ap (lies z disk stage) (e ∙ ap (spotOf (v .slots) (v .staged)) (let q : i ≡ 0 + i = omega arith in q))
-    ∙ every-tab (lies z disk stage) (spotOf (v .slots) (v .staged)) 0 (v .count) i h (l .spots)
+    ∙ every-tab (lies z disk stage) (spotOf (v .slots) (v .staged)) 0 (v .count) i h l
 
 -- the n bytes from `at` on of a sector
 pub sector-span : (b : List ℕ) {s : List ℕ} (at n : ℕ) → s ≡ b → at + n ≤ length s

@@ -17,7 +17,7 @@ spot-of-requires c κs = search needs
 sector-requires : tie.Need-sector-requires
 sector-requires c κs =
     let s = c .before .before .before .before .before in
-    seen-lies _ _ _ _ _ (s .pre .0) (s .pre .1 .below) (c .spot-of .ensures)
+    seen-lies _ _ _ _ _ (s .pre .0 .spots) (s .pre .1 .below) (c .spot-of .ensures)
 
 rem-from : tie.Need-rem-from
 rem-from c = search needs
