@@ -7,8 +7,9 @@ ghost use Prim.Native.Nat.{_≤_};
 ghost use lib.ListN.{length};
 ghost use Rattle.area.specs.Pick.{pick};
 ghost use Rattle.area.specs.Area.{put};
+ghost use Rattle.rules.specs.Roots.{keptRoot};
 ghost use Rattle.rules.specs.Record.{pairing, recordBytes};
-ghost use Rattle.view.specs.Seen.{Lies, Inside, Ranged};
+ghost use Rattle.view.specs.Seen.{Lies, Known, Inside, Ranged};
 ghost use Rattle.records.specs.Front.{front};
 ghost use Rattle.records.specs.Shown.{shownProof, shownBytes, Shows};
 use view::Seen;
@@ -38,6 +39,8 @@ pub fn put_failure(number: u64, size: u64, root: [u8; 32], out: &mut [u8])
 fn put_proof<'a>(
     z: usize,
     asked: bool,
+    diskroots: &'a [u8],
+    stageroots: &'a [u8],
     disk: &'a [u8],
     stage: &'a [u8],
     seen: Seen,
@@ -45,13 +48,17 @@ fn put_proof<'a>(
     n: usize,
     out: &mut [u8],
 )
+    requires { ⌜ Known (now diskroots) (now stageroots) seen ⌝ }
     requires { ⌜ Lies z (now disk) (now stage) seen ⌝ }
     requires { ⌜ (asked ≡ true → Ranged z (seen .count) at n) ⌝ }
-    requires { ⌜ length (shownProof z asked (now disk) (now stage) seen at n) ≤ length (now out) ⌝ }
-    ensures { λ _. ⌜ now (out .exit) ≡ put (now (out .entry)) 0 (shownProof z asked (now (disk .entry)) (now (stage .entry)) seen at n) ⌝ }
+    requires { ⌜ length (shownProof z asked (keptRoot (now diskroots) (now stageroots)) (now disk) (now stage) seen at n)
+        ≤ length (now out) ⌝ }
+    ensures { λ _. ⌜ now (out .exit) ≡
+        put (now (out .entry)) 0 (shownProof z asked (keptRoot (now (diskroots .entry)) (now (stageroots .entry)))
+        (now (disk .entry)) (now (stage .entry)) seen at n) ⌝ }
 {
     if asked {
-        roots::range_proof(z, disk, stage, seen, at, n, out);
+        roots::range_proof(z, diskroots, stageroots, disk, stage, seen, at, n, out);
     }
 }
 
@@ -96,6 +103,8 @@ pub fn put_success<'a>(
     hashes: u64,
     asked: bool,
     reads: bool,
+    diskroots: &'a [u8],
+    stageroots: &'a [u8],
     disk: &'a [u8],
     stage: &'a [u8],
     seen: Seen,
@@ -103,14 +112,26 @@ pub fn put_success<'a>(
     n: usize,
     out: &mut [u8],
 )
-    requires { ⌜ Shows z (now disk) (now stage) seen asked reads at n hashes (now out) ⌝ }
+    requires { ⌜ Shows z (now diskroots) (now stageroots) (now disk) (now stage) seen asked reads at n hashes (now out) ⌝ }
     ensures { λ _. ⌜ now (out .exit) ≡
         put (now (out .entry)) 0 (recordBytes 0 cost (pairing size root)
-        hashes (shownProof z asked (now (disk .entry)) (now (stage .entry)) seen at n)
+        hashes (shownProof z asked (keptRoot (now (diskroots .entry)) (now (stageroots .entry)))
+        (now (disk .entry)) (now (stage .entry)) seen at n)
         (pick reads n 0) (shownBytes z reads (now (disk .entry)) (now (stage .entry)) seen at n)) ⌝ }
 {
     put_front(0, cost, size, root, hashes, out);
-    put_proof(z, asked, disk, stage, seen, at, n, &mut out[64..]);
+    put_proof(
+        z,
+        asked,
+        diskroots,
+        stageroots,
+        disk,
+        stage,
+        seen,
+        at,
+        n,
+        &mut out[64..],
+    );
     let behind = 64 + 32 * (hashes as usize);
     let count = count_of(reads, n);
     area::store(out, behind, 8, count);

@@ -15,10 +15,11 @@ use Rattle.records.proofs.put_proof.Tie as tie
 range-proof-requires : tie.Need-range-proof-requires
 unfolding shownProof
 range-proof-requires c κs =
-    let start = c .before .before .before .before .before in
+    let start = c .before .before .before .before .before .before .before in
     let asked = c .before .if1 .taken in
-    let room = subst (λ (l : List ℕ). length l ≤ length (start .args .out .now)) (picks (start .args .asked) _ [] asked) (start .pre .1 .1) in
-    (start .pre .0, (start .pre .1 .0 asked, room))
+    let out = start .args .out .now in
+    let room = subst (λ (l : List ℕ). length l ≤ length out) (picks (start .args .asked) _ [] asked) (start .pre .1 .1 .1) in
+    (start .pre .0, (start .pre .1 .0, (start .pre .1 .1 .0 asked, room)))
 
 same-length : tie.Need-same-length
 same-length c = search needs

@@ -13,7 +13,7 @@ use Rattle.records.proofs.put_success.Tie as tie
 -- ---- the places of what was laid before
 
 abbrev at-start : tie.After-put-front → tie.Start
-at-start c = c .before .before .before .before .before
+at-start c = c .before .before .before .before .before .before .before
 
 abbrev at-front : tie.After-put-proof → tie.After-put-front
 at-front c = c .before .before .before .before
@@ -39,7 +39,7 @@ put-proof-requires : tie.Need-put-proof-requires
 put-proof-requires c κs =
     let shows = at-start (c .before .before .before) .pre in
     let out = c .before .before .before .put-front .last .1 .1 .1 .1 .1 .0 in
-    (shows .lies, (shows .ranged, omega (arith, shows .count, shows .room, rest-long out 64)))
+    (shows .known, (shows .lies, (shows .ranged, omega (arith, shows .count, shows .room, rest-long out 64))))
 
 mul-behind : tie.Need-mul-behind
 mul-behind c = search needs
