@@ -2,5 +2,6 @@
 pub mod Known
 pub mod Sights
 pub mod Running
+pub mod Readers
 pub mod Planned
 pub mod Taking

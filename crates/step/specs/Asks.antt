@@ -1,7 +1,7 @@
 -- What the functions of a step ask of their callers. z is the sector size. Assumes nothing.
 use mathlib.Core.Path.{_≡_}
 use mathlib.Core.Bool.{Bool, true}
-use mathlib.Core.List.{List}
+use mathlib.Core.List.{List, []}
 use Prim.Native.Nat.{ℕ, _+_, _*_, _/_, _≤_, _<_, _^_}
 use lib.ListN.{length, drop}
 use Rattle.area.specs.Area.{part, tab}
@@ -9,33 +9,35 @@ use Rattle.area.specs.Slots.{Size}
 use Rattle.sia.specs.Encode.{every}
 use Rattle.host.specs.Places.{committed}
 use Rattle.host.specs.Order.{placeInOrder}
-use Rattle.rules.specs.View.{Setting, Turn, spotOf}
+use Rattle.rules.specs.View.{kept, Setting, Turn, spotOf}
 use Rattle.rules.specs.Plan.{reads}
 use Rattle.rules.specs.Run.{going}
 use Rattle.rules.specs.Facts.{Solid, Good}
 use Rattle.view.specs.Seen.{holds, lies}
 use Rattle.staging.specs.Parts.{ground, staging, args}
 use Rattle.staging.specs.Asks as Effect
+use Rattle.rehashing.specs.Asks.{Rehashes}
 use Rattle.records.specs.Shown.{Shows}
-use Rattle.step.specs.Ran.{stageAfter, progressAfter}
+use Rattle.step.specs.Ran.{stageAfter, progressAfter, rootsAfter}
 use Rattle.host.specs.declared.Place.{Place}
 use Rattle.sia.specs.declared.Op.the-variants.{Write}
 use Rattle.host.specs.declared.Progress.{Progress}
 use Rattle.plan.specs.declared.Plan.{Plan}
 
--- a contract in order whose slots, of a size that there is, lie within the disk
-pub record Stands (z : ℕ) (disk : List ℕ) (p : Place) : Type 0 where
+-- a contract in order with a root kept beside each of its slots
+pub record Stands (z : ℕ) (diskroots : List ℕ) (p : Place) : Type 0 where
   pub size : Size z
   pub order : placeInOrder z p ≡ true
-  pub slots : every (holds z disk) (committed z p) ≡ true
+  pub slots : every (holds 32 diskroots) (committed z p) ≡ true
 
--- the parent's sectors up to its running size, of a size that there is, lie within the areas
-pub record Reads (z : ℕ) (disk stage : List ℕ) (p : Place) (g : Progress) : Type 0 where
+-- the parent's sectors up to its running size, a root kept beside each
+pub record Reads (z : ℕ) (diskroots stageroots : List ℕ) (p : Place) (g : Progress) : Type 0 where
   pub size : Size z
   pub few : g .size / z ≤ 64
-  pub spots : every (lies z disk stage) (tab 0 (g .size / z) (spotOf (p .slots) (g .staged))) ≡ true
+  pub spots : every (lies 32 diskroots stageroots) (tab 0 (g .size / z) (spotOf (p .slots) (g .staged))) ≡ true
 
--- a program that is going on a host in order, sectors of a size that there is, and its areas as stated
+-- a program that is going on a host in order, sectors of a size that there is, and its areas as stated; roots as they are kept, 32 bytes beside
+-- each slot
 pub record Steps (z : ℕ) (s : Setting) (t : Turn) (a : List ℕ) : Type 0 where
   pub solid : Solid z s
   pub good : Good z s (t .progress)
@@ -43,16 +45,22 @@ pub record Steps (z : ℕ) (s : Setting) (t : Turn) (a : List ℕ) : Type 0 wher
   pub input : length a ≡ s .terms .head .length
   pub stage : length (t .stage) ≡ s .copies * z
   pub output : length (t .output) ≡ s .terms .room
+  pub way : s .way ≡ kept
+  pub diskroots : length (s .roots) ≡ 2048
+  pub stageroots : length (t .roots) ≡ 512
 
--- an instruction that can run: what its effect asks, where Write's data lies, and, after the effect, the parent within the areas and
--- room for the record; no sum passes 64 bits
-pub record Runs (z copies : ℕ) (parent : Place) (disk input : List ℕ) (p : Plan) (asked : Bool) (t : Turn) : Type 0 where
+-- an instruction that can run: what its effect asks, where Write's data lies, and, after the effect, what rehashing asks, the parent within
+-- the areas and room for the record; no sum passes 64 bits
+pub record Runs (z copies : ℕ) (parent : Place) (diskroots disk input : List ℕ) (p : Plan) (asked : Bool) (t : Turn) : Type 0 where
   pub stands : Effect.Stands z (ground copies (parent .slots) disk) (t .progress .size) (p .op)
       (args (p .args .first) (p .args .second) (p .args .len) (part input (p .args .from) (p .args .len))) (staging (t .progress .staged) (t .stage))
   pub source : p .op ≡ Write → p .args .from + p .args .len ≤ length input
-  pub read : Reads z disk (stageAfter z copies parent disk input p (t .progress) (t .stage) .bytes) parent
-      (progressAfter p (t .progress) (stageAfter z copies parent disk input p (t .progress) (t .stage)))
-  pub shows : Shows z disk (stageAfter z copies parent disk input p (t .progress) (t .stage) .bytes) (p .seen) asked (reads (p .op))
+  pub rehashes : Rehashes z (t .progress .size) (p .op) (args (p .args .first) (p .args .second) 0 [])
+      (stageAfter z copies parent disk input p (t .progress) (t .stage)) (t .roots)
+  pub read : let after = stageAfter z copies parent disk input p (t .progress) (t .stage) in
+      Reads z diskroots (rootsAfter z p (t .progress) after (t .roots)) parent (progressAfter p (t .progress) after)
+  pub shows : let after = stageAfter z copies parent disk input p (t .progress) (t .stage) in
+      Shows z diskroots (rootsAfter z p (t .progress) after (t .roots)) disk (after .bytes) (p .seen) asked (reads (p .op))
       (p .args .first) (p .args .len) (p .hashes) (drop (t .progress .written) (t .output))
   pub ran : t .progress .ran + 1 < 2 ^ 64
   pub tally : t .progress .tally + p .cost < 2 ^ 64

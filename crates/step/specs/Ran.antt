@@ -1,19 +1,20 @@
 -- What an instruction that can run leaves, from its plan. z is the sector size. Assumes nothing.
 use mathlib.Core.Bool.{Bool}
-use mathlib.Core.List.{List}
+use mathlib.Core.List.{List, []}
 use Prim.Native.Nat.{ℕ, _/_}
 use Rattle.area.specs.Pick.{pick}
 use Rattle.area.specs.Area.{part, put, tab}
 use Rattle.rules.specs.View.{Turn, turn, spotOf}
-use Rattle.rules.specs.Roots.{contractRoot}
-use Rattle.rules.specs.Plan.{reads}
-use Rattle.rules.specs.Effect.{Staging, effect}
+use Rattle.rules.specs.Roots.{keptRoot, contractRoot}
+use Rattle.rules.specs.Plan.{reads, touched}
+use Rattle.rules.specs.Effect.{Staging, effect, rehashed}
 use Rattle.rules.specs.Record.{pairing, recordBytes}
 use Rattle.rules.specs.Run.{ranProgress}
 use Rattle.staging.specs.Parts.{ground, staging, args}
 use Rattle.records.specs.Shown.{shownProof, shownBytes}
 use Rattle.host.specs.declared.Place.{Place}
 use Rattle.host.specs.declared.Progress.{Progress}
+use Rattle.rules.specs.declared.Spot.{Spot}
 use Rattle.plan.specs.declared.Plan.{Plan}
 
 -- the stage after it
@@ -26,14 +27,20 @@ stageAfter z copies parent disk input p g stage =
 unfoldable pub progressAfter : Plan → Progress → Staging → Progress
 progressAfter p g after = ranProgress g (p .cost) (p .count) (p .size) (after .staged)
 
--- the record
-unfoldable pub recordAfter : ℕ → Place → List ℕ → Plan → Bool → Staging → List ℕ
-recordAfter z parent disk p asked after =
-    recordBytes 0 (p .cost) (pairing (p .size) (contractRoot z disk (after .bytes) (tab 0 (p .size / z) (spotOf (parent .slots) (after .staged)))))
-    (p .hashes) (shownProof z asked disk (after .bytes) (p .seen) (p .args .first) (p .args .len))
+-- the roots kept beside the stage's slots
+unfoldable pub rootsAfter : ℕ → Plan → Progress → Staging → List ℕ → List ℕ
+rootsAfter z p g after roots = rehashed z after (touched z (g .size) (p .op) (args (p .args .first) (p .args .second) 0 [])) roots
+
+-- the record; f reads roots
+unfoldable pub recordAfter : ℕ → (Spot → List ℕ) → Place → List ℕ → Plan → Bool → Staging → List ℕ
+recordAfter z f parent disk p asked after =
+    recordBytes 0 (p .cost) (pairing (p .size) (contractRoot f (tab 0 (p .size / z) (spotOf (parent .slots) (after .staged)))))
+    (p .hashes) (shownProof z asked f disk (after .bytes) (p .seen) (p .args .first) (p .args .len))
     (pick (reads (p .op)) (p .args .len) 0) (shownBytes z (reads (p .op)) disk (after .bytes) (p .seen) (p .args .first) (p .args .len))
 
-unfoldable pub ran : ℕ → ℕ → Place → List ℕ → List ℕ → Plan → Bool → Turn → Turn
-ran z copies parent disk input p asked t =
+unfoldable pub ran : ℕ → ℕ → Place → List ℕ → List ℕ → List ℕ → Plan → Bool → Turn → Turn
+ran z copies parent diskroots disk input p asked t =
     let after = stageAfter z copies parent disk input p (t .progress) (t .stage) in
-    turn (progressAfter p (t .progress) after) (after .bytes) (put (t .output) (t .progress .written) (recordAfter z parent disk p asked after))
+    let roots = rootsAfter z p (t .progress) after (t .roots) in
+    turn (progressAfter p (t .progress) after) (after .bytes)
+    (put (t .output) (t .progress .written) (recordAfter z (keptRoot diskroots roots) parent disk p asked after)) roots

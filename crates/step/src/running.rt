@@ -1,4 +1,4 @@
-// An instruction that can run: its effect, and its record with the size and root after it.
+// An instruction that can run: its effect, the roots of the sectors that it wrote, and its record with the size and root after it.
 ghost use mathlib.Core.Path.{_≡_};
 ghost use Prim.Native.Nat.{_+_, _^_, _<_};
 ghost use Rattle.rules.specs.View.{turn};
@@ -28,27 +28,32 @@ fn advanced(progress: Progress, plan: Plan, staged: [u8; 64]) -> Progress
 }
 
 // What it leaves.
-pub fn succeed(
+pub fn succeed<'a>(
     z: u64,
     copies: u64,
     parent: Place,
-    disk: &[u8],
+    diskroots: &'a [u8],
+    disk: &'a [u8],
     input: &[u8],
     plan: Plan,
     asked: bool,
     progress: Progress,
+    stageroots: &mut [u8],
     stage: &mut [u8],
     output: &mut [u8],
 ) -> Progress
-    requires { ⌜ Runs z copies parent (now disk) (now input) plan asked (turn progress (now stage) (now output)) ⌝ }
-    ensures { λ r. ⌜ turn r (now (stage .exit)) (now (output .exit)) ≡
-        Says.ran z copies parent (now (disk .entry)) (now (input .entry)) plan asked (turn progress (now (stage .entry)) (now (output .entry))) ⌝ }
+    requires { ⌜ Runs z copies parent (now diskroots) (now disk) (now input) plan asked (turn progress (now stage) (now output) (now stageroots)) ⌝ }
+    ensures { λ r. ⌜ turn r (now (stage .exit)) (now (output .exit)) (now (stageroots .exit)) ≡
+        Says.ran z copies parent (now (diskroots .entry)) (now (disk .entry)) (now (input .entry)) plan asked
+        (turn progress (now (stage .entry)) (now (output .entry)) (now (stageroots .entry))) ⌝ }
 {
     let sector = z as usize;
     let op = plan.op;
     let args = plan.args;
     let first = args.first as usize;
+    let second = args.second as usize;
     let len = args.len as usize;
+    let size = progress.size as usize;
     let slots = parent.slots;
     let before = progress.staged;
     let staged = effect::effect(
@@ -59,15 +64,25 @@ pub fn succeed(
         disk,
         before,
         stage,
-        progress.size as usize,
+        size,
         first,
-        args.second as usize,
+        second,
         len,
         input,
         args.from as usize,
     );
+    rehashing::rehash(
+        sector,
+        op,
+        staged,
+        &*stage,
+        size,
+        first,
+        second,
+        stageroots,
+    );
     let after = advanced(progress, plan, staged);
-    let root = pairs::running_root(z, disk, &*stage, parent, after);
+    let root = pairs::running_root(z, diskroots, &*stageroots, parent, after);
     let at = progress.written as usize;
     let reads = plan::reads(op);
     let seen = plan.seen;
@@ -79,6 +94,8 @@ pub fn succeed(
         plan.hashes,
         asked,
         reads,
+        diskroots,
+        &*stageroots,
         disk,
         &*stage,
         seen,

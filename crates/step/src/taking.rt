@@ -13,62 +13,79 @@ use host::Terms;
 use sia::Instruction;
 
 // One instruction.
-fn taken(
+fn taken<'a>(
     z: u64,
     sectors: u64,
     copies: u64,
     places: [Place; 8],
     terms: Terms,
-    disk: &[u8],
+    diskroots: &'a [u8],
+    disk: &'a [u8],
     input: &[u8],
     i: Instruction,
     progress: Progress,
+    stageroots: &mut [u8],
     stage: &mut [u8],
     output: &mut [u8],
 ) -> Progress
-    requires { ⌜ Steps z (setting sectors copies places terms (now disk)) (turn progress (now stage) (now output)) (now input) ⌝ }
-    ensures { λ r. ⌜ turn r (now (stage .exit)) (now (output .exit)) ≡
-        stepped z (setting sectors copies places terms (now (disk .entry))) i (inputsOf i (now (input .entry)))
-        (turn progress (now (stage .entry)) (now (output .entry))) ⌝ }
+    requires { ⌜ Steps z (setting sectors copies places terms (now disk) (now diskroots)) (turn progress (now stage) (now output) (now stageroots)) (now input) ⌝ }
+    ensures { λ r. ⌜ turn r (now (stage .exit)) (now (output .exit)) (now (stageroots .exit)) ≡
+        stepped z (setting sectors copies places terms (now (disk .entry)) (now (diskroots .entry))) i (inputsOf i (now (input .entry)))
+        (turn progress (now (stage .entry)) (now (output .entry)) (now (stageroots .entry))) ⌝ }
 {
-    let planned = plan::planned(z, sectors, copies, places, terms, progress, i, disk, input);
+    let planned = plan::planned(
+        z,
+        sectors,
+        copies,
+        places,
+        terms,
+        progress,
+        i,
+        diskroots,
+        &*stageroots,
+        input,
+    );
     let head = terms.head;
     let id = head.contract;
     let parent = host::place_of(places, id);
     if planned.number != 0 {
-        return pairs::fail(z, planned.number, disk, parent, progress, output);
+        return pairs::fail(z, planned.number, diskroots, parent, progress, output);
     }
     running::succeed(
         z,
         copies,
         parent,
+        diskroots,
         disk,
         input,
         planned,
         i.proof,
         progress,
+        stageroots,
         stage,
         output,
     )
 }
 
 // The instruction whose turn it is.
-pub fn step(
+pub fn step<'a>(
     z: u64,
     sectors: u64,
     copies: u64,
     places: [Place; 8],
     terms: Terms,
-    disk: &[u8],
+    diskroots: &'a [u8],
+    disk: &'a [u8],
     input: &[u8],
     progress: Progress,
+    stageroots: &mut [u8],
     stage: &mut [u8],
     output: &mut [u8],
 ) -> Progress
-    requires { ⌜ Steps z (setting sectors copies places terms (now disk)) (turn progress (now stage) (now output)) (now input) ⌝ }
-    ensures { λ r. ⌜ turn r (now (stage .exit)) (now (output .exit)) ≡
-        Says.step z (setting sectors copies places terms (now (disk .entry))) (now (input .entry))
-        (turn progress (now (stage .entry)) (now (output .entry))) ⌝ }
+    requires { ⌜ Steps z (setting sectors copies places terms (now disk) (now diskroots)) (turn progress (now stage) (now output) (now stageroots)) (now input) ⌝ }
+    ensures { λ r. ⌜ turn r (now (stage .exit)) (now (output .exit)) (now (stageroots .exit)) ≡
+        Says.step z (setting sectors copies places terms (now (disk .entry)) (now (diskroots .entry))) (now (input .entry))
+        (turn progress (now (stage .entry)) (now (output .entry)) (now (stageroots .entry))) ⌝ }
 {
     let head = terms.head;
     let list = head.instructions;
@@ -79,10 +96,12 @@ pub fn step(
         copies,
         places,
         terms,
+        diskroots,
         disk,
         input,
         i,
         progress,
+        stageroots,
         stage,
         output,
     )

@@ -7,14 +7,15 @@ use native.Mathlib.Nat.{mul-le-mul-right, div-le-of-le-mul}
 use native.Mathlib.Omega.{arith}
 use lib.Dec.{eqb}
 use borrow.Author.Tests.{eq-eqb, ne-eqb, eqb-true, eqb-false}
-use Rattle.area.specs.Pick.{both}
+use Rattle.area.specs.Pick.{pick, both}
 use Rattle.area.proofs.Laws.Pick.{yes, no, by, picks, skips}
 use Rattle.sia.specs.Names.{opOf}
 use Rattle.sia.proofs.Laws.Limits.{within-is}
 use Rattle.host.proofs.Laws.Order.{terms-facts}
-use Rattle.rules.specs.View.{Setting, setting, readOnlyMode, parent, parentSpots, allSpots}
+use Rattle.rules.specs.View.{Setting, setting, readOnlyMode, freeCopies, parent, parentSpots, allSpots}
 use Rattle.rules.specs.Inputs.{Args, illFormed, pastEnd, inputsOf, wellFormed, argsOf}
-use Rattle.rules.specs.Plan.{changes, Source, isThere, spots, contractSource, sectorSource, sourceOf, judgedInputs, judged}
+use Rattle.rules.specs.Plan.{changes, Source, isThere, spots, contractSource, sectorSource, sourceOf, cost, newSize, proofCount, recordCount}
+use Rattle.rules.specs.Plan.{judgedSource, judgedInputs, judged}
 use Rattle.rules.specs.Facts.{Lent, Good}
 use Rattle.sia.specs.declared.Instruction.{Instruction}
 use Rattle.sia.specs.declared.Op.{Op}
@@ -42,6 +43,29 @@ source-same z s f p Copy key = refl
 source-same z s f p Swap key = refl
 source-same z s f p Truncate key = refl
 source-same z s f p Unknown key = refl
+
+-- neither does a plan: the setting's bytes and roots are not looked at
+pub plan-same : (z : ℕ) (s : Setting) (f : Spot → List ℕ) (p : Progress) (i : Instruction) (area : List ℕ)
+    → planOf z (setting (s .sectors) (s .copies) (s .places) (s .terms) [] []) f p i area ≡ planOf z s f p i area
+unfolding planOf runs judged judgedInputs judgedSource freeCopies readOnlyMode
+plan-same z s f p i area =
+    let op = opOf (i .name) in
+    let l = inputsOf i area in
+    let a = argsOf op l in
+    ap (λ (from : Source).
+    let n = pick (illFormed i) 21 (pick (pastEnd (s .terms .head .length) i) 22 (pick (not (wellFormed op l)) 23
+    (pick (both (changes op) (readOnlyMode (s .terms))) 24 (pick (not (isThere from)) 25 (judgedSource z s p (i .proof) from op a))))) in
+    pick (eqb n 0) (record {
+      number = 0;
+      op = op;
+      args = placed a (fromOf op i);
+      sectors = spots from;
+      cost = cost (s .terms .head .length) (s .terms .prices) op (a .len);
+      size = newSize (p .size) op a;
+      hashes = proofCount z (i .proof) from a;
+      count = recordCount z (i .proof) from op a;
+    }) (failed op n))
+    (sym (source-same z (setting (s .sectors) (s .copies) (s .places) (s .terms) [] []) f p op (a .key)) ∙ source-same z s f p op (a .key))
 
 -- ---- limits, from the facts of a machine in order
 

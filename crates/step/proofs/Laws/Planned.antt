@@ -12,36 +12,39 @@ use Rattle.area.specs.Pick.{pick}
 use Rattle.area.specs.Area.{part, put, tab}
 use Rattle.area.proofs.Laws.Pick.{by, picks, skips, both-left, both-right, either-left}
 use Rattle.sia.specs.Names.{opOf}
-use Rattle.sia.specs.Encode.{within}
+use Rattle.sia.specs.Encode.{every, within}
 use Rattle.host.specs.Order.{termsInOrder}
 use Rattle.host.specs.With.{withRunning, withStaged}
 use Rattle.rules.specs.View.{Setting, Turn, turn, parent, spotOf, parentSpots}
-use Rattle.rules.specs.Roots.{contractRoot, rangeProof, rangeCount}
+use Rattle.rules.specs.Roots.{keptRoot, rootOf, rootAt, contractRoot, rangeProof}
 use Rattle.rules.specs.Inputs.{Args, pastEnd, inputsOf, nth, argsOf}
-use Rattle.rules.specs.Plan.{Source, spots, sourceOf, badSpan, badSpans, reads, cost, newSize, proofCount, outputCount, recordCount, judged}
-use Rattle.rules.specs.Effect.{Staging, groundOf, effect}
+use Rattle.rules.specs.Plan.{Source, spots, sourceOf, badSpan, badSpans, reads, cost, touched, newSize, proofCount, outputCount, recordCount, judged}
+use Rattle.rules.specs.Effect.{Staging, groundOf, effect, rehashed}
 use Rattle.rules.specs.Record.{pairing, runningPair, recordBytes, successBytes, outputOf}
 use Rattle.rules.specs.Run.{ranProgress, succeeding}
-use Rattle.rules.specs.Facts.{Solid, Good}
+use Rattle.rules.specs.Facts.{Solid, Good, Within, valid}
 use Rattle.rules.proofs.Laws.Effects.{Passed, passed}
-use Rattle.rules.proofs.Laws.Areas.{effect-bytes}
+use Rattle.rules.proofs.Laws.Areas.{effect-bytes, rehashed-length}
 use Rattle.rules.proofs.Laws.Kept.{ran-good}
-use Rattle.rules.proofs.Laws.Lengths.{read-span, asked-reads, asked-right, well-formed, count-read, count-change}
+use Rattle.rules.proofs.Laws.Lengths.{length-proof, read-span, asked-reads, asked-right, well-formed, count-read, count-change}
 use Rattle.rules.proofs.Laws.Spots.{source-valid, few-spots, parent-valid}
 use Rattle.rules.proofs.Laws.Steps.{not-failed, left-going}
-use Rattle.view.specs.Seen.{lies, spotsOf, Lies, Inside, Ranged}
+use Rattle.view.specs.Seen.{spotsOf, Lies, Known, Inside, Ranged}
 use Rattle.view.proofs.Laws.Roots.{seen-count}
-use Rattle.view.proofs.Callers.{every-lies, seen-valid, span-inside, range-ranged, span-output, proof-room}
+use Rattle.view.proofs.Callers.{every-lies, seen-valid, seen-known, span-inside, range-ranged, span-output}
 use Rattle.staging.specs.Parts.{ground, staging, args}
 use Rattle.staging.specs.Asks as Effect
+use Rattle.rehashing.specs.Asks.{Rehashes}
+use Rattle.rehashing.proofs.Callers.{touched-args, rehashes}
 use Rattle.effect.proofs.Laws.Passed.{stands-with, effect-with}
 use Rattle.inputs.specs.Given.{placed, fromOf, argsGiven, bytesGiven}
 use Rattle.plan.specs.Planned.{Said, said, failed, runs, planOf}
 use Rattle.inputs.proofs.Laws.Given.{given-args}
 use Rattle.plan.proofs.Laws.Planned.{size-few}
 use Rattle.records.specs.Shown.{shownProof, shownBytes, Shows}
-use Rattle.step.specs.Ran.{stageAfter, progressAfter, recordAfter, ran}
+use Rattle.step.specs.Ran.{stageAfter, progressAfter, rootsAfter, recordAfter, ran}
 use Rattle.step.specs.Asks.{Reads, Steps, Runs}
+use Rattle.step.proofs.Laws.Readers.{reads-kept}
 use Rattle.sia.specs.declared.Instruction.{Instruction}
 use Rattle.sia.specs.declared.Op.{Op}
 use Rattle.sia.specs.declared.Op.the-variants.{Write}
@@ -50,16 +53,17 @@ use Rattle.host.specs.declared.Progress.{Progress}
 use Rattle.rules.specs.declared.Spot.{Spot}
 use Rattle.plan.specs.declared.Plan.{Plan}
 
--- the parent of a program in order is read within the areas
-pub reads-good : (z : ℕ) (s : Setting) (g : Progress) (stage : List ℕ) (q : Place) → Solid z s → Good z s g → length stage ≡ s .copies * z
-    → q ≡ parent s → Reads z (s .disk) stage q g
+-- a root is kept beside each sector of the parent of a program in order
+pub reads-good : (z : ℕ) (s : Setting) (g : Progress) (diskroots stageroots : List ℕ) (q : Place) → Solid z s → Good z s g
+    → length diskroots ≡ 2048 → length stageroots ≡ 512 → q ≡ parent s → Reads z diskroots stageroots q g
 unfolding parentSpots
-reads-good z s g stage q solid good long own =
-    let few = size-few z s g solid good in
-    subst (λ (p : Place). Reads z (s .disk) stage p g) (sym own) (record {
+reads-good z s g diskroots stageroots q solid good d e own =
+    let few = size-few z s g (solid .lent) good in
+    subst (λ (p : Place). Reads z diskroots stageroots p g) (sym own) (record {
       size = solid .lent .size;
       few = few;
-      spots = every-lies z s (s .disk) stage (solid .disk) long _ (parent-valid z s g solid (good .orderly .staged) (omega (arith, good .entries)));
+      spots = every-lies 32 s diskroots stageroots (omega (arith, d, solid .lent .most)) (omega (arith, e, solid .lent .few)) _
+          (parent-valid z s g solid (good .orderly .staged) (omega (arith, good .entries)));
     })
 
 -- a part that is as long as was asked lies within
@@ -73,7 +77,7 @@ unfolding termsInOrder within
 within-count z s t x = leb-true _ _ (both-left _ _ (both-left _ _ (both-right _ _ (x .good .terms))))
 
 module _ (z : ℕ) (s : Setting) (t : Turn) (input : List ℕ) (i : Instruction) (q : Place) (r : Plan) (x : Steps z s t input) (own : q ≡ parent s)
-    (operands : length (i .operands) ≡ 4) (e : said r ≡ planOf z s (t .progress) i input) where
+    (operands : length (i .operands) ≡ 4) (e : said r ≡ planOf z s (rootAt z s t) (t .progress) i input) where
   unfoldable op : Op
   op = opOf (i .name)
 
@@ -81,34 +85,34 @@ module _ (z : ℕ) (s : Setting) (t : Turn) (input : List ℕ) (i : Instruction)
   a = argsOf (opOf (i .name)) (inputsOf i input)
 
   unfoldable from : Source
-  from = sourceOf z s (t .progress) op (a .key)
+  from = sourceOf z s (rootAt z s t) (t .progress) op (a .key)
 
-  pub number-is : r .number ≡ judged z s (t .progress) i (inputsOf i input)
+  pub number-is : r .number ≡ judged z s (rootAt z s t) (t .progress) i (inputsOf i input)
   unfolding planOf runs failed
   number-is =
-      let n = judged z s (t .progress) i (inputsOf i input) in
+      let n = judged z s (rootAt z s t) (t .progress) i (inputsOf i input) in
       ap (λ (y : Said). y .number) e
       ∙ by (eqb n 0)
       (λ u. ap (λ (y : Said). y .number) (picks (eqb n 0) _ _ u) ∙ sym (eqb-true n 0 u))
       (λ u. ap (λ (y : Said). y .number) (skips (eqb n 0) _ _ u))
 
   module _ (zero : r .number ≡ 0) where
-    can : judged z s (t .progress) i (inputsOf i input) ≡ 0
+    can : judged z s (rootAt z s t) (t .progress) i (inputsOf i input) ≡ 0
     can = sym number-is ∙ zero
 
-    says : said r ≡ runs z s (t .progress) i input
+    says : said r ≡ runs z s (rootAt z s t) (t .progress) i input
     unfolding planOf
-    says = e ∙ picks (eqb (judged z s (t .progress) i (inputsOf i input)) 0) _ _ (eq-eqb _ 0 can)
+    says = e ∙ picks (eqb (judged z s (rootAt z s t) (t .progress) i (inputsOf i input)) 0) _ _ (eq-eqb _ 0 can)
 
-    pass : Passed z s (t .progress) op a (recordCount z (i .proof) from op a)
+    pass : Passed z s (rootAt z s t) (t .progress) op a (recordCount z (i .proof) from op a)
     unfolding op a from
-    pass = passed z s (t .progress) i (inputsOf i input) can
+    pass = passed z s (rootAt z s t) (t .progress) i (inputsOf i input) can
 
     -- Write's data
     given : argsGiven op input (placed a (fromOf op i)) ≡ a
     unfolding op a
     given =
-        let w = well-formed z s (t .progress) i (inputsOf i input) can in
+        let w = well-formed z s (rootAt z s t) (t .progress) i (inputsOf i input) can in
         given-args (opOf (i .name)) i input refl (w .0) (ap (λ (n : ℕ). pastEnd n i) (x .input) ∙ w .1) operands (w .2)
 
     bytes-are : op ≡ Write → a .bytes ≡ part input (fromOf op i) (a .len)
@@ -160,6 +164,20 @@ module _ (z : ℕ) (s : Setting) (t : Turn) (input : List ℕ) (i : Instruction)
     unfoldable after : Staging
     after = effect z (groundOf s) (t .progress .size) op a (staging (t .progress .staged) (t .stage))
 
+    -- the roots kept beside the stage's slots
+    unfoldable roots : List ℕ
+    roots = rehashed z after (touched z (t .progress .size) op a) (t .roots)
+
+    roots-long : length roots ≡ 512
+    unfolding roots
+    roots-long = rehashed-length z after (touched z (t .progress .size) op a) (t .roots) ∙ x .stageroots
+
+    roots-are : rootsAfter z r (t .progress) after (t .roots) ≡ roots
+    unfolding rootsAfter roots runs placed op a
+    roots-are =
+        ap (λ (y : Said). rehashed z after (touched z (t .progress .size) (y .op) (args (y .args .first) (y .args .second) 0 [])) (t .roots)) says
+        ∙ ap (λ (l : List ℕ). rehashed z after l (t .roots)) (touched-args z (t .progress .size) op a)
+
     stage-long : length (after .bytes) ≡ s .copies * z
     unfolding after
     stage-long = effect-bytes z (groundOf s) (t .progress .size) op a (staging (t .progress .staged) (t .stage)) ∙ x .stage
@@ -169,13 +187,23 @@ module _ (z : ℕ) (s : Setting) (t : Turn) (input : List ℕ) (i : Instruction)
     unfolding after
     good-after = ran-good z s (t .progress) op a _ (t .stage) (x .solid .lent) (not-failed s t (x .going)) (left-going s t (x .going) .1) pass (x .good)
 
-    read-after : Reads z (s .disk) (stageAfter z (s .copies) q (s .disk) input r (t .progress) (t .stage) .bytes) q
-        (progressAfter r (t .progress) (stageAfter z (s .copies) q (s .disk) input r (t .progress) (t .stage)))
+    -- what rehashing asks
+    rehash-after : Rehashes z (t .progress .size) (r .op) (args (r .args .first) (r .args .second) 0 [])
+        (stageAfter z (s .copies) q (s .disk) input r (t .progress) (t .stage)) (t .roots)
+    unfolding stageAfter
+    rehash-after =
+        rehashes z (ground (s .copies) (q .slots) (s .disk)) (t .progress .size) (r .op)
+        (args (r .args .first) (r .args .second) (r .args .len) (part input (r .args .from) (r .args .len))) (staging (t .progress .staged) (t .stage))
+        _ (t .roots) (x .good .entries) (x .stageroots) stands refl
+
+    read-after : let g = stageAfter z (s .copies) q (s .disk) input r (t .progress) (t .stage) in
+        Reads z (s .roots) (rootsAfter z r (t .progress) g (t .roots)) q (progressAfter r (t .progress) g)
     unfolding progressAfter runs after op a from
     read-after =
-        subst (λ (g : Staging). Reads z (s .disk) (g .bytes) q (progressAfter r (t .progress) g)) (sym after-is)
-        (subst (λ (y : Said). Reads z (s .disk) (after .bytes) q (ranProgress (t .progress) (y .cost) (y .count) (y .size) (after .staged))) (sym says)
-        (reads-good z s _ (after .bytes) q (x .solid) good-after stage-long own))
+        subst (λ (g : Staging). Reads z (s .roots) (rootsAfter z r (t .progress) g (t .roots)) q (progressAfter r (t .progress) g)) (sym after-is)
+        (subst (λ (l : List ℕ). Reads z (s .roots) l q (progressAfter r (t .progress) after)) (sym roots-are)
+        (subst (λ (y : Said). Reads z (s .roots) roots q (ranProgress (t .progress) (y .cost) (y .count) (y .size) (after .staged))) (sym says)
+        (reads-good z s _ (s .roots) roots q (x .solid) good-after (x .diskroots) roots-long own)))
 
     -- ---- what is shown
 
@@ -186,13 +214,25 @@ module _ (z : ℕ) (s : Setting) (t : Turn) (input : List ℕ) (i : Instruction)
     count-is : r .seen .count ≡ length (spots from)
     count-is = sym (seen-count (r .seen)) ∙ ap length seen-is
 
-    seen-lies : Lies z (s .disk) (after .bytes) (r .seen)
+    few-read : length (spots from) ≤ 64
     unfolding from
+    few-read = few-spots z s (rootAt z s t) (t .progress) op (a .key) (x .solid .small) (size-few z s (t .progress) (x .solid .lent) (x .good))
+
+    read-valid : every (valid s) (spots from) ≡ true
+    unfolding from
+    read-valid =
+        let few = size-few z s (t .progress) (x .solid .lent) (x .good) in
+        source-valid z s (t .progress) (x .solid) (x .good .orderly .staged) (omega (arith, x .good .entries, few)) (rootAt z s t) op (a .key)
+
+    seen-lies : Lies z (s .disk) (after .bytes) (r .seen)
     seen-lies =
-        let few = size-few z s (t .progress) (x .solid) (x .good) in
-        seen-valid z s (s .disk) (after .bytes) (x .solid .disk) stage-long (x .solid .lent .size) (r .seen) (spots from) seen-is
-        (few-spots z s (t .progress) op (a .key) (x .solid .small) few)
-        (source-valid z s (t .progress) (x .solid) (x .good .orderly .staged) (omega (arith, x .good .entries)) op (a .key))
+        seen-valid s (r .seen) (spots from) seen-is few-read read-valid z (s .disk) (after .bytes) (x .solid .lent .size) (omega (arith, x .solid .disk))
+        (omega (arith, stage-long))
+
+    roots-known : Known (s .roots) roots (r .seen)
+    roots-known =
+        seen-known s (r .seen) (spots from) seen-is few-read read-valid (s .roots) roots (omega (arith, x .diskroots, x .solid .lent .most))
+        (omega (arith, roots-long, x .solid .lent .few))
 
     span-right : reads op ≡ true → badSpan z (r .seen .count * z) (a .first) (a .len) ≡ false
     unfolding from
@@ -203,47 +243,68 @@ module _ (z : ℕ) (s : Setting) (t : Turn) (input : List ℕ) (i : Instruction)
 
     asked-is : i .proof ≡ true → reads op ≡ true
     unfolding op
-    asked-is h = asked-reads z s (t .progress) i (inputsOf i input) can h
+    asked-is h = asked-reads z s (rootAt z s t) (t .progress) i (inputsOf i input) can h
 
     ranged : i .proof ≡ true → Ranged z (r .seen .count) (a .first) (a .len)
     unfolding op a
-    ranged h = range-ranged z (x .solid .lent .size) op a (r .seen .count) (span-right (asked-is h)) (asked-right z s (t .progress) i (inputsOf i input) can h)
+    ranged h = range-ranged z (x .solid .lent .size) op a (r .seen .count) (span-right (asked-is h)) (asked-right z s (rootAt z s t) (t .progress) i (inputsOf i input) can h)
 
-    proof-is : shownProof z (i .proof) (s .disk) (after .bytes) (r .seen) (a .first) (a .len)
-        ≡ pick (i .proof) (rangeProof z (s .disk) (after .bytes) (spots from) (a .first) (a .len)) []
+    -- the roots that the record is made with
+    abbrev reader : Spot → List ℕ
+    reader = rootOf z s (after .bytes) roots
+
+    reader-kept : keptRoot (s .roots) roots ≡ reader
+    reader-kept = sym (reads-kept z s (after .bytes) roots (x .way))
+
+    proof-is : shownProof z (i .proof) (keptRoot (s .roots) roots) (s .disk) (after .bytes) (r .seen) (a .first) (a .len)
+        ≡ pick (i .proof) (rangeProof z reader (s .disk) (after .bytes) (spots from) (a .first) (a .len)) []
     unfolding shownProof
-    proof-is = ap (λ (l : List Spot). pick (i .proof) (rangeProof z (s .disk) (after .bytes) l (a .first) (a .len)) []) seen-is
+    proof-is =
+        ap₂ (λ (f : Spot → List ℕ) (l : List Spot). pick (i .proof) (rangeProof z f (s .disk) (after .bytes) l (a .first) (a .len)) []) reader-kept seen-is
 
-    proof-long : length (shownProof z (i .proof) (s .disk) (after .bytes) (r .seen) (a .first) (a .len)) ≡ 32 * proofCount z (i .proof) from a
-    unfolding shownProof proofCount
+    proof-long : length (shownProof z (i .proof) (keptRoot (s .roots) roots) (s .disk) (after .bytes) (r .seen) (a .first) (a .len))
+        ≡ 32 * proofCount z (i .proof) from a
     proof-long =
-        by (i .proof)
-        (λ h. ap length (picks (i .proof) _ [] h)
-        ∙ proof-room z (s .disk) (after .bytes) (r .seen) (a .first) (a .len) seen-lies (omega (arith, inside (asked-is h) .below))
-        ∙ ap (λ (l : List Spot). 32 * rangeCount z l (a .first) (a .len)) seen-is
-        ∙ ap (λ (n : ℕ). 32 * n) (sym (picks (i .proof) (rangeCount z (spots from) (a .first) (a .len)) 0 h)))
-        (λ h. ap length (skips (i .proof) _ [] h) ∙ ap (λ (n : ℕ). 32 * n) (sym (skips (i .proof) (rangeCount z (spots from) (a .first) (a .len)) 0 h)))
+        ap length proof-is
+        ∙ length-proof z s (after .bytes) roots from a (i .proof) (x .solid) stage-long (x .diskroots) roots-long read-valid few-read
+        (λ h. within-read h)
+      where
+        within-read : i .proof ≡ true → Within z (length (spots from)) (a .first) (a .len)
+        within-read h =
+            let g = ranged h in
+            record {
+              below = omega (arith, g .inside .below, count-is);
+              one = g .inside .one;
+              some = g .some;
+              first = g .first;
+              many = g .whole;
+            }
 
     room : 72 + 32 * proofCount z (i .proof) from a + pick (reads op) (a .len) 0 ≤ length (drop (t .progress .written) (t .output))
     unfolding outputCount recordCount
     room = omega (arith, pass .room, x .output, length-drop (t .progress .written) (t .output))
 
-    shows : Shows z (s .disk) (stageAfter z (s .copies) q (s .disk) input r (t .progress) (t .stage) .bytes) (r .seen) (i .proof) (reads (r .op))
+    shows : let g = stageAfter z (s .copies) q (s .disk) input r (t .progress) (t .stage) in
+        Shows z (s .roots) (rootsAfter z r (t .progress) g (t .roots)) (s .disk) (g .bytes) (r .seen) (i .proof) (reads (r .op))
         (r .args .first) (r .args .len) (r .hashes) (drop (t .progress .written) (t .output))
     unfolding runs placed after op a from
     shows =
         let left = drop (t .progress .written) (t .output) in
-        subst (λ (g : Staging). Shows z (s .disk) (g .bytes) (r .seen) (i .proof) (reads (r .op)) (r .args .first) (r .args .len) (r .hashes) left)
-        (sym after-is)
-        (subst (λ (y : Said). Shows z (s .disk) (after .bytes) (r .seen) (i .proof) (reads (y .op)) (y .args .first) (y .args .len) (y .hashes) left) (sym says)
-        (record { lies = seen-lies; inside = inside; ranged = ranged; count = proof-long; room = room }))
+        subst (λ (g : Staging). Shows z (s .roots) (rootsAfter z r (t .progress) g (t .roots)) (s .disk) (g .bytes) (r .seen) (i .proof) (reads (r .op))
+        (r .args .first) (r .args .len) (r .hashes) left) (sym after-is)
+        (subst (λ (l : List ℕ). Shows z (s .roots) l (s .disk) (after .bytes) (r .seen) (i .proof) (reads (r .op)) (r .args .first) (r .args .len)
+        (r .hashes) left) (sym roots-are)
+        (subst (λ (y : Said). Shows z (s .roots) roots (s .disk) (after .bytes) (r .seen) (i .proof) (reads (y .op)) (y .args .first) (y .args .len)
+        (y .hashes) left) (sym says)
+        (record { known = roots-known; lies = seen-lies; inside = inside; ranged = ranged; count = proof-long; room = room })))
 
     -- all that an instruction that can run asks
-    pub runs-right : s .terms .budget < 2 ^ 64 → Runs z (s .copies) q (s .disk) input r (i .proof) t
+    pub runs-right : s .terms .budget < 2 ^ 64 → Runs z (s .copies) q (s .roots) (s .disk) input r (i .proof) t
     unfolding runs op a from
     runs-right small = record {
       stands = stands;
       source = source-within;
+      rehashes = rehash-after;
       read = read-after;
       shows = shows;
       ran = omega (arith, left-going s t (x .going) .1, within-count z s t x);
@@ -268,29 +329,33 @@ module _ (z : ℕ) (s : Setting) (t : Turn) (input : List ℕ) (i : Instruction)
         ∙ sym (skips (eqb (outputCount op a) 0) [] _ (ne-eqb _ 0 (λ h. some-read u (sym (count-read op a u) ∙ h)))))
         (λ u. skips (reads op) _ [] u ∙ sym (picks (eqb (outputCount op a) 0) [] _ (eq-eqb _ 0 (count-change op a u))))
 
-    record-is : recordAfter z q (s .disk) r (i .proof) after
-        ≡ successBytes z s (t .progress) (i .proof) from op a (cost (s .terms .head .length) (s .terms .prices) op (a .len))
+    record-is : recordAfter z (keptRoot (s .roots) roots) q (s .disk) r (i .proof) after
+        ≡ successBytes z s reader (t .progress) (i .proof) from op a (cost (s .terms .head .length) (s .terms .prices) op (a .len))
         (newSize (t .progress .size) op a) after
     unfolding recordAfter runs placed successBytes runningPair parentSpots withRunning withStaged outputCount op a from
     record-is =
         let own-cost = cost (s .terms .head .length) (s .terms .prices) op (a .len) in
         let size = newSize (t .progress .size) op a in
-        let root : List ℕ → ℕ → List ℕ = λ slots n. contractRoot z (s .disk) (after .bytes) (tab 0 (n / z) (spotOf slots (after .staged))) in
-        ap (λ (y : Said). recordBytes 0 (y .cost) (pairing (y .size) (root (q .slots) (y .size))) (y .hashes)
-        (shownProof z (i .proof) (s .disk) (after .bytes) (r .seen) (y .args .first) (y .args .len))
+        let kept-reader = keptRoot (s .roots) roots in
+        let rooted : (Spot → List ℕ) → List ℕ → ℕ → List ℕ = λ f slots n. contractRoot f (tab 0 (n / z) (spotOf slots (after .staged))) in
+        ap (λ (y : Said). recordBytes 0 (y .cost) (pairing (y .size) (rooted kept-reader (q .slots) (y .size))) (y .hashes)
+        (shownProof z (i .proof) kept-reader (s .disk) (after .bytes) (r .seen) (y .args .first) (y .args .len))
         (pick (reads (y .op)) (y .args .len) 0) (shownBytes z (reads (y .op)) (s .disk) (after .bytes) (r .seen) (y .args .first) (y .args .len))) says
-        ∙ ap (λ (b : Place). recordBytes 0 own-cost (pairing size (root (b .slots) size))
-        (proofCount z (i .proof) from a) (shownProof z (i .proof) (s .disk) (after .bytes) (r .seen) (a .first) (a .len)) (outputCount op a)
-        (shownBytes z (reads op) (s .disk) (after .bytes) (r .seen) (a .first) (a .len))) own
+        ∙ ap₂ (λ (f : Spot → List ℕ) (b : Place). recordBytes 0 own-cost (pairing size (rooted f (b .slots) size))
+        (proofCount z (i .proof) from a) (shownProof z (i .proof) kept-reader (s .disk) (after .bytes) (r .seen) (a .first) (a .len)) (outputCount op a)
+        (shownBytes z (reads op) (s .disk) (after .bytes) (r .seen) (a .first) (a .len))) reader-kept own
         ∙ ap₂ (λ (pr bs : List ℕ). recordBytes 0 own-cost
-        (runningPair z s (withStaged (withRunning (t .progress) size) (after .staged)) (after .bytes))
+        (runningPair z s reader (withStaged (withRunning (t .progress) size) (after .staged)))
         (proofCount z (i .proof) from a) pr (outputCount op a) bs) proof-is bytes-shown
 
-    pub ran-succeeds : ran z (s .copies) q (s .disk) input r (i .proof) t
+    pub ran-succeeds : ran z (s .copies) q (s .roots) (s .disk) input r (i .proof) t
         ≡ succeeding z s (i .proof) (opOf (i .name)) (argsOf (opOf (i .name)) (inputsOf i input)) t
-    unfolding ran progressAfter runs succeeding after op a from
+    unfolding ran progressAfter runs succeeding after roots op a from
     ran-succeeds =
         let laid : List ℕ → List ℕ = λ l. put (t .output) (t .progress .written) l in
-        ap (λ (g : Staging). turn (progressAfter r (t .progress) g) (g .bytes) (laid (recordAfter z q (s .disk) r (i .proof) g))) after-is
-        ∙ ap₂ (λ (y : Said) (l : List ℕ). turn (ranProgress (t .progress) (y .cost) (y .count) (y .size) (after .staged)) (after .bytes) (laid l))
+        let left : Staging → List ℕ → Turn = λ g l.
+        turn (progressAfter r (t .progress) g) (g .bytes) (laid (recordAfter z (keptRoot (s .roots) l) q (s .disk) r (i .proof) g)) l in
+        ap (λ (g : Staging). left g (rootsAfter z r (t .progress) g (t .roots))) after-is
+        ∙ ap (left after) roots-are
+        ∙ ap₂ (λ (y : Said) (l : List ℕ). turn (ranProgress (t .progress) (y .cost) (y .count) (y .size) (after .staged)) (after .bytes) (laid l) roots)
         says record-is

@@ -1,4 +1,4 @@
--- What is seen of a contract that stands, and of the parent as it is read now, lies within the areas. z is the sector size. Assumes nothing.
+-- A root is kept beside all that is seen of a contract that stands, and of the parent as it is read now. z is the sector size. Assumes nothing.
 use mathlib.Core.Path.{_≡_, refl, ap, _∙_}
 use mathlib.Core.Bool.{true}
 use mathlib.Core.List.{List, [], _∷_}
@@ -14,7 +14,7 @@ use Rattle.host.specs.Order.{placeInOrder}
 use Rattle.rules.specs.View.{spotOf, committedSpots}
 use Rattle.rules.proofs.Laws.Sizes.{place-size}
 use Rattle.rules.proofs.Laws.Spots.{length-each}
-use Rattle.view.specs.Seen.{holds, lies, spotsOf, Lies}
+use Rattle.view.specs.Seen.{holds, lies, spotsOf, Known}
 use Rattle.view.proofs.Laws.Roots.{seen-count}
 use Rattle.step.specs.Asks.{Stands, Reads}
 use Rattle.host.specs.declared.Place.{Place}
@@ -34,14 +34,16 @@ unfolding every each lies
 each-lies z disk stage [] h = refl
 each-lies z disk stage (n ∷ l) h = both-join _ _ (both-left _ _ h) (each-lies z disk stage l (both-right _ _ h))
 
-pub committed-lies : (z : ℕ) (disk stage : List ℕ) (p : Place) (v : Seen) → spotsOf v ≡ committedSpots z p → Stands z disk p → Lies z disk stage v
+pub committed-known : (z : ℕ) (diskroots stageroots : List ℕ) (p : Place) (v : Seen) → spotsOf v ≡ committedSpots z p → Stands z diskroots p
+    → Known diskroots stageroots v
 unfolding committedSpots
-committed-lies z disk stage p v e s = record {
-  size = s .size;
+committed-known z diskroots stageroots p v e s = record {
   few = omega (arith, seen-count v, ap length e, length-each (committed z p), few-committed z p (s .order));
-  spots = ap (every (lies z disk stage)) e ∙ each-lies z disk stage (committed z p) (s .slots);
+  spots = ap (every (lies 32 diskroots stageroots)) e ∙ each-lies 32 diskroots stageroots (committed z p) (s .slots);
 }
 
-pub running-lies : (z : ℕ) (disk stage : List ℕ) (p : Place) (g : Progress) (v : Seen) → spotsOf v ≡ tab 0 (g .size / z) (spotOf (p .slots) (g .staged))
-    → v .count ≡ g .size / z → Reads z disk stage p g → Lies z disk stage v
-running-lies z disk stage p g v e n r = record { size = r .size; few = omega (arith, r .few); spots = ap (every (lies z disk stage)) e ∙ r .spots }
+pub running-known : (z : ℕ) (diskroots stageroots : List ℕ) (p : Place) (g : Progress) (v : Seen)
+    → spotsOf v ≡ tab 0 (g .size / z) (spotOf (p .slots) (g .staged)) → v .count ≡ g .size / z → Reads z diskroots stageroots p g
+    → Known diskroots stageroots v
+running-known z diskroots stageroots p g v e n r =
+    record { few = omega (arith, r .few); spots = ap (every (lies 32 diskroots stageroots)) e ∙ r .spots }

@@ -1,7 +1,7 @@
 -- `step::pairs::running_root` meets its contract. Assumes nothing.
 use mathlib.Core.Path.{ap, _∙_}
 use Rattle.rules.specs.Roots.{contractRoot}
-use Rattle.step.proofs.Laws.Sights.{running-lies}
+use Rattle.step.proofs.Laws.Sights.{running-known}
 use borrow.Author.Needs.{needs}
 use Rattle.step.proofs.pairs.running_root.Statement.{statement}
 use Rattle.step.proofs.pairs.running_root.Tie as tie
@@ -10,10 +10,10 @@ parent-seen-requires : tie.Need-parent-seen-requires
 parent-seen-requires c κs = search needs
 
 contract-root-requires : tie.Need-contract-root-requires
-contract-root-requires c κs = running-lies _ _ _ _ _ _ (c .parent-seen .ensures .0) (c .parent-seen .ensures .1) (c .before .before .before .before .pre)
+contract-root-requires c κs = running-known _ _ _ _ _ _ (c .parent-seen .ensures .0) (c .parent-seen .ensures .1) (c .before .before .before .before .pre)
 
 returns : tie.Need-returns
-returns c = c .contract-root .ensures ∙ ap (contractRoot _ _ _) (c .before .parent-seen .ensures .0)
+returns c = c .contract-root .ensures ∙ ap (contractRoot _) (c .before .parent-seen .ensures .0)
 
 pub running-root-spec : {M : Type 1} → statement M
 running-root-spec = tie.close (tie.spec parent-seen-requires contract-root-requires returns)

@@ -1,13 +1,20 @@
 -- `step::taking::taken` meets its contract: a failure by its number, or what the plan leaves. Assumes nothing.
-use mathlib.Core.Path.{_≡_, _∙_}
+use mathlib.Core.Path.{_≡_, refl, sym, ap, _∙_}
+use mathlib.Core.List.{List}
+use Prim.Native.Nat.{ℕ}
 use lib.ListN.{length}
 use Rattle.sia.proofs.Laws.Known.{known-instruction}
-use Rattle.rules.specs.View.{setting, parent}
+use Rattle.rules.specs.View.{Setting, setting, Turn, turn, parent}
+use Rattle.rules.specs.Roots.{keptRoot, rootAt}
 use Rattle.rules.specs.Inputs.{inputsOf}
 use Rattle.rules.specs.Plan.{judged}
+use Rattle.rules.specs.declared.Spot.{Spot}
+use Rattle.plan.specs.Planned.{said, planOf}
+use Rattle.plan.proofs.Laws.Planned.{plan-same}
+use Rattle.step.proofs.Laws.Readers.{reads-kept}
 use Rattle.step.proofs.Laws.Known.{known-terms}
 use Rattle.step.proofs.Laws.Planned.{number-is, runs-right, ran-succeeds}
-use Rattle.step.proofs.Laws.Taking.{parent-stands, failure-fits, step-fails, step-succeeds}
+use Rattle.step.proofs.Laws.Taking.{plans, plans-good, parent-stands, failure-fits, step-fails, step-succeeds}
 use borrow.Author.Needs.{needs}
 use Rattle.step.proofs.taking.taken.Statement.{statement}
 use Rattle.step.proofs.taking.taken.Tie as tie
@@ -15,27 +22,47 @@ use Rattle.step.proofs.taking.taken.Tie as tie
 -- ---- the places of the calls, and what is known there
 
 abbrev at-start : tie.After-planned → tie.Start
-at-start c = c .before .before .before .before .before
+at-start c = c .before .before .before .before .before .before .before .before
 
 abbrev at-planned : tie.After-place-of → tie.After-planned
 at-planned c = c .before .before .before
 
-operands : (s : tie.Start) → length (s .args .i .operands) ≡ 4
-operands s = known-instruction (s .args .i) _ (s .good .1 .1 .1 .1 .1 .1 .1 .0) .1
+-- the setting and the turn
+abbrev the-set : tie.Start → Setting
+the-set s = let a = s .args in setting (a .sectors) (a .copies) (a .places) (a .terms) (a .disk .now) (a .diskroots .now)
 
-number : (c : tie.After-place-of) → let a = at-start (at-planned c) .args in
+abbrev the-turn : tie.Start → Turn
+the-turn s = let a = s .args in turn (a .progress) (a .stage .now) (a .output .now) (a .stageroots .now)
+
+operands : (s : tie.Start) → length (s .args .i .operands) ≡ 4
+operands s = known-instruction (s .args .i) _ (s .good .1 .1 .1 .1 .1 .1 .1 .1 .0) .1
+
+-- the plan, of the setting as it is, and with its roots
+planned-is : (c : tie.After-planned) → let s = at-start c in
+    said (c .planned .result) ≡ planOf (s .args .z) (the-set s) (rootAt (s .args .z) (the-set s) (the-turn s)) (s .args .progress) (s .args .i) (s .args .input .now)
+planned-is c =
+    let s = at-start c in
+    let a = s .args in
+    c .planned .ensures
+    ∙ plan-same (a .z) (the-set s) (keptRoot (a .diskroots .now) (a .stageroots .now)) (a .progress) (a .i) (a .input .now)
+    ∙ ap (λ (f : Spot → List ℕ). planOf (a .z) (the-set s) f (a .progress) (a .i) (a .input .now))
+    (sym (reads-kept (a .z) (the-set s) (a .stage .now) (a .stageroots .now) refl))
+
+number : (c : tie.After-place-of) → let s = at-start (at-planned c) in
     at-planned c .planned .result .number
-    ≡ judged (a .z) (setting (a .sectors) (a .copies) (a .places) (a .terms) (a .disk .now)) (a .progress) (a .i) (inputsOf (a .i) (a .input .now))
+    ≡ judged (s .args .z) (the-set s) (rootAt (s .args .z) (the-set s) (the-turn s)) (s .args .progress) (s .args .i) (inputsOf (s .args .i) (s .args .input .now))
 unfolding parent
 number c =
     let p = at-planned c in
     let s = at-start p in
-    number-is _ _ _ _ (s .args .i) _ _ (s .pre) (c .place-of .ensures) (operands s) (p .planned .ensures)
+    number-is _ (the-set s) (the-turn s) _ (s .args .i) _ _ (s .pre) (c .place-of .ensures) (operands s) (planned-is p)
 
 -- ---- the needs
 
 planned-requires : tie.Need-planned-requires
-planned-requires c κs = search needs
+planned-requires c κs =
+    let s = c .before .before .before .before .before .before .before in
+    (plans _ (the-set s) (the-turn s) _ (s .pre), (plans-good _ (the-set s) (the-turn s) _ (s .pre), s .pre .input))
 
 place-of-requires : tie.Need-place-of-requires
 place-of-requires c κs = search needs
@@ -45,10 +72,13 @@ unfolding parent
 fail-requires c κs =
     let place = c .before .before .before in
     let s = at-start (at-planned place) in
-    (parent-stands _ _ _ _ (s .pre) (place .place-of .ensures), failure-fits _ _ _ _ (s .pre))
+    (parent-stands _ (the-set s) (the-turn s) _ (s .pre) (place .place-of .ensures), failure-fits _ (the-set s) (the-turn s) _ (s .pre))
 
 same-length : tie.Need-same-length
 same-length c = search needs
+
+same-length-2 : tie.Need-same-length-2
+same-length-2 c = search needs
 
 returns : tie.Need-returns
 unfolding parent
@@ -58,35 +88,38 @@ returns c =
     let place = test .before .before in
     let s = at-start (at-planned place) in
     let f = failed .fail .ensures in
-    step-fails _ _ _ (s .args .i) _ (number place) (test .if1 .taken) (place .place-of .ensures) (f .0) (f .1)
+    step-fails _ (the-set s) (the-turn s) (s .args .i) _ refl (number place) (test .if1 .taken) (place .place-of .ensures) (f .0) (f .1)
 
 succeed-requires : tie.Need-succeed-requires
 unfolding parent
 succeed-requires c κs =
-    let test = c .before .before in
+    let test = c .before .before .before in
     let place = test .before .before in
     let p = at-planned place in
     let s = at-start p in
-    runs-right _ _ _ _ (s .args .i) _ _ (s .pre) (place .place-of .ensures) (operands s) (p .planned .ensures) (test .if1 .left)
+    runs-right _ (the-set s) (the-turn s) _ (s .args .i) _ _ (s .pre) (place .place-of .ensures) (operands s) (planned-is p) (test .if1 .left)
     (known-terms (s .args .terms) _ (s .good .1 .1 .1 .1 .0) .0)
-
-same-length-2 : tie.Need-same-length-2
-same-length-2 c = search needs
 
 same-length-3 : tie.Need-same-length-3
 same-length-3 c = search needs
 
+same-length-4 : tie.Need-same-length-4
+same-length-4 c = search needs
+
+same-length-5 : tie.Need-same-length-5
+same-length-5 c = search needs
+
 returns-2 : tie.Need-returns-2
 unfolding parent
 returns-2 c =
-    let done = c .before .before .before .before in
-    let test = done .before .before .before in
+    let done = c .before .before .before .before .before .before in
+    let test = done .before .before .before .before in
     let place = test .before .before in
     let p = at-planned place in
     let s = at-start p in
-    step-succeeds _ _ _ (s .args .i) _ (number place) (test .if1 .left)
+    step-succeeds _ (the-set s) (the-turn s) (s .args .i) _ refl (number place) (test .if1 .left)
     (done .succeed .ensures
-    ∙ ran-succeeds _ _ _ _ (s .args .i) _ _ (s .pre) (place .place-of .ensures) (operands s) (p .planned .ensures) (test .if1 .left))
+    ∙ ran-succeeds _ (the-set s) (the-turn s) _ (s .args .i) _ _ (s .pre) (place .place-of .ensures) (operands s) (planned-is p) (test .if1 .left))
 
 pub taken-spec : {M : Type 1} → statement M
 taken-spec =
@@ -96,8 +129,10 @@ taken-spec =
     place-of-requires
     fail-requires
     same-length
+    same-length-2
     returns
     succeed-requires
-    same-length-2
     same-length-3
+    same-length-4
+    same-length-5
     returns-2)
