@@ -8,7 +8,7 @@ use lib.Dec.{leb}
 use Rattle.area.specs.Pick.{both}
 use Rattle.host.specs.Order.{inOrder}
 use Rattle.sia.specs.Empty.{noInstruction}
-use Rattle.rules.specs.View.{Setting, Turn, areasRight}
+use Rattle.rules.specs.View.{kept, Setting, Turn, areasRight}
 use Rattle.rules.specs.Inputs.{need}
 use Rattle.rules.specs.Run.{going}
 use Rattle.rules.specs.Facts.{Solid, Good}
@@ -22,13 +22,16 @@ pub record Ready (disk : List ℕ) (h : Host) (stage : List ℕ) : Type 0 where
   pub areas : areasRight h disk stage ≡ true
   pub live : h .program .active ≡ true
 
--- a program in order and its areas as stated: what instructions in turn ask
+-- a program in order and its areas as stated, and roots as they are kept, 32 bytes beside each slot: what instructions in turn ask
 pub record Runs (z : ℕ) (s : Setting) (t : Turn) (a : List ℕ) : Type 0 where
   pub solid : Solid z s
   pub good : Good z s (t .progress)
   pub input : length a ≡ s .terms .head .length
   pub stage : length (t .stage) ≡ s .copies * z
   pub output : length (t .output) ≡ s .terms .room
+  pub way : s .way ≡ kept
+  pub diskroots : length (s .roots) ≡ 2048
+  pub stageroots : length (t .roots) ≡ 512
 
 -- rules' `ready`, of terms and progress alone
 unfoldable pub readyWith : Terms → ℕ → Progress → Bool

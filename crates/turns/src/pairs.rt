@@ -1,11 +1,12 @@
-// The parent of an open program, and its two pairs: its size and root as committed, and as it is read now.
+// The parent of an open program, and its two pairs: its size and root as committed, and as it is read now, from the roots that are kept.
 ghost use mathlib.Core.Path.{_≡_};
 ghost use mathlib.Core.Bool.{true};
+ghost use mathlib.Core.List.{[]};
 ghost use Rattle.host.specs.Places.{whose};
 ghost use Rattle.host.specs.Order.{inOrder};
-ghost use Rattle.rules.specs.View.{settingOf, diskRight};
+ghost use Rattle.rules.specs.View.{settingOf};
+ghost use Rattle.rules.specs.Roots.{keptRoot};
 ghost use Rattle.rules.specs.Record as Says;
-ghost use Rattle.turns.specs.Asks.{Ready};
 use host::Host;
 use host::Place;
 use rules::Pair;
@@ -23,13 +24,13 @@ pub fn parent(host: Host) -> Place
 }
 
 // What the program started from; 0 and zeros in read-only mode.
-pub fn starting_pair(host: Host, disk: &[u8]) -> Pair
+pub fn starting_pair(host: Host) -> Pair
     requires { ⌜ inOrder host ≡ true ⌝ }
-    requires { ⌜ diskRight host (now disk) ≡ true ⌝ }
-    ensures { λ r. ⌜ r ≡ Says.startingPair (host .sector) (settingOf host (now (disk .entry))) ⌝ }
+    ensures { λ r. ⌜ r ≡ Says.startingPair (host .sector) (settingOf host []) ⌝ }
 {
     let parent = parent(host);
-    let root = step::committed_root(host.sector, disk, parent);
+    let diskroots = host.diskroots;
+    let root = step::committed_root(host.sector, &diskroots, parent);
     Pair {
         size: parent.size,
         root,
@@ -37,14 +38,17 @@ pub fn starting_pair(host: Host, disk: &[u8]) -> Pair
 }
 
 // What it has reached.
-pub fn running_pair<'a>(host: Host, disk: &'a [u8], stage: &'a [u8]) -> Pair
-    requires { ⌜ Ready (now disk) host (now stage) ⌝ }
-    ensures { λ r. ⌜ r ≡ Says.runningPair (host .sector) (settingOf host (now (disk .entry))) (host .program .progress) (now (stage .entry)) ⌝ }
+pub fn running_pair(host: Host) -> Pair
+    requires { ⌜ inOrder host ≡ true ⌝ }
+    requires { ⌜ host .program .active ≡ true ⌝ }
+    ensures { λ r. ⌜ r ≡ Says.runningPair (host .sector) (settingOf host []) (keptRoot (host .diskroots) (host .stageroots)) (host .program .progress) ⌝ }
 {
     let program = host.program;
     let progress = program.progress;
     let parent = parent(host);
-    let root = step::running_root(host.sector, disk, stage, parent, progress);
+    let diskroots = host.diskroots;
+    let stageroots = host.stageroots;
+    let root = step::running_root(host.sector, &diskroots, &stageroots, parent, progress);
     Pair {
         size: progress.size,
         root,

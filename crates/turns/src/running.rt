@@ -26,22 +26,25 @@ fn ready(terms: Terms, k: u64, progress: Progress) -> bool
 }
 
 // At most as many as the head has.
-pub fn run(
+pub fn run<'a>(
     z: u64,
     sectors: u64,
     copies: u64,
     places: [Place; 8],
     terms: Terms,
-    disk: &[u8],
+    diskroots: &'a [u8],
+    disk: &'a [u8],
     input: &[u8],
     k: u64,
     start: Progress,
+    stageroots: &mut [u8],
     stage: &mut [u8],
     output: &mut [u8],
 ) -> Progress
-    requires { ⌜ Runs z (setting sectors copies places terms (now disk)) (turn start (now stage) (now output)) (now input) ⌝ }
-    ensures { λ r. ⌜ turn r (now (stage .exit)) (now (output .exit)) ≡
-        Says.run z (setting sectors copies places terms (now (disk .entry))) (now (input .entry)) k (turn start (now (stage .entry)) (now (output .entry))) ⌝ }
+    requires { ⌜ Runs z (setting sectors copies places terms (now disk) (now diskroots)) (turn start (now stage) (now output) (now stageroots)) (now input) ⌝ }
+    ensures { λ r. ⌜ turn r (now (stage .exit)) (now (output .exit)) (now (stageroots .exit)) ≡
+        Says.run z (setting sectors copies places terms (now (disk .entry)) (now (diskroots .entry))) (now (input .entry)) k
+        (turn start (now (stage .entry)) (now (output .entry)) (now (stageroots .entry))) ⌝ }
 {
     let mut progress = start;
     while ready(terms, k, progress) {
@@ -51,9 +54,11 @@ pub fn run(
             copies,
             places,
             terms,
+            diskroots,
             disk,
             input,
             progress,
+            stageroots,
             stage,
             output,
         );

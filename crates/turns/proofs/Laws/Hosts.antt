@@ -2,27 +2,28 @@
 use mathlib.Core.Path.{_≡_, refl, sym, ap, _∙_, subst}
 use mathlib.Core.Bool.{true}
 use mathlib.Core.List.{List, [], _∷_}
-use Prim.Native.Nat.{ℕ, _-_, _*_, _/_, _≤_}
-use native.Mathlib.Nat.{mul-le-mul-right, le-of-mul-le-mul-right}
+use Prim.Native.Nat.{ℕ, _*_}
 use native.Mathlib.Omega.{arith}
-use lib.ListN.{length}
-use borrow.Author.Tests.{eqb-true}
+use lib.ListN.{length, length-replicate}
+use borrow.Author.Tests.{eqb-true, eq-eqb}
 use Rattle.area.specs.Pick.{pick}
-use Rattle.area.proofs.Laws.Pick.{by, picks, skips, both-left, both-right}
-use Rattle.area.proofs.Laws.Slots.{some}
-use Rattle.sia.specs.Encode.{every, within}
+use Rattle.area.specs.Area.{zeros}
+use Rattle.area.proofs.Laws.Pick.{by, picks, skips, both-left, both-right, both-join}
+use Rattle.sia.specs.Encode.{every}
 use Rattle.host.specs.Empty.{noPlace}
 use Rattle.host.specs.Places.{hasId, whose, taken}
 use Rattle.host.specs.Order.{placeInOrder, inOrder}
 use Rattle.host.proofs.Laws.Order.{order-facts}
-use Rattle.rules.specs.View.{settingOf, turnOf, diskRight, areasRight, parent, parentSpots}
+use Rattle.rules.specs.View.{settingBy, settingOf, turnOf, diskRight, areasRight, parent, parentSpots}
+use Rattle.rules.specs.Roots.{keptRoot, rootBy, rootOf}
+use Rattle.rules.specs.Record.{startingPair, runningPair}
 use Rattle.rules.specs.Calls.{outputRight}
-use Rattle.rules.proofs.Laws.Effects.{whole-sectors}
-use Rattle.rules.proofs.Laws.Spots.{whose-every, parent-valid}
+use Rattle.rules.proofs.Laws.Spots.{whose-every}
 use Rattle.rules.proofs.Laws.Taking.{order-good, order-solid, areas-stage}
 use Rattle.view.specs.Seen.{holds}
-use Rattle.view.proofs.Callers.{slots-hold, every-lies}
+use Rattle.view.proofs.Callers.{slots-hold}
 use Rattle.step.specs.Asks.{Stands, Reads}
+use Rattle.step.proofs.Laws.Planned.{reads-good}
 use Rattle.turns.specs.Asks.{Ready, Runs}
 use Rattle.host.specs.declared.Place.{Place}
 use Rattle.host.specs.declared.Host.{Host}
@@ -48,46 +49,59 @@ pub areas-disk : (h : Host) (disk stage : List ℕ) → areasRight h disk stage 
 unfolding areasRight
 areas-disk h disk stage e = both-left _ _ e
 
--- the contract of any id stands
-pub stands : (h : Host) (disk : List ℕ) (id : List ℕ) {p : Place} → p ≡ whose id (h .places) → inOrder h ≡ true → diskRight h disk ≡ true
-    → Stands (h .sector) disk p
-stands h disk id e o d =
+-- the contract of any id stands: a root is kept beside each of its slots
+pub stands : (h : Host) (id : List ℕ) {p : Place} → length (h .diskroots) ≡ 2048 → p ≡ whose id (h .places) → inOrder h ≡ true
+    → Stands (h .sector) (h .diskroots) p
+stands h id long e o =
     let z = h .sector in
-    let f = order-facts h o .contracts in
-    subst (Stands z disk) (sym e) (record {
-      size = order-facts h o .size;
-      order = whose-order z id (h .places) (f .each);
-      slots = whose-every (holds z disk) z id (h .places) (slots-hold z disk (h .disk) (taken z (h .places)) (disk-long h disk d) (f .below));
+    let f = order-facts h o in
+    let held = slots-hold 32 (h .diskroots) (h .disk) (taken z (h .places)) (omega (arith, long, f .diskMost)) (f .contracts .below) in
+    subst (Stands z (h .diskroots)) (sym e) (record {
+      size = f .size;
+      order = whose-order z id (h .places) (f .contracts .each);
+      slots = whose-every (holds 32 (h .diskroots)) z id (h .places) held;
     })
 
--- the parent is read within the areas
-pub reads : (h : Host) (disk stage : List ℕ) {p : Place} → length (h .program .progress .staged) ≡ 64 → p ≡ whose (h .program .terms .head .contract) (h .places) → Ready disk h stage
-    → Reads (h .sector) disk stage p (h .program .progress)
-unfolding settingOf parentSpots parent
-reads h disk stage long e r =
-    let z = h .sector in
-    let o = order-facts h (r .order) in
-    let g = order-good h disk (r .order) (r .live) long in
-    let s = order-solid h disk stage (r .order) (r .areas) in
-    let w = whole-sectors z (h .program .progress .size) (g .orderly .whole) in
-    let most : h .disk * z ≤ 64 * z = mul-le-mul-right {m = h .disk} {n = 64} z (o .diskMost) in
-    let few : h .program .progress .size / z ≤ 64 =
-    le-of-mul-le-mul-right {m = h .program .progress .size / z} {n = 64} {k = z} (omega (arith, w, g .orderly .within, most)) (some z (o .size)) in
-    subst (λ (q : Place). Reads z disk stage q (h .program .progress)) (sym e) (record {
-      size = o .size;
-      few = few;
-      spots = every-lies z (settingOf h disk) disk stage (s .disk) (areas-stage h disk stage (r .areas)) _
-          (parent-valid z (settingOf h disk) (h .program .progress) s (g .orderly .staged) (omega (arith, few, long)));
-    })
+-- areas of zeros, of the lengths that a host states: kept roots look at no byte of them
+blank-right : (h : Host) → areasRight h (zeros (h .disk * h .sector)) (zeros (h .stage * h .sector)) ≡ true
+unfolding areasRight diskRight
+blank-right h = both-join _ _ (eq-eqb _ _ (length-replicate {A = ℕ} (h .disk * h .sector) 0)) (eq-eqb _ _ (length-replicate {A = ℕ} (h .stage * h .sector) 0))
+
+-- the parent is read with a root kept beside each of its sectors
+pub reads : (h : Host) {p : Place} → length (h .program .progress .staged) ≡ 64 → length (h .diskroots) ≡ 2048 → length (h .stageroots) ≡ 512
+    → p ≡ whose (h .program .terms .head .contract) (h .places) → inOrder h ≡ true → h .program .active ≡ true
+    → Reads (h .sector) (h .diskroots) (h .stageroots) p (h .program .progress)
+unfolding settingBy parent
+reads h long d s e o live =
+    let disk = zeros (h .disk * h .sector) in
+    let stage = zeros (h .stage * h .sector) in
+    reads-good (h .sector) (settingOf h disk) (h .program .progress) (h .diskroots) (h .stageroots) _
+    (order-solid h disk stage o (blank-right h)) (order-good h disk o live long) d s e
 
 -- instructions in turn on a host in order, with its areas as stated
-pub turns-right : (h : Host) (disk stage input output : List ℕ) → length (h .program .progress .staged) ≡ 64 → Ready disk h stage → length input ≡ h .program .terms .head .length
-    → outputRight h output ≡ true → Runs (h .sector) (settingOf h disk) (turnOf h stage output) input
-unfolding outputRight turnOf settingOf
-turns-right h disk stage input output long r i o = record {
+pub turns-right : (h : Host) (disk stage input output : List ℕ) → length (h .program .progress .staged) ≡ 64 → length (h .diskroots) ≡ 2048
+    → length (h .stageroots) ≡ 512 → Ready disk h stage → length input ≡ h .program .terms .head .length → outputRight h output ≡ true
+    → Runs (h .sector) (settingOf h disk) (turnOf h stage output) input
+unfolding outputRight turnOf settingBy
+turns-right h disk stage input output long d s r i o = record {
   solid = order-solid h disk stage (r .order) (r .areas);
   good = order-good h disk (r .order) (r .live) long;
   input = i;
   stage = areas-stage h disk stage (r .areas);
   output = eqb-true _ _ o;
+  way = refl;
+  diskroots = d;
+  stageroots = s;
 }
+
+-- ---- kept roots look at no area
+
+pub starting-any : (h : Host) (disk : List ℕ) → startingPair (h .sector) (settingOf h []) ≡ startingPair (h .sector) (settingOf h disk)
+unfolding startingPair parent settingBy rootOf rootBy
+starting-any h disk = refl
+
+pub running-any : (h : Host) (disk stage : List ℕ) → let s = settingOf h disk in
+    runningPair (h .sector) (settingOf h []) (keptRoot (h .diskroots) (h .stageroots)) (h .program .progress)
+    ≡ runningPair (h .sector) s (rootOf (h .sector) s stage (h .stageroots)) (h .program .progress)
+unfolding runningPair parentSpots parent settingBy rootOf rootBy
+running-any h disk stage = refl

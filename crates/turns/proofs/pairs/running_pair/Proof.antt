@@ -3,9 +3,9 @@ use mathlib.Core.Path.{ap, _∙_}
 use mathlib.Core.List.{List}
 use Prim.Native.Nat.{ℕ, _/_}
 use Rattle.area.specs.Area.{tab}
-use Rattle.host.proofs.Laws.Lengths.{hosted}
-use Rattle.rules.specs.View.{settingOf, parent, spotOf, parentSpots}
-use Rattle.rules.specs.Roots.{contractRoot}
+use Rattle.host.proofs.Laws.Lengths.{hosted, disk-rooted, stage-rooted}
+use Rattle.rules.specs.View.{settingBy, parent, spotOf, parentSpots}
+use Rattle.rules.specs.Roots.{keptRoot, contractRoot}
 use Rattle.rules.specs.Record.{pairing, runningPair}
 use Rattle.turns.proofs.Laws.Hosts.{reads}
 use Rattle.host.specs.declared.Place.{Place}
@@ -16,21 +16,30 @@ use Rattle.turns.proofs.pairs.running_pair.Tie as tie
 parent-requires : tie.Need-parent-requires
 parent-requires c κs = search needs
 
+slice-aggregate-running-root : tie.Need-slice-aggregate-running-root
+slice-aggregate-running-root c = search needs
+
+slice-aggregate-running-root-2 : tie.Need-slice-aggregate-running-root-2
+slice-aggregate-running-root-2 c = search needs
+
 running-root-requires : tie.Need-running-root-requires
 running-root-requires c κs =
-    let program = c .before .before in
-    let start = program .before .before .before in
-    reads (start .args .host) _ _ (hosted (start .args .host) _ (start .good .0)) (c .parent .ensures) (start .pre)
+    let found = c .before .before .before .before in
+    let s = found .before .before .before in
+    let h = s .args .host in
+    reads h (hosted h _ (s .good .0)) (disk-rooted h _ (s .good .0)) (stage-rooted h _ (s .good .0)) (found .parent .ensures) (s .pre .0) (s .pre .1)
 
 returns : tie.Need-returns
-unfolding runningPair parentSpots parent settingOf
+unfolding runningPair parentSpots parent settingBy
 returns c =
-    let program = c .before .before .before in
-    let a = program .before .before .before .args in
-    let z = a .host .sector in
-    let p = a .host .program .progress in
-    let root : Place → List ℕ = λ q. contractRoot z (a .disk .now) (a .stage .now) (tab 0 (p .size / z) (spotOf (q .slots) (p .staged))) in
-    ap (pairing (p .size)) (c .running-root .ensures ∙ ap root (c .before .parent .ensures))
+    let found = c .before .before .before .before .before in
+    let h = found .before .before .before .args .host in
+    let z = h .sector in
+    let p = h .program .progress in
+    let root : Place → List ℕ = λ q. contractRoot (keptRoot (h .diskroots) (h .stageroots)) (tab 0 (p .size / z) (spotOf (q .slots) (p .staged))) in
+    ap (pairing (p .size)) (c .running-root .ensures ∙ ap root (found .parent .ensures))
 
 pub running-pair-spec : {M : Type 1} → statement M
-running-pair-spec = tie.close (tie.spec parent-requires running-root-requires returns)
+running-pair-spec =
+    tie.close
+    (tie.spec parent-requires slice-aggregate-running-root slice-aggregate-running-root-2 running-root-requires returns)
