@@ -18,6 +18,8 @@ fn last_i(field: u64) -> u64 {
         16 => 31,
         19..=23 => 31,
         24 => 6,
+        26 => 63,
+        27 => 15,
         _ => u64::MAX,
     }
 }
@@ -29,6 +31,7 @@ fn last_j(field: u64) -> u64 {
         5 => 63,
         19 => 15,
         21..=22 => 3,
+        26..=27 => 31,
         _ => u64::MAX,
     }
 }
@@ -37,7 +40,7 @@ fn last_j(field: u64) -> u64 {
 fn most(field: u64) -> u64 {
     match field {
         2 | 6 | 11 | 23 => 1,
-        3 | 5 | 13 | 16 | 19 => 255,
+        3 | 5 | 13 | 16 | 19 | 26 | 27 => 255,
         24 => 65_535,
         _ => u64::MAX,
     }
@@ -45,7 +48,7 @@ fn most(field: u64) -> u64 {
 
 // Whether there is such a field, and i, j and the value are within its limits.
 pub fn fits(field: u64, i: u64, j: u64, value: u64) -> bool {
-    if 25 < field {
+    if 27 < field {
         return false;
     }
     if last_i(field) < i {
@@ -72,6 +75,16 @@ pub fn poked(host: Host, field: u64, i: u64, j: u64, value: u64) -> Host {
         0 => after.disk = value,
         1 => after.stage = value,
         25 => after.sector = value,
+        26 => {
+            let roots = host.diskroots;
+            let bytes = in_2048(roots, root_byte(i, j), value);
+            after.diskroots = bytes;
+        }
+        27 => {
+            let roots = host.stageroots;
+            let bytes = in_512(roots, root_byte(i, j), value);
+            after.stageroots = bytes;
+        }
         2..=5 => {
             let places = host.places;
             let ps = in_places(places, field, i, j, value);
@@ -84,6 +97,17 @@ pub fn poked(host: Host, field: u64, i: u64, j: u64, value: u64) -> Host {
         }
     }
     after
+}
+
+// Where byte j of the root kept beside slot i stands; behind every array where there is no such byte.
+fn root_byte(i: u64, j: u64) -> u64 {
+    if 63 < i {
+        return u64::MAX;
+    }
+    if 31 < j {
+        return u64::MAX;
+    }
+    32 * i + j
 }
 
 fn in_places(places: [Place; 8], field: u64, i: u64, j: u64, value: u64) -> [Place; 8] {
@@ -276,6 +300,22 @@ fn in_32(bytes: [u8; 32], i: u64, value: u64) -> [u8; 32] {
 fn in_64(bytes: [u8; 64], i: u64, value: u64) -> [u8; 64] {
     let mut b = bytes;
     if i < 64 {
+        b[i as usize] = low8(value);
+    }
+    b
+}
+
+fn in_512(bytes: [u8; 512], i: u64, value: u64) -> [u8; 512] {
+    let mut b = bytes;
+    if i < 512 {
+        b[i as usize] = low8(value);
+    }
+    b
+}
+
+fn in_2048(bytes: [u8; 2048], i: u64, value: u64) -> [u8; 2048] {
+    let mut b = bytes;
+    if i < 2048 {
         b[i as usize] = low8(value);
     }
     b

@@ -1,5 +1,5 @@
-// The bytes of a report on an item of a script: the answer, the host, and digests of the whole areas. Each function writes from `at` on, and
-// answers where it ended. An inner crate: its caller proves what it requires.
+// The bytes of a report on an item of a script: the answer, the host, and digests of the whole areas and of the kept roots. Each function
+// writes from `at` on, and answers where it ended. An inner crate: its caller proves what it requires.
 ghost use mathlib.Core.Path.{_≡_};
 ghost use Prim.Native.Nat.{_+_, _≤_};
 ghost use lib.ListN.{length};
@@ -27,8 +27,8 @@ pub fn write(
     output: &[u8],
     report: &mut [u8],
 ) -> usize
-    requires { ⌜ 5256 ≤ length (now report) ⌝ }
-    ensures { λ r. ⌜ r ≤ 5256 ⌝ }
+    requires { ⌜ 5320 ≤ length (now report) ⌝ }
+    ensures { λ r. ⌜ r ≤ 5320 ⌝ }
 {
     let host = made.host;
     let one = answer(made, report);
@@ -37,7 +37,10 @@ pub fn write(
     digest(stage, report, two + 32);
     digest(input, report, two + 64);
     digest(output, report, two + 96);
-    two + 128
+    let diskroots = host.diskroots;
+    let stageroots = host.stageroots;
+    kept_roots(diskroots, stageroots, report, two + 128);
+    two + 192
 }
 
 // Eight bytes with a number.
@@ -180,6 +183,14 @@ fn program(p: Program, report: &mut [u8], at: usize) -> usize
     let seven = number(report, six, q.size);
     let staged = q.staged;
     slots(staged, 64, report, seven)
+}
+
+// The digests of the roots kept beside the slots of disk and stage.
+fn kept_roots(diskroots: [u8; 2048], stageroots: [u8; 512], report: &mut [u8], at: usize)
+    requires { ⌜ at + 64 ≤ length (now report) ⌝ }
+{
+    digest(&diskroots, report, at);
+    digest(&stageroots, report, at + 32);
 }
 
 // The 32-byte digest of an area.

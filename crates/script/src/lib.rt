@@ -1,6 +1,6 @@
 // Scripts of calls: an item of a script is one call, with the areas that it lends, a proof for the checker, or a number that is put into the
-// host's record to damage it. Playing an item makes the call, and reports what it answered, the host, and digests of the whole areas. Numbers are 8 bytes, the
-// lowest first.
+// host's record to damage it. Playing an item makes the call, and reports what it answered, the host, and digests of the whole areas and of
+// the kept roots. Numbers are 8 bytes, the lowest first.
 ghost use mathlib.Core.Path.{_≡_};
 ghost use Prim.Native.Nat.{_≤_};
 ghost use lib.ListN.{length};
@@ -12,8 +12,8 @@ mod shapes; // shapes.rt: where an item ends
 use host::Host;
 pub use reader::ITEM;
 
-// The most bytes of a report: the answer of `reached` with its root, three numbers, eight places with 64 slots each, an open program, four digests.
-pub const REPORT: usize = 5_256;
+// The most bytes of a report: the answer of `reached` with its root, three numbers, eight places with 64 slots each, an open program, six digests.
+pub const REPORT: usize = 5_320;
 
 // What an item did. Not fine: it is malformed, and nothing changed. `left` counts the bytes that the script may still use, `written` those of
 // the item's report.
