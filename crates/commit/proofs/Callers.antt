@@ -82,8 +82,8 @@ whose-small z id (p ∷ ps) some h =
     (λ e. omega (arith, ap (λ (q : Place). q .size / z) (whose-here id p ps e), place-size z p (both-left _ _ h) (has-held id p e) .1))
     (λ e. omega (arith, ap (λ (q : Place). q .size / z) (whose-on id p ps e), whose-small z id ps some (both-right _ _ h)))
 
--- slot n of an area of m whole sectors lies in it
-within : (z n m : ℕ) (a : List ℕ) → n < m → length a ≡ m * z → n * z + z ≤ length a
+-- slot n lies within an area that has m slots of z bytes
+within : (z n m : ℕ) (a : List ℕ) → n < m → m * z ≤ length a → n * z + z ≤ length a
 within z n m a lt e = omega (arith, slot-ends z n m lt)
 
 -- ---- a host in order with an open program
@@ -161,40 +161,61 @@ module _ (disk : List ℕ) (h : Host) (stage : List ℕ) (sound : Declared h) (o
       omega (arith, b, ap (λ (l : List ℕ). getD l j 0) is))
       (λ e. absurd (omega (arith, ap (λ (n : ℕ). n / z) (nobody e) ∙ zero-div z)))
 
-  -- what `copy_back` asks
-  pub backs : {p : Place} {slots : List ℕ} → p ≡ whose id (h .places) → slots ≡ filled (finalSlots z (h .disk) (h .places) p size)
-      → Back z stage staged slots (size / z) disk
-  unfolding settingBy
-  backs {p} {slots} e q =
+  -- the staged slots and the final ones lie within areas with slots of y bytes, as many as the stage and the disk have
+  backs-at : (y : ℕ) (from to : List ℕ) {p : Place} {slots : List ℕ} → h .stage * y ≤ length from → h .disk * y ≤ length to
+      → p ≡ whose id (h .places) → slots ≡ filled (finalSlots z (h .disk) (h .places) p size) → Back y from staged slots (size / z) to
+  backs-at y from to {p} {slots} long wide e q =
       let l = finalSlots z (h .disk) (h .places) (whose id (h .places)) size in
       let is : slots ≡ filled l = q ∙ ap (λ (x : Place). filled (finalSlots z (h .disk) (h .places) x size)) e in
       record {
         few = few-sectors;
         each = λ j lt. record {
-          source = λ u. within z (getD staged j none) (h .stage) stage (staged-below j u) (areas-stage h disk stage areas);
-          target = λ u. within z (getD slots j 0) (h .disk) disk
-              (omega (arith, final-below j lt, ap (λ (x : List ℕ). getD x j 0) is ∙ slot-filled l j)) (solid .disk);
+          source = λ u. within y (getD staged j none) (h .stage) from (staged-below j u) long;
+          target = λ u. within y (getD slots j 0) (h .disk) to
+              (omega (arith, final-below j lt, ap (λ (x : List ℕ). getD x j 0) is ∙ slot-filled l j)) wide;
         };
       }
 
+  -- what `copy_back` asks, of the bytes
+  pub backs : {p : Place} {slots : List ℕ} → p ≡ whose id (h .places) → slots ≡ filled (finalSlots z (h .disk) (h .places) p size)
+      → Back z stage staged slots (size / z) disk
+  unfolding settingBy
+  backs e q = backs-at z stage disk (omega (arith, areas-stage h disk stage areas)) (omega (arith, solid .disk)) e q
+
+  -- and of the roots kept beside the slots
+  pub roots-back : {p : Place} {slots : List ℕ} → p ≡ whose id (h .places) → slots ≡ filled (finalSlots z (h .disk) (h .places) p size)
+      → Back 32 (h .stageroots) staged slots (size / z) (h .diskroots)
+  unfolding settingBy
+  roots-back e q =
+      backs-at 32 (h .stageroots) (h .diskroots) (omega (arith, sound .stage, solid .lent .few)) (omega (arith, sound .disk, few-slots)) e q
+
 -- ---- a commit, from what the functions of this crate make
 
-pub commit-made : {p place : Place} {slots after roots : List ℕ} {places : List Place} {growth : ℤ} (disk : List ℕ) (h : Host) (stage : List ℕ)
+pub commit-made : {p place : Place} {slots after roots : List ℕ} {places : List Place} {growth : ℤ}
+    (disk : List ℕ) (h : Host) (stage : List ℕ)
     → let id = h .program .terms .head .contract in let size = h .program .progress .size in
     p ≡ whose id (h .places) → slots ≡ filled (finalSlots (h .sector) (h .disk) (h .places) p size)
     → place ≡ withSlots (withSize p size) slots → places ≡ replaced id place (h .places) → growth ≡ pos size -ℤ pos (p .size)
     → after ≡ copiedBack (h .sector) stage (h .program .progress .staged) slots 0 (size / h .sector) disk
-    → closed 0 (h .program .progress .tally) growth (withProgram (withPlaces h places) noProgram) after ≡ commit disk h stage
+    → roots ≡ copiedBack 32 (h .stageroots) (h .program .progress .staged) slots 0 (size / h .sector) (h .diskroots)
+    → closed 0 (h .program .progress .tally) growth (withDiskRoots (withProgram (withPlaces h places) noProgram) roots) after
+    ≡ commit disk h stage
 unfolding commit parent settingBy
-commit-made {p} {place} {slots} {after} {places} {growth} disk h stage e s q r g a =
+commit-made {p} {place} {slots} {after} {roots} {places} {growth} disk h stage e s q r g a b =
     let id = h .program .terms .head .contract in
     let size = h .program .progress .size in
     let l : Place → List ℕ = λ x. finalSlots (h .sector) (h .disk) (h .places) x size in
-    let left : ℤ → List Place → List ℕ → Closed = λ n ps d. closed 0 (h .program .progress .tally) n (withProgram (withPlaces h ps) noProgram) d in
+    let left : ℤ → List Place → List ℕ → List ℕ → Closed = λ n ps d m.
+    closed 0 (h .program .progress .tally) n (withDiskRoots (withProgram (withPlaces h ps) noProgram) m) d in
+    let back : ℕ → List ℕ → List ℕ → List ℕ → List ℕ = λ y from to x.
+    copiedBack y from (h .program .progress .staged) x 0 (size / h .sector) to in
     let final : place ≡ finalPlace p size (l p) = q ∙ ap (withSlots (withSize p size)) s ∙ place-filled p size (l p) in
-    let back : after ≡ copiedBack (h .sector) stage (h .program .progress .staged) (l p) 0 (size / h .sector) disk =
-    a ∙ ap (λ (x : List ℕ). copiedBack (h .sector) stage (h .program .progress .staged) x 0 (size / h .sector) disk) s
+    let bytes : after ≡ back (h .sector) stage disk (l p) =
+    a ∙ ap (back (h .sector) stage disk) s
     ∙ back-filled (h .sector) stage (h .program .progress .staged) (l p) 0 (size / h .sector) disk in
-    (λ i. left (g i) ((r ∙ ap (λ (x : Place). replaced id x (h .places)) final) i) (back i))
+    let beside : roots ≡ back 32 (h .stageroots) (h .diskroots) (l p) =
+    b ∙ ap (back 32 (h .stageroots) (h .diskroots)) s
+    ∙ back-filled 32 (h .stageroots) (h .program .progress .staged) (l p) 0 (size / h .sector) (h .diskroots) in
+    (λ i. left (g i) ((r ∙ ap (λ (x : Place). replaced id x (h .places)) final) i) (bytes i) (beside i))
     ∙ ap (λ (x : Place). left (pos size -ℤ pos (x .size)) (replaced id (finalPlace x size (l x)) (h .places))
-    (copiedBack (h .sector) stage (h .program .progress .staged) (l x) 0 (size / h .sector) disk)) e
+    (back (h .sector) stage disk (l x)) (back 32 (h .stageroots) (h .diskroots) (l x))) e

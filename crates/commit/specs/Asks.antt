@@ -1,4 +1,5 @@
--- What copying back asks of its callers, and the copying of one position. z is the sector size. Assumes nothing.
+-- What copying back asks of its callers, and the copying of one position. Slots have z bytes: the sectors' size, or 32 for the roots kept
+-- beside them. Assumes nothing.
 use mathlib.Core.Path.{_≡_}
 use mathlib.Core.Bool.{false}
 use mathlib.Core.List.{List}
@@ -9,7 +10,7 @@ use Rattle.area.specs.Pick.{pick}
 use Rattle.area.specs.Area.{part, put}
 use Rattle.host.specs.Empty.{none}
 
--- the sector in stage slot `from`, unless that is none, in disk slot `to`
+-- what stage slot `from` holds, unless that is none, in disk slot `to`
 unfoldable pub laid : ℕ → List ℕ → ℕ → ℕ → List ℕ → List ℕ
 laid z stage from to disk = pick (eqb from none) disk (put disk (to * z) (part stage (from * z) z))
 

@@ -1,5 +1,6 @@
 // The slots and bytes of a commit: which slots the parent has at its final size, and its staged sectors copied there. `slots[p]` is
-// the disk slot of position p, `staged[p]` its stage slot or NONE.
+// the disk slot of position p, `staged[p]` its stage slot or NONE. What is copied is what slots of z bytes hold: the sectors, z their size, and
+// the roots kept beside them, z 32.
 // These are inner functions: what they require, their callers prove.
 ghost use mathlib.Core.Path.{_≡_};
 ghost use Prim.Native.Nat.{_-_, _/_, _≤_};
@@ -141,7 +142,7 @@ pub fn final_slots(z: u64, disk: u64, places: [Place; 8], place: Place, size: u6
     new_slots(disk, flags, keep, n, (size / z) as usize)
 }
 
-// The sector in stage slot `from`, unless that is NONE, in disk slot `to`.
+// What stage slot `from` holds, unless that is NONE, in disk slot `to`.
 fn one_back(z: usize, stage: &[u8], from: u8, to: u8, disk: &mut [u8])
     requires { ⌜ Lies z (now stage) from to (now disk) ⌝ }
     ensures { λ _. ⌜ now (disk .exit) ≡ laid z (now (stage .entry)) from to (now (disk .entry)) ⌝ }
@@ -152,7 +153,7 @@ fn one_back(z: usize, stage: &[u8], from: u8, to: u8, disk: &mut [u8])
     area::copy_between(stage, from as usize * z, disk, to as usize * z, z);
 }
 
-// The staged sectors of the first n positions copied to their disk slots.
+// What the stage slots of the first n positions hold copied to their disk slots.
 pub fn copy_back(z: u64, stage: &[u8], staged: [u8; 64], slots: [u8; 64], n: usize, disk: &mut [u8])
     requires { ⌜ Back z (now stage) staged slots n (now disk) ⌝ }
     ensures { λ _. ⌜ now (disk .exit) ≡ copiedBack z (now (stage .entry)) staged slots 0 n (now (disk .entry)) ⌝ }

@@ -71,7 +71,7 @@ fn fitted(
     requires { ⌜ seen ≤ 64 ⌝ }
     requires { ⌜ terms .room ≤ 65536 ⌝ }
     requires { ⌜ (asked ≡ true → Ranged z seen (args .first) (args .len)) ⌝ }
-    ensures { λ r. ⌜ r ≡ Says.fitted z (setting sectors copies places terms []) p asked (sectorsOf seen) op (numbers args) cost ⌝ }
+    ensures { λ r. ⌜ r ≡ Says.fitted z (setting sectors copies places terms [] []) p asked (sectorsOf seen) op (numbers args) cost ⌝ }
 {
     let staged = p.staged;
     if free_copies(copies, staged) < wanted(z, p, op, args) {
@@ -116,7 +116,7 @@ pub fn weighed(
     requires { ⌜ seen ≤ 64 ⌝ }
     requires { ⌜ terms .head .length ≤ 65536 ⌝ }
     requires { ⌜ terms .room ≤ 65536 ⌝ }
-    ensures { λ r. ⌜ r ≡ Says.weighed z (setting sectors copies places terms []) p asked (sectorsOf seen) op (numbers args) ⌝ }
+    ensures { λ r. ⌜ r ≡ Says.weighed z (setting sectors copies places terms [] []) p asked (sectorsOf seen) op (numbers args) ⌝ }
 {
     if bad_spans(z, p.size, seen, op, args) {
         return Weighed::refused(26);

@@ -1,14 +1,20 @@
--- The plan of an instruction: its number and, where it can run, all that its effect and its record start from. Assumes nothing.
-use mathlib.Core.Bool.{Bool, not}
+-- The plan of an instruction: its number and, where it can run, all that its effect and its record start from. f reads roots. Assumes
+-- nothing.
+use mathlib.Core.Path.{_≡_}
+use mathlib.Core.Bool.{Bool, true, not}
 use mathlib.Core.List.{List, []}
 use Prim.Native.Nat.{ℕ}
 use lib.Dec.{eqb}
 use Rattle.area.specs.Pick.{pick, both}
 use Rattle.sia.specs.Names.{opOf}
+use Rattle.sia.specs.Encode.{every}
+use Rattle.host.specs.Places.{taken}
+use Rattle.host.specs.Order.{placeInOrder}
 use Rattle.rules.specs.View.{Setting, readOnlyMode}
 use Rattle.rules.specs.Inputs.{inputsOf, argsOf}
 use Rattle.rules.specs.Plan.{changes, isThere, spots, sourceOf, cost, newSize, proofCount, recordCount, judged}
-use Rattle.view.specs.Seen.{spotsOf}
+use Rattle.rules.specs.Facts.{Lent}
+use Rattle.view.specs.Seen.{spotsOf, holds}
 use Rattle.sia.specs.declared.Op.{Op}
 use Rattle.sia.specs.declared.Instruction.{Instruction}
 use Rattle.host.specs.declared.Progress.{Progress}
@@ -18,6 +24,12 @@ use Rattle.judging.specs.Weighed.{weighed}
 use Rattle.inputs.specs.Given.{placed, noArgs, fromOf}
 use Rattle.inputs.specs.declared.Args.{Args}
 use Rattle.plan.specs.declared.Plan.{Plan}
+
+-- what a plan asks: the numbers of a host in order, and a root kept beside each disk slot in use
+pub record Plans (z : ℕ) (s : Setting) (diskroots : List ℕ) : Type 0 where
+  pub lent : Lent z s
+  pub small : every (placeInOrder z) (s .places) ≡ true
+  pub roots : every (holds 32 diskroots) (taken z (s .places)) ≡ true
 
 -- what a plan says: of what is read, the sectors
 pub record Said : Type 0 where
@@ -47,9 +59,9 @@ unfoldable pub failed : Op → ℕ → Said
 failed op n = record { number = n; op = op; args = noArgs; sectors = []; cost = 0; size = 0; hashes = 0; count = 0 }
 
 -- 24 to 42, of arguments that are told
-unfoldable pub argued : ℕ → Setting → Progress → Bool → Op → Args → Said
-argued z s p asked op g =
-    let from = sourceOf z s p op (g .key) in
+unfoldable pub argued : ℕ → Setting → (Spot → List ℕ) → Progress → Bool → Op → Args → Said
+argued z s f p asked op g =
+    let from = sourceOf z s f p op (g .key) in
     let w = weighed z s p asked from op (numbers g) in
     pick (both (changes op) (readOnlyMode (s .terms))) (failed op 24)
     (pick (not (isThere from)) (failed op 25)
@@ -58,11 +70,11 @@ argued z s p asked op g =
     (failed op (w .number))))
 
 -- an instruction that can run: its arguments, what it reads, its cost, the new size, its hashes, and the record's length
-unfoldable pub runs : ℕ → Setting → Progress → Instruction → List ℕ → Said
-runs z s p i area =
+unfoldable pub runs : ℕ → Setting → (Spot → List ℕ) → Progress → Instruction → List ℕ → Said
+runs z s f p i area =
     let op = opOf (i .name) in
     let a = argsOf op (inputsOf i area) in
-    let from = sourceOf z s p op (a .key) in
+    let from = sourceOf z s f p op (a .key) in
     record {
       number = 0;
       op = op;
@@ -74,7 +86,7 @@ runs z s p i area =
       count = recordCount z (i .proof) from op a;
     }
 
-unfoldable pub planOf : ℕ → Setting → Progress → Instruction → List ℕ → Said
-planOf z s p i area =
-    let n = judged z s p i (inputsOf i area) in
-    pick (eqb n 0) (runs z s p i area) (failed (opOf (i .name)) n)
+unfoldable pub planOf : ℕ → Setting → (Spot → List ℕ) → Progress → Instruction → List ℕ → Said
+planOf z s f p i area =
+    let n = judged z s f p i (inputsOf i area) in
+    pick (eqb n 0) (runs z s f p i area) (failed (opOf (i .name)) n)

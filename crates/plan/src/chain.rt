@@ -14,15 +14,16 @@ use pricing::changes;
 use sia::Instruction;
 use sia::Op;
 ghost use mathlib.Core.Path.{_≡_};
+ghost use mathlib.Core.List.{[]};
 ghost use lib.ListN.{length};
 ghost use Rattle.area.specs.Pick.{both};
 ghost use Rattle.area.specs.Area.{same};
-ghost use Rattle.area.specs.Slots.{Size};
 ghost use Rattle.sia.specs.Names.{readOnly};
 ghost use Rattle.rules.specs.View.{setting};
+ghost use Rattle.rules.specs.Roots.{keptRoot};
 ghost use Rattle.rules.specs.Plan as Says;
-ghost use Rattle.rules.specs.Facts.{Solid, Good};
-ghost use Rattle.plan.specs.Planned.{said, failed, argued, planOf};
+ghost use Rattle.rules.specs.Facts.{Good};
+ghost use Rattle.plan.specs.Planned.{Plans, said, failed, argued, planOf};
 
 impl Plan {
     // A failure, by its number, with nothing else.
@@ -55,7 +56,7 @@ fn changes_nothing(op: Op, id: [u8; 32]) -> bool
 }
 
 // 24 to 42, of arguments that are told.
-fn argued(
+fn argued<'a>(
     z: u64,
     sectors: u64,
     copies: u64,
@@ -65,12 +66,12 @@ fn argued(
     asked: bool,
     op: Op,
     args: Args,
-    disk: &[u8],
+    diskroots: &'a [u8],
+    stageroots: &'a [u8],
 ) -> Plan
-    requires { ⌜ Size z ⌝ }
-    requires { ⌜ Solid z (setting sectors copies places terms (now disk)) ⌝ }
-    requires { ⌜ Good z (setting sectors copies places terms (now disk)) p ⌝ }
-    ensures { λ r. ⌜ said r ≡ argued z (setting sectors copies places terms (now (disk .entry))) p asked op args ⌝ }
+    requires { ⌜ Plans z (setting sectors copies places terms [] []) (now diskroots) ⌝ }
+    requires { ⌜ Good z (setting sectors copies places terms [] []) p ⌝ }
+    ensures { λ r. ⌜ said r ≡ argued z (setting sectors copies places terms [] []) (keptRoot (now (diskroots .entry)) (now (stageroots .entry))) p asked op args ⌝ }
 {
     let head = terms.head;
     let id = head.contract;
@@ -78,7 +79,7 @@ fn argued(
         return Plan::failed(op, 24);
     }
     let key = args.key;
-    let source = source_of(z, disk, places, terms, p, op, key);
+    let source = source_of(z, diskroots, stageroots, places, terms, p, op, key);
     if !source.there {
         return Plan::failed(op, 25);
     }
@@ -101,7 +102,7 @@ fn argued(
 }
 
 // Whether an instruction can run, and what it costs and changes then. `input` is the input area, of the declared length.
-pub fn planned(
+pub fn planned<'a>(
     z: u64,
     sectors: u64,
     copies: u64,
@@ -109,14 +110,15 @@ pub fn planned(
     terms: Terms,
     p: Progress,
     i: Instruction,
-    disk: &[u8],
+    diskroots: &'a [u8],
+    stageroots: &'a [u8],
     input: &[u8],
 ) -> Plan
-    requires { ⌜ Size z ⌝ }
-    requires { ⌜ Solid z (setting sectors copies places terms (now disk)) ⌝ }
-    requires { ⌜ Good z (setting sectors copies places terms (now disk)) p ⌝ }
+    requires { ⌜ Plans z (setting sectors copies places terms [] []) (now diskroots) ⌝ }
+    requires { ⌜ Good z (setting sectors copies places terms [] []) p ⌝ }
     requires { ⌜ length (now input) ≡ terms .head .length ⌝ }
-    ensures { λ r. ⌜ said r ≡ planOf z (setting sectors copies places terms (now (disk .entry))) p i (now (input .entry)) ⌝ }
+    ensures { λ r. ⌜ said r ≡
+        planOf z (setting sectors copies places terms [] []) (keptRoot (now (diskroots .entry)) (now (stageroots .entry))) p i (now (input .entry)) ⌝ }
 {
     let name = i.name;
     let op = sia::op_of(name);
@@ -142,6 +144,7 @@ pub fn planned(
         i.proof,
         op,
         args,
-        disk,
+        diskroots,
+        stageroots,
     )
 }

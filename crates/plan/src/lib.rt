@@ -1,5 +1,5 @@
 // Taking an instruction: whether it can run, and what it costs and changes then. Numbers alone, but for ReadSector, which looks a
-// root up.
+// root up among those that are kept.
 // These are inner functions: what they require, their callers prove.
 mod chain; // chain.rt: checks 21 to 42, and the plan of an instruction
 mod lookup; // lookup.rt: what is read, and check 25

@@ -13,6 +13,7 @@ ghost use Rattle.sia.specs.Encode.{every};
 ghost use Rattle.host.specs.Places.{taken};
 ghost use Rattle.host.specs.Order.{placeInOrder};
 ghost use Rattle.rules.specs.View.{setting};
+ghost use Rattle.rules.specs.Roots.{keptRoot};
 ghost use Rattle.rules.specs.Plan.{contractSource, sectorSource, sourceOf, missing};
 ghost use Rattle.rules.specs.Plan as Says;
 ghost use Rattle.view.specs.Seen.{spotsOf, holds};
@@ -53,7 +54,7 @@ impl Source {
 fn contract_source(z: u64, places: [Place; 8], terms: Terms, p: Progress, key: [u8; 32]) -> Source
     requires { ⌜ Size z ⌝ }
     requires { ⌜ every (placeInOrder z) places ≡ true ⌝ }
-    ensures { λ r. ⌜ Shows r (contractSource z (setting 0 0 places terms []) p key) ⌝ }
+    ensures { λ r. ⌜ Shows r (contractSource z (setting 0 0 places terms [] []) p key) ⌝ }
 {
     let other = host::place_of(places, key);
     if !other.held {
@@ -71,20 +72,28 @@ fn contract_source(z: u64, places: [Place; 8], terms: Terms, p: Progress, key: [
 }
 
 // ReadSector: the first committed sector with that root.
-fn sector_source(z: u64, disk: &[u8], places: [Place; 8], terms: Terms, key: [u8; 32]) -> Source
+fn sector_source<'a>(
+    z: u64,
+    diskroots: &'a [u8],
+    stageroots: &'a [u8],
+    places: [Place; 8],
+    terms: Terms,
+    key: [u8; 32],
+) -> Source
     requires { ⌜ Size z ⌝ }
-    requires { ⌜ every (holds z (now disk)) (taken z places) ≡ true ⌝ }
-    ensures { λ r. ⌜ Shows r (sectorSource z (setting 0 0 places terms (now (disk .entry))) key) ⌝ }
+    requires { ⌜ every (holds 32 (now diskroots)) (taken z places) ≡ true ⌝ }
+    ensures { λ r. ⌜ Shows r (sectorSource z (setting 0 0 places terms [] []) (keptRoot (now (diskroots .entry)) (now (stageroots .entry))) key) ⌝ }
 {
-    let seen = sights::find_root(z, disk, places, key);
+    let seen = sights::find_root(z, diskroots, stageroots, places, key);
     let there = seen.count != 0;
     Source { there, seen }
 }
 
 // What an instruction reads. Where nothing is found it is not there.
-pub fn source_of(
+pub fn source_of<'a>(
     z: u64,
-    disk: &[u8],
+    diskroots: &'a [u8],
+    stageroots: &'a [u8],
     places: [Place; 8],
     terms: Terms,
     p: Progress,
@@ -93,12 +102,12 @@ pub fn source_of(
 ) -> Source
     requires { ⌜ Size z ⌝ }
     requires { ⌜ every (placeInOrder z) places ≡ true ⌝ }
-    requires { ⌜ every (holds z (now disk)) (taken z places) ≡ true ⌝ }
-    ensures { λ r. ⌜ Shows r (sourceOf z (setting 0 0 places terms (now (disk .entry))) p op key) ⌝ }
+    requires { ⌜ every (holds 32 (now diskroots)) (taken z places) ≡ true ⌝ }
+    ensures { λ r. ⌜ Shows r (sourceOf z (setting 0 0 places terms [] []) (keptRoot (now (diskroots .entry)) (now (stageroots .entry))) p op key) ⌝ }
 {
     match op {
         Op::Read => contract_source(z, places, terms, p, key),
-        Op::ReadSector => sector_source(z, disk, places, terms, key),
+        Op::ReadSector => sector_source(z, diskroots, stageroots, places, terms, key),
         Op::Write => Source::nothing(),
         Op::Copy => Source::nothing(),
         Op::Swap => Source::nothing(),

@@ -2,18 +2,23 @@
 use mathlib.Core.Path.{_≡_, refl, sym, ap, _∙_, subst}
 use mathlib.Core.Bool.{Bool, true, false, not}
 use mathlib.Core.List.{List}
-use Prim.Native.Nat.{ℕ, zero, suc, _+_, _≤_}
+use Prim.Native.Nat.{ℕ, zero, suc, _+_, _*_, _≤_}
 use native.Mathlib.Nat.{add-assoc}
 use native.Mathlib.Omega.{arith}
+use lib.ListN.{length, getD}
 use lib.Dec.{eqb}
 use borrow.Author.Tests.{ltb-false, eqb-true, eqb-false, eq-eqb, ne-eqb}
 use Rattle.area.specs.Pick.{pick}
+use Rattle.area.specs.Area.{part}
 use Rattle.area.proofs.Laws.Pick.{by, picks, skips, both-not-left}
+use Rattle.tree.specs.Tree.{root}
 use Rattle.sia.specs.Names.{opOf}
+use Rattle.host.specs.Lists.{some}
+use Rattle.host.specs.Empty.{none}
 use Rattle.host.specs.With.{withWritten, withFailed}
 use Rattle.rules.specs.View.{Setting, Turn}
 use Rattle.rules.specs.Inputs.{argsOf, inputsOf}
-use Rattle.rules.specs.Plan.{cost, judgedSource, judgedInputs, judged}
+use Rattle.rules.specs.Plan.{cost, touched, judgedSource, judgedInputs, judged}
 use Rattle.rules.specs.Run.{failedProgress, failing, ranProgress, succeeding, stepped, current, step, going, ready, runs, run}
 use Rattle.rules.specs.Class.{isKnown, classOf}
 use Rattle.rules.specs.Trace.{charges}
@@ -22,6 +27,8 @@ use Rattle.rules.proofs.Laws.Steps.{runs-go, runs-stop}
 use Rattle.rules.proofs.Laws.Trails.{stepped-output}
 use Rattle.rules.proofs.Laws.Ways.{either-way}
 use Rattle.rules.proofs.Laws.Classes.{is-invalid, is-host}
+use Rattle.rules.proofs.Laws.Rehashed.{rehashed-in, rehashed-out}
+use Rattle.sia.specs.declared.Op.{Op}
 use Rattle.sia.specs.declared.Instruction.{Instruction}
 use Rattle.host.specs.declared.Progress.{Progress}
 use Rattle.rules.specs.declared.Spot.{Spot}
@@ -151,6 +158,49 @@ classed z s i l t =
     way _ _ _ (λ _. host 40 (omega arith) (omega arith)) (λ _. way _ _ _ (λ _. host 41 (omega arith) (omega arith)) (λ _.
     way _ _ _ (λ _. host 42 (omega arith) (omega arith)) (λ _. done)))))))))))
 
+-- ---- the roots kept beside the stage's slots
+
+module _ (z : ℕ) (s : Setting) (i : Instruction) (l : List (List ℕ)) (t : Turn) where
+  abbrev number : ℕ
+  number = judged z s (rootAt z s t) (t .progress) i l
+
+  abbrev op : Op
+  op = opOf (i .name)
+
+  abbrev ran : Turn
+  ran = succeeding z s (i .proof) op (argsOf op l) t
+
+  abbrev positions : List ℕ
+  positions = touched z (t .progress .size) op (argsOf op l)
+
+  abbrev Rehashes : Turn → Type 0
+  Rehashes after = (at : ℕ) → some (eqb at) positions ≡ true → let n = getD (after .progress .staged) at none in
+      n * 32 + 32 ≤ length (t .roots) → part (after .roots) (n * 32) 32 ≡ root (part (after .stage) (n * z) z)
+
+  abbrev Stays : Turn → Type 0
+  Stays after = (n : ℕ) → ((at : ℕ) → some (eqb at) positions ≡ true → getD (after .progress .staged) at none ≡ n → ⊥)
+      → part (after .roots) (n * 32) 32 ≡ part (t .roots) (n * 32) 32
+
+  ran-rehashes : Rehashes ran
+  unfolding succeeding ranProgress
+  ran-rehashes at u room = rehashed-in z _ _ positions (t .roots) at u refl room
+
+  ran-stays : Stays ran
+  unfolding succeeding ranProgress
+  ran-stays n out = rehashed-out z _ n positions (t .roots) out
+
+  rehashes : number ≡ 0 → Rehashes (stepped z s i l t)
+  unfolding stepped
+  rehashes e = subst Rehashes (sym (picks (eqb number 0) ran (failing z s number t) (eq-eqb _ _ e))) ran-rehashes
+
+  stays : Stays (stepped z s i l t)
+  unfolding stepped
+  stays =
+      by (eqb number 0)
+      (λ e. subst Stays (sym (picks (eqb number 0) ran (failing z s number t) e)) ran-stays)
+      (λ e. subst Stays (sym (skips (eqb number 0) ran (failing z s number t) e))
+      (λ n _. ap (λ (r : List ℕ). part r (n * 32) 32) (fails z s number t .roots)))
+
 pub instructed : (z : ℕ) (s : Setting) (i : Instruction) (l : List (List ℕ)) (t : Turn) → Instructed z s i l t
 instructed z s i l t = record {
   writes = stepped-output z s i l t;
@@ -158,4 +208,6 @@ instructed z s i l t = record {
   fails = writes z s i l t;
   ends = λ input k. ends z s input k t;
   costs = charged z s i l t;
+  rehashes = rehashes z s i l t;
+  stays = stays z s i l t;
 }

@@ -18,5 +18,6 @@ pub mod Arrays
 pub mod Visits
 pub mod Renaming
 pub mod Padded
+pub mod Beside
 pub mod Sound
 pub mod Demands

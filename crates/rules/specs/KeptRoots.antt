@@ -19,6 +19,7 @@ use Rattle.rules.specs.Facts.{Solid, Within, valid}
 use Rattle.rules.specs.Visit.{Areas, Opening, Agreement, opens, gives, stops, closes, Sound}
 use Rattle.rules.specs.Visit.{givesBy, stopsBy, reachesBy, closesBy}
 use Rattle.rules.specs.Trace.{lentTo, fedBy, visitedBy, wholeRunBy, sectorsOf, pairIn, running, runningSectors}
+use Rattle.rules.specs.Depot.{Depot, Call, AllSaid, resultsBy, endBy}
 use Rattle.host.specs.declared.Host.{Host}
 use Rattle.rules.specs.declared.Spot.{Spot}
 
@@ -56,8 +57,30 @@ pub record Sounds (h : Host) (a : Areas) : Type 0 where
   pub interrupt : Sound (stops h a .host) (a .disk) (a .stage)
   pub closing : (g : Agreement) → Sound (closes h a g .host) (closes h a g .disk) (a .stage)
 
+-- the same of any calls in turn
+pub record Lasting (d : Depot) (l : List Call) : Type 0 where
+  pub same : resultsBy kept d l ≡ resultsBy worked d l
+  pub ends : endBy kept d l ≡ endBy worked d l
+  pub sound : let e = endBy kept d l in Sound (e .host) (e .disk) (e .stage)
+
+-- the roots kept beside the slots are as they were
+pub record Beside (h after : Host) : Type 0 where
+  pub disk : after .diskroots ≡ h .diskroots
+  pub stage : after .stageroots ≡ h .stageroots
+
+-- of any host: instructions change roots beside the stage's slots and a commit those beside the disk's (demand 2 says which); no call changes
+-- another, so a slot that is freed keeps its root
+pub record Leaves (h : Host) (a : Areas) : Type 0 where
+  pub forming : (id : List ℕ) → Beside h (formed h id .host)
+  pub dropping : (id : List ℕ) → Beside h (dropped h id .host)
+  pub opening : (o : Opening) → Beside h (opens h o .host)
+  pub piece : (bytes : List ℕ) → gives h a bytes .host .diskroots ≡ h .diskroots
+  pub interrupt : Beside h (stops h a .host)
+  pub closing : (g : Agreement) → closes h a g .host .stageroots ≡ h .stageroots
+  pub uncommitted : (g : Agreement) → (closes h a g .number ≡ 0 → g .agree ≡ true → ⊥) → Beside h (closes h a g .host)
+
 -- "a separate call that recomputes everything says whether a host is sound": its whole answers
-pub record Tells (h : Host) (disk stage : List ℕ) : Type 0 where
+pub record Asked (h : Host) (disk stage : List ℕ) : Type 0 where
   pub damaged : inOrder h ≡ false → sounded disk h stage ≡ soundedAt 1 false
   pub lengths : inOrder h ≡ true → areasRight h disk stage ≡ false → sounded disk h stage ≡ soundedAt 2 false
   pub says : inOrder h ≡ true → areasRight h disk stage ≡ true → sounded disk h stage ≡ soundedAt 0 (sound disk h stage)
@@ -71,4 +94,7 @@ pub record KeptRoots : Type 0 where
   pub sounds : (h : Host) (a : Areas) → Sound h (a .disk) (a .stage) → Sounds h a
   -- a host that is made is sound, whatever bytes are lent with it: it has no contract
   pub made : (z d s : ℕ) (disk stage : List ℕ) → freshed z d s .number ≡ 0 → Sound (freshed z d s .host) disk stage
-  pub tells : (h : Host) (disk stage : List ℕ) → Tells h disk stage
+  pub lasting : (d : Depot) (l : List Call) → Sound (d .host) (d .disk) (d .stage) → AllSaid l → Lasting d l
+  -- "Code 1 tests order as before; a separate call that recomputes everything says whether a host is sound."
+  pub asked : (h : Host) (disk stage : List ℕ) → Asked h disk stage
+  pub leaves : (h : Host) (a : Areas) → Leaves h a

@@ -19,6 +19,7 @@ pub mod Renaming
 pub mod Padded
 pub mod Unchanged
 pub mod Sectors
+pub mod Depot
 pub mod KeptRoots
 pub mod Demand1
 pub mod Demand2

@@ -1,24 +1,25 @@
 -- What a call leaves, as facts with names that the demands speak of. z is the sector size. Assumes nothing.
 use mathlib.Core.Path.{_≡_}
-use mathlib.Core.Bool.{true, false, not}
+use mathlib.Core.Bool.{Bool, true, false, not}
 use mathlib.Core.List.{List, []}
-use Prim.Native.Nat.{ℕ, _+_, _*_, _/_, _<_}
+use Prim.Native.Nat.{ℕ, _+_, _*_, _/_, _≤_, _<_}
 use lib.ListN.{length, getD}
 use lib.Dec.{eqb}
 use lib.IntN.{pos, _-ℤ_}
 use Rattle.area.specs.Pick.{pick}
 use Rattle.area.specs.Area.{same, part, put}
 use Rattle.area.specs.Little.{Bytes}
+use Rattle.tree.specs.Tree.{root}
 use Rattle.sia.specs.Names.{opOf}
 use Rattle.host.specs.With.{withWritten, withFailed}
-use Rattle.host.specs.Lists.{those}
+use Rattle.host.specs.Lists.{some, those}
 use Rattle.host.specs.Empty.{none, noProgram}
 use Rattle.host.specs.Places.{whose}
 use Rattle.host.specs.Calls.{formed, dropped}
 use Rattle.rules.specs.View.{Setting, Turn}
 use Rattle.rules.specs.Roots.{rootAt}
 use Rattle.rules.specs.Inputs.{argsOf}
-use Rattle.rules.specs.Plan.{cost, judged}
+use Rattle.rules.specs.Plan.{cost, touched, judged}
 use Rattle.rules.specs.Record.{failureBytes}
 use Rattle.rules.specs.Run.{stepped, run}
 use Rattle.rules.specs.Commit.{Closed}
@@ -54,6 +55,10 @@ pub record Failed (z : ℕ) (s : Setting) (number : ℕ) (t after : Turn) : Type
   pub roots : after .roots ≡ t .roots
   pub output : after .output ≡ put (t .output) (t .progress .written) (failureBytes z s number)
 
+-- whether an instruction writes to a position
+abbrev pub writesTo : ℕ → Setting → Instruction → List (List ℕ) → Turn → ℕ → Bool
+writesTo z s i l t at = let op = opOf (i .name) in some (eqb at) (touched z (t .progress .size) op (argsOf op l))
+
 -- one instruction
 pub record Instructed (z : ℕ) (s : Setting) (i : Instruction) (l : List (List ℕ)) (t : Turn) : Type 0 where
   -- "each record": from the first free byte of the output area
@@ -66,6 +71,14 @@ pub record Instructed (z : ℕ) (s : Setting) (i : Instruction) (l : List (List 
   pub ends : (input : List ℕ) (k : ℕ) → t .progress .failed ≡ true → run z s input k t ≡ t
   pub costs : judged z s (rootAt z s t) (t .progress) i l ≡ 0 → stepped z s i l t .progress .tally
       ≡ t .progress .tally + cost (s .terms .head .length) (s .terms .prices) (opOf (i .name)) (argsOf (opOf (i .name)) l .len)
+  -- "rebuild only what an instruction touched": beside the stage slot of a position that it writes, the root of the sector's bytes after it
+  pub rehashes : judged z s (rootAt z s t) (t .progress) i l ≡ 0 → (at : ℕ) → writesTo z s i l t at ≡ true
+      → let after = stepped z s i l t in let n = getD (after .progress .staged) at none in
+      n * 32 + 32 ≤ length (t .roots) → part (after .roots) (n * 32) 32 ≡ root (part (after .stage) (n * z) z)
+  -- and no other root changes
+  pub stays : (n : ℕ) → let after = stepped z s i l t in
+      ((at : ℕ) → writesTo z s i l t at ≡ true → getD (after .progress .staged) at none ≡ n → ⊥)
+      → part (after .roots) (n * 32) 32 ≡ part (t .roots) (n * 32) 32
 
 -- a call leaves the contracts as they were: their places, and the roots kept beside the disk's slots
 pub record Standing (h after : Host) : Type 0 where

@@ -1,4 +1,4 @@
--- Staged sectors copied back, position by position. z is the sector size. Assumes nothing.
+-- What stage slots hold copied back, position by position. Slots have z bytes. Assumes nothing.
 use mathlib.Core.Path.{_≡_, refl, sym, ap, _∙_, subst}
 use mathlib.Core.Bool.{true, false}
 use mathlib.Core.List.{List, [], _∷_}

@@ -18,13 +18,13 @@ use Rattle.rules.specs.View.{Setting, parent, freeCopies}
 use Rattle.rules.specs.Inputs.{Args}
 use Rattle.rules.specs.Plan.{badSpan, badSpans, touched, wanted, newSize}
 use Rattle.rules.specs.Facts.{Good, Solid}
-use Rattle.rules.specs.declared.Spot.{Spot}
 use Rattle.rules.specs.Effect.{groundOf, Staging, copied, effect}
 use Rattle.rules.proofs.Laws.Effects.{Passed, neither, whole-sectors, sector-below, asks, asks-some, asks-two, copied-map, wanted-one, swap-asks, span-in, past-first}
 use Rattle.rules.proofs.Laws.Spots.{unstaged, committed-slot}
 use Rattle.sia.specs.declared.Op.{Op}
 use Rattle.sia.specs.declared.Op.the-variants.{Write, Copy, Swap, Truncate}
 use Rattle.host.specs.declared.Progress.{Progress}
+use Rattle.rules.specs.declared.Spot.{Spot}
 use Rattle.staging.specs.Parts.{ground, staging, args}
 use Rattle.staging.specs.Asks.{bare, Lent, Lies, From, Over, Two, Sized, Stands}
 use Rattle.staging.proofs.Laws.Kept.{lies-copied}
@@ -114,25 +114,30 @@ module _ (z : ℕ) (s : Setting) (p : Progress) (bytes : List ℕ) (good : Good 
 
   -- by the instruction
 
-  writes : {f : Spot → List ℕ} (a : Args) (n : ℕ) → Passed z s f p Write a n → Over z (groundOf s) (staging (p .staged) bytes) (a .first) (a .len)
+  writes : {f : Spot → List ℕ} (a : Args) (n : ℕ) → Passed z s f p Write a n
+      → Over z (groundOf s) (staging (p .staged) bytes) (a .first) (a .len)
   unfolding badSpans wanted touched
   writes a n q = over (a .first) (a .len) (q .spans) (omega (arith, q .free, wanted-one (p .staged) (a .first / z)))
 
-  copies : {f : Spot → List ℕ} (a : Args) (n : ℕ) → Passed z s f p Copy a n → Over z (groundOf s) (staging (p .staged) bytes) (a .first) (a .len)
+  copies : {f : Spot → List ℕ} (a : Args) (n : ℕ) → Passed z s f p Copy a n
+      → Over z (groundOf s) (staging (p .staged) bytes) (a .first) (a .len)
   unfolding badSpans wanted touched
   copies a n q = over (a .first) (a .len) (either-left _ _ (q .spans)) (omega (arith, q .free, wanted-one (p .staged) (a .first / z)))
 
-  sources : {f : Spot → List ℕ} (a : Args) (n : ℕ) → Passed z s f p Copy a n → From z (groundOf s) (staging (p .staged) bytes) (a .second) (a .len)
+  sources : {f : Spot → List ℕ} (a : Args) (n : ℕ) → Passed z s f p Copy a n
+      → From z (groundOf s) (staging (p .staged) bytes) (a .second) (a .len)
   unfolding badSpans
   sources a n q = source (a .second) (a .len) (either-right _ _ (q .spans))
 
-  swaps : {f : Spot → List ℕ} (a : Args) (n : ℕ) → Passed z s f p Swap a n → Two z (groundOf s) (staging (p .staged) bytes) (a .first) (a .second) (a .len)
+  swaps : {f : Spot → List ℕ} (a : Args) (n : ℕ) → Passed z s f p Swap a n
+      → Two z (groundOf s) (staging (p .staged) bytes) (a .first) (a .second) (a .len)
   unfolding badSpans wanted touched
   swaps a n q =
       spans (a .first) (a .second) (a .len) (either-left _ _ (q .spans)) (either-right _ _ (q .spans))
       (subst (λ (x : ℕ). x ≤ freeCopies s p) (swap-asks (eqb (a .first / z) (a .second / z)) (p .staged) (a .second / z) (a .first / z)) (q .free))
 
-  truncates : {f : Spot → List ℕ} (a : Args) (n : ℕ) → Passed z s f p Truncate a n → Sized z (groundOf s) (staging (p .staged) bytes) (p .size) (a .first)
+  truncates : {f : Spot → List ℕ} (a : Args) (n : ℕ) → Passed z s f p Truncate a n
+      → Sized z (groundOf s) (staging (p .staged) bytes) (p .size) (a .first)
   unfolding wanted touched newSize
   truncates a n q =
       sized (a .first) (omega (arith, q .fits))
@@ -157,7 +162,8 @@ module _ (z : ℕ) (s : Setting) (p : Progress) (bytes : List ℕ) (good : Good 
       }
 
   -- the same where the code has the parent's disk slots
-  pub stands-with : {f : Spot → List ℕ} (slots : List ℕ) → slots ≡ parent s .slots → (op : Op) (a : Args) (n : ℕ) (bs : List ℕ) → Passed z s f p op a n
+  pub stands-with : {f : Spot → List ℕ} (slots : List ℕ) → slots ≡ parent s .slots → (op : Op) (a : Args) (n : ℕ) (bs : List ℕ)
+      → Passed z s f p op a n
       → Stands z (ground (s .copies) slots (s .disk)) (p .size) op (args (a .first) (a .second) (a .len) bs) (staging (p .staged) bytes)
   stands-with slots own op a n bs q =
       subst (λ (l : List ℕ). Stands z (ground (s .copies) l (s .disk)) (p .size) op (args (a .first) (a .second) (a .len) bs) (staging (p .staged) bytes))

@@ -65,7 +65,7 @@ module _ (z : ℕ) (f : Source) (a : Says.Args) (x n : ℕ) (long : length (spot
 
   module _ (s : Setting) (p : Progress) (asked : Bool) (op : Op) where
     abbrev off : Setting
-    off = setting (s .sectors) (s .copies) (s .places) (s .terms) []
+    off = setting (s .sectors) (s .copies) (s .places) (s .terms) [] []
 
     judged-same : judgedSource z off p asked (sectorsOf n) op (numbers (placed a x)) ≡ judgedSource z s p asked f op a
     unfolding judgedSource badProof freeCopies numbers placed
@@ -93,7 +93,7 @@ module _ (z : ℕ) (f : Source) (a : Says.Args) (x n : ℕ) (long : length (spot
 module _ (z : ℕ) (f : Source) (s : Setting) (p : Progress) (asked : Bool) (op : Op) where
   -- the real sectors
   pub weighed-at : (g : code.Args) (n : ℕ) → length (spots f) ≡ n
-      → weighed z (setting (s .sectors) (s .copies) (s .places) (s .terms) []) p asked (sectorsOf n) op (numbers g) ≡ weighed z s p asked f op (numbers g)
+      → weighed z (setting (s .sectors) (s .copies) (s .places) (s .terms) [] []) p asked (sectorsOf n) op (numbers g) ≡ weighed z s p asked f op (numbers g)
   unfolding numbers placed
   weighed-at g n long = weighed-same z f (numbers g) 0 n long s p asked op
 

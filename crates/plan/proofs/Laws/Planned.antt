@@ -1,7 +1,7 @@
 -- Walking down checks 21 to 25, and on to the plan. Assumes nothing.
 use mathlib.Core.Path.{_≡_, refl, sym, ap, _∙_}
 use mathlib.Core.Bool.{true, false, not}
-use mathlib.Core.List.{List}
+use mathlib.Core.List.{List, []}
 use Prim.Native.Nat.{ℕ, _/_, _≤_, _<_}
 use native.Mathlib.Nat.{mul-le-mul-right, div-le-of-le-mul}
 use native.Mathlib.Omega.{arith}
@@ -15,7 +15,7 @@ use Rattle.host.proofs.Laws.Order.{terms-facts}
 use Rattle.rules.specs.View.{Setting, setting, readOnlyMode, parent, parentSpots, allSpots}
 use Rattle.rules.specs.Inputs.{Args, illFormed, pastEnd, inputsOf, wellFormed, argsOf}
 use Rattle.rules.specs.Plan.{changes, Source, isThere, spots, contractSource, sectorSource, sourceOf, judgedInputs, judged}
-use Rattle.rules.specs.Facts.{Solid, Good}
+use Rattle.rules.specs.Facts.{Lent, Good}
 use Rattle.sia.specs.declared.Instruction.{Instruction}
 use Rattle.sia.specs.declared.Op.{Op}
 use Rattle.sia.specs.declared.Op.the-variants.{Read, ReadSector, Write, Copy, Swap, Truncate, Unknown}
@@ -30,23 +30,23 @@ use Rattle.judging.specs.declared.Weighed.{Weighed}
 use Rattle.judging.proofs.Laws.Weighed.{number-judged}
 use Rattle.plan.proofs.Laws.Alike.{weighed-real}
 
--- ---- what is read does not look at the areas' numbers
+-- ---- what is read looks at contracts and terms alone, and at roots by their reader
 
-pub source-same : (z : ℕ) (s : Setting) (p : Progress) (op : Op) (key : List ℕ)
-    → sourceOf z (setting 0 0 (s .places) (s .terms) (s .disk)) p op key ≡ sourceOf z s p op key
+pub source-same : (z : ℕ) (s : Setting) (f : Spot → List ℕ) (p : Progress) (op : Op) (key : List ℕ)
+    → sourceOf z (setting 0 0 (s .places) (s .terms) [] []) f p op key ≡ sourceOf z s f p op key
 unfolding sourceOf contractSource parentSpots parent sectorSource allSpots
-source-same z s p Read key = refl
-source-same z s p ReadSector key = refl
-source-same z s p Write key = refl
-source-same z s p Copy key = refl
-source-same z s p Swap key = refl
-source-same z s p Truncate key = refl
-source-same z s p Unknown key = refl
+source-same z s f p Read key = refl
+source-same z s f p ReadSector key = refl
+source-same z s f p Write key = refl
+source-same z s f p Copy key = refl
+source-same z s f p Swap key = refl
+source-same z s f p Truncate key = refl
+source-same z s f p Unknown key = refl
 
 -- ---- limits, from the facts of a machine in order
 
-pub size-few : (z : ℕ) (s : Setting) (p : Progress) → Solid z s → Good z s p → p .size / z ≤ 64
-size-few z s p h g = div-le-of-le-mul z (omega (arith, g .orderly .within, mul-le-mul-right z (h .lent .most)))
+pub size-few : (z : ℕ) (s : Setting) (p : Progress) → Lent z s → Good z s p → p .size / z ≤ 64
+size-few z s p h g = div-le-of-le-mul z (omega (arith, g .orderly .within, mul-le-mul-right z (h .most)))
 
 pub length-most : (z : ℕ) (s : Setting) (p : Progress) → Good z s p → s .terms .head .length ≤ 65536
 length-most z s p g = within-is _ (terms-facts _ _ _ (g .terms) .head) .declared
@@ -56,7 +56,7 @@ room-most z s p g = terms-facts _ _ _ (g .terms) .most
 
 -- ---- the first check that applies
 
-module _ (z : ℕ) (s : Setting) (p : Progress) (i : Instruction) (area : List ℕ) where
+module _ (z : ℕ) (s : Setting) (f : Spot → List ℕ) (p : Progress) (i : Instruction) (area : List ℕ) where
   abbrev op : Op
   op = opOf (i .name)
 
@@ -64,47 +64,47 @@ module _ (z : ℕ) (s : Setting) (p : Progress) (i : Instruction) (area : List �
   args = argsOf op (inputsOf i area)
 
   abbrev from : Source
-  from = sourceOf z s p op (args .key)
+  from = sourceOf z s f p op (args .key)
 
-  pub fails : (n : ℕ) → 0 < n → n ≡ judged z s p i (inputsOf i area) → failed op n ≡ planOf z s p i area
+  pub fails : (n : ℕ) → 0 < n → n ≡ judged z s f p i (inputsOf i area) → failed op n ≡ planOf z s f p i area
   unfolding planOf
   fails n h e = no _ _ _ (ne-eqb _ _ (λ q. let n-zero : n ≡ 0 = e ∙ q in omega arith)) (ap (failed op) e)
 
-  pub fails-21 : illFormed i ≡ true → failed op 21 ≡ planOf z s p i area
+  pub fails-21 : illFormed i ≡ true → failed op 21 ≡ planOf z s f p i area
   unfolding judged
   fails-21 formed = fails 21 (omega arith) (yes _ _ _ formed refl)
 
   module _ (formed : illFormed i ≡ false) where
-    pub fails-22 : pastEnd (s .terms .head .length) i ≡ true → failed op 22 ≡ planOf z s p i area
+    pub fails-22 : pastEnd (s .terms .head .length) i ≡ true → failed op 22 ≡ planOf z s f p i area
     unfolding judged
     fails-22 within = fails 22 (omega arith) (no _ _ _ formed (yes _ _ _ within refl))
 
     module _ (within : pastEnd (s .terms .head .length) i ≡ false) where
-      inputs : {n : ℕ} → n ≡ judgedInputs z s p i op (inputsOf i area) → n ≡ judged z s p i (inputsOf i area)
+      inputs : {n : ℕ} → n ≡ judgedInputs z s f p i op (inputsOf i area) → n ≡ judged z s f p i (inputsOf i area)
       unfolding judged
       inputs e = no _ _ _ formed (no _ _ _ within e)
 
-      pub fails-23 : wellFormed op (inputsOf i area) ≡ false → failed op 23 ≡ planOf z s p i area
+      pub fails-23 : wellFormed op (inputsOf i area) ≡ false → failed op 23 ≡ planOf z s f p i area
       unfolding judgedInputs
       fails-23 told = fails 23 (omega arith) (inputs (yes _ _ _ (ap not told) refl))
 
       module _ (told : wellFormed op (inputsOf i area) ≡ true) where
-        pub fails-24 : both (changes op) (readOnlyMode (s .terms)) ≡ true → failed op 24 ≡ planOf z s p i area
+        pub fails-24 : both (changes op) (readOnlyMode (s .terms)) ≡ true → failed op 24 ≡ planOf z s f p i area
         unfolding judgedInputs
         fails-24 mode = fails 24 (omega arith) (inputs (no _ _ _ (ap not told) (yes _ _ _ mode refl)))
 
         module _ (mode : both (changes op) (readOnlyMode (s .terms)) ≡ false) where
-          pub fails-25 : isThere from ≡ false → failed op 25 ≡ planOf z s p i area
+          pub fails-25 : isThere from ≡ false → failed op 25 ≡ planOf z s f p i area
           unfolding judgedInputs
           fails-25 there = fails 25 (omega arith) (inputs (no _ _ _ (ap not told) (no _ _ _ mode (yes _ _ _ (ap not there) refl))))
 
           module _ (there : isThere from ≡ true) (w : Weighed) (e : w ≡ weighed z s p (i .proof) from op args) where
-            number-is : w .number ≡ judged z s p i (inputsOf i area)
+            number-is : w .number ≡ judged z s f p i (inputsOf i area)
             unfolding judgedInputs
             number-is = inputs (no _ _ _ (ap not told)
                 (no _ _ _ mode (no _ _ _ (ap not there) (ap (λ (x : Weighed). x .number) e ∙ number-judged z s p (i .proof) from op args))))
 
-            pub fails-later : (w .number ≡ 0 → ⊥) → failed op (w .number) ≡ planOf z s p i area
+            pub fails-later : (w .number ≡ 0 → ⊥) → failed op (w .number) ≡ planOf z s f p i area
             fails-later n = fails (w .number) (positive (w .number) n) number-is where
               positive : (k : ℕ) → (k ≡ 0 → ⊥) → 0 < k
               positive k n = omega (arith, n)
@@ -115,7 +115,7 @@ module _ (z : ℕ) (s : Setting) (p : Progress) (i : Instruction) (area : List �
 
             pub plan-is : w .number ≡ 0 → (o : Op) (g : code.Args) (l : List Spot) → o ≡ op → g ≡ placed args (fromOf op i) → l ≡ spots from
                 → record { number = 0; op = o; args = g; sectors = l; cost = w .cost; size = w .size; hashes = w .hashes; count = w .count }
-                ≡ planOf z s p i area
+                ≡ planOf z s f p i area
             unfolding planOf runs fine
             plan-is n o g l eo eg el =
                 let q = w-fine n in
@@ -139,7 +139,7 @@ module _ (z : ℕ) (s : Setting) (p : Progress) (i : Instruction) (area : List �
         weight-is : weight ≡ weighed z s p (i .proof) from op args
         weight-is = weighed-real z from s p (i .proof) op args (fromOf op i)
 
-        pub argued-is : argued z s p (i .proof) op (placed args (fromOf op i)) ≡ planOf z s p i area
+        pub argued-is : argued z s f p (i .proof) op (placed args (fromOf op i)) ≡ planOf z s f p i area
         unfolding argued placed
         argued-is = by (both (changes op) (readOnlyMode (s .terms)))
             (λ u. picks _ _ _ u ∙ fails-24 told u)

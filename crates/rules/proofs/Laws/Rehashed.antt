@@ -43,7 +43,7 @@ unfolding some
 some-less j at l ne e = sym (skips (eqb j at) true _ (ne-eqb j at ne)) ∙ e
 
 -- none of the positions has slot m
-rehashed-out : (z : ℕ) (g : Staging) (m : ℕ) (l copies : List ℕ) → ((at : ℕ) → some (eqb at) l ≡ true → getD (g .staged) at none ≡ m → ⊥)
+pub rehashed-out : (z : ℕ) (g : Staging) (m : ℕ) (l copies : List ℕ) → ((at : ℕ) → some (eqb at) l ≡ true → getD (g .staged) at none ≡ m → ⊥)
     → part (rehashed z g l copies) (m * 32) 32 ≡ part copies (m * 32) 32
 unfolding rehashed
 rehashed-out z g m [] copies o = refl
@@ -52,7 +52,7 @@ rehashed-out z g m (at ∷ l) copies o =
     ∙ rehashed-out z g m l copies (λ j u. o j (some-more j at l u))
 
 -- one of them has it
-rehashed-in : (z : ℕ) (g : Staging) (m : ℕ) (l copies : List ℕ) (j : ℕ) → some (eqb j) l ≡ true → getD (g .staged) j none ≡ m → m * 32 + 32 ≤ length copies
+pub rehashed-in : (z : ℕ) (g : Staging) (m : ℕ) (l copies : List ℕ) (j : ℕ) → some (eqb j) l ≡ true → getD (g .staged) j none ≡ m → m * 32 + 32 ≤ length copies
     → part (rehashed z g l copies) (m * 32) 32 ≡ root (part (g .bytes) (m * z) z)
 unfolding rehashed some
 rehashed-in z g m [] copies j u k room = never (sym u)

@@ -46,7 +46,7 @@ module _ (z : ℕ) (e : Ground) (g : Staging) (p : ℕ) (lent : Lent z e g) (fre
   new : New z g (freeCopy (e .copies) (g .staged))
   new = new-slot z e g (freeCopy (e .copies) (g .staged)) lent free refl
 
-  lent-new : (bs : List ℕ) → Lent z e (newCopy z e p bs g)
+  pub lent-new : (bs : List ℕ) → Lent z e (newCopy z e p bs g)
   unfolding newCopy freeCopy
   lent-new bs =
       record {
@@ -61,7 +61,7 @@ module _ (z : ℕ) (e : Ground) (g : Staging) (p : ℕ) (lent : Lent z e g) (fre
   unfolding newCopy
   own-slot bs lt = getD-set-same (g .staged) p (freeCopy (e .copies) (g .staged)) none lt
 
-  own-copy : (bs : List ℕ) → p < length (g .staged) → bare p (newCopy z e p bs g) ≡ false
+  pub own-copy : (bs : List ℕ) → p < length (g .staged) → bare p (newCopy z e p bs g) ≡ false
   unfolding bare
   own-copy bs lt = ne-eqb (getD (newCopy z e p bs g .staged) p none) none (λ x. omega (arith, x, own-slot bs lt, new .small))
 
@@ -75,7 +75,7 @@ module _ (z : ℕ) (e : Ground) (g : Staging) (p : ℕ) (lent : Lent z e g) (fre
   other-copy bs q ne = ap (λ (n : ℕ). eqb n none) (other-slot bs q ne)
 
   -- what is read of it
-  own-read : (bs : List ℕ) → p < length (g .staged) → length bs ≡ z → sectorAt z e p (newCopy z e p bs g) ≡ bs
+  pub own-read : (bs : List ℕ) → p < length (g .staged) → length bs ≡ z → sectorAt z e p (newCopy z e p bs g) ≡ bs
   unfolding newCopy
   own-read bs lt l =
       let f = freeCopy (e .copies) (g .staged) in

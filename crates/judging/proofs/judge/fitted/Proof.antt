@@ -25,7 +25,7 @@ abbrev start-1 : tie.After-wanted → tie.Start
 start-1 c = c .before .before .before
 
 slots : (c : tie.After-wanted) → let a = start-1 c .args in
-    ltb (freeCopies (setting (a .sectors) (a .copies) (a .places) (a .terms) []) (a .p)) (wanted (a .z) (a .p) (a .op) (numbers (a .args)))
+    ltb (freeCopies (setting (a .sectors) (a .copies) (a .places) (a .terms) [] []) (a .p)) (wanted (a .z) (a .p) (a .op) (numbers (a .args)))
     ≡ ltb (c .before .free-copies .result) (c .wanted .result)
 unfolding freeCopies
 slots c = ap₂ ltb (sym (c .before .free-copies .ensures)) (sym (c .wanted .ensures))

@@ -1,18 +1,18 @@
 -- `plan::chain::argued` meets its contract: a walk down the definition. Assumes nothing.
 use mathlib.Core.Path.{_≡_, sym, ap, _∙_}
 use mathlib.Core.Bool.{false, not}
-use mathlib.Core.List.{List}
+use mathlib.Core.List.{List, []}
+use Prim.Native.Nat.{ℕ}
 use native.Mathlib.Omega.{arith}
 use lib.ListN.{length}
 use borrow.Author.Tests.{not-true, not-false, eq-eqb, ne-eqb}
 use Rattle.area.specs.Pick.{both}
 use Rattle.area.proofs.Laws.Pick.{yes, no}
-use Rattle.host.specs.Places.{taken}
 use Rattle.rules.specs.View.{Setting, setting, readOnlyMode}
+use Rattle.rules.specs.Roots.{keptRoot}
 use Rattle.rules.specs.Plan.{changes, Source, isThere, spots, sourceOf}
 use Rattle.rules.proofs.Laws.Spots.{few-spots}
 use Rattle.view.proofs.Laws.Roots.{seen-count}
-use Rattle.view.proofs.Callers.{slots-hold}
 use Rattle.rules.specs.declared.Spot.{Spot}
 use Rattle.pricing.specs.Numbers.{numbers}
 use Rattle.plan.specs.Source.{Shows}
@@ -29,14 +29,17 @@ use Rattle.plan.proofs.chain.argued.Tie as tie
 -- ---- what the calls gave, in the definitions' words
 
 abbrev the-set : tie.Start → Setting
-the-set s = setting (s .args .sectors) (s .args .copies) (s .args .places) (s .args .terms) (s .args .disk .now)
+the-set s = setting (s .args .sectors) (s .args .copies) (s .args .places) (s .args .terms) [] []
+
+abbrev the-roots : tie.Start → Spot → List ℕ
+the-roots s = keptRoot (s .args .diskroots .now) (s .args .stageroots .now)
 
 abbrev the-source : tie.Start → Source
-the-source s = sourceOf (s .args .z) (the-set s) (s .args .p) (s .args .op) (s .args .args .key)
+the-source s = sourceOf (s .args .z) (the-set s) (the-roots s) (s .args .p) (s .args .op) (s .args .args .key)
 
 -- 24
 abbrev start-1 : tie.After-changes-nothing → tie.Start
-start-1 c = c .before .before .before .before
+start-1 c = c .before .before .before .before .before
 
 mode : (c : tie.After-changes-nothing) → both (changes (start-1 c .args .op)) (readOnlyMode (start-1 c .args .terms)) ≡ c .changes-nothing .result
 unfolding readOnlyMode
@@ -52,7 +55,7 @@ start-2 c = start-1 (c .before .before .before)
 shown : (c : tie.After-source-of) → Shows (c .source-of .result) (the-source (start-2 c))
 shown c =
     let s = start-2 c in
-    shows-as _ _ _ (source-same (s .args .z) (the-set s) (s .args .p) (s .args .op) (s .args .args .key)) (c .source-of .ensures)
+    shows-as _ _ _ (source-same (s .args .z) (the-set s) (the-roots s) (s .args .p) (s .args .op) (s .args .args .key)) (c .source-of .ensures)
 
 there : (c : tie.Else2) → not (isThere (the-source (start-2 (c .before .before)))) ≡ false
 there c = ap not (sym (shown (c .before .before) .there) ∙ not-false _ (c .if2 .left))
@@ -84,10 +87,9 @@ returns c = yes _ _ _ (mode (c .before .before) ∙ c .before .if1 .taken) (c .f
 
 source-of-requires : tie.Need-source-of-requires
 source-of-requires c κs =
-    let s = c .before .before .before .before .before .before in
-    let solid = s .pre .1 .0 in
-    let slots = slots-hold (s .args .z) (s .args .disk .now) (s .args .sectors) (taken (s .args .z) (s .args .places)) (solid .disk) (solid .slots) in
-    (s .pre .0, (solid .small, slots))
+    let s = c .before .before .before .before .before .before .before in
+    let plans = s .pre .0 in
+    (plans .lent .size, (plans .small, plans .roots))
 
 failed-requires-2 : tie.Need-failed-requires-2
 failed-requires-2 c κs = search needs
@@ -103,14 +105,14 @@ weighed-requires : tie.Need-weighed-requires
 weighed-requires c κs =
     let at-source-of = c .before .before .before in
     let s = start-2 at-source-of in
-    let solid = s .pre .1 .0 in
-    let good = s .pre .1 .1 in
-    let few = few-spots (s .args .z) (the-set s) (s .args .p) (s .args .op) (s .args .args .key) (solid .small)
-    (size-few (s .args .z) (the-set s) (s .args .p) solid good) in
+    let plans = s .pre .0 in
+    let good = s .pre .1 in
+    let few = few-spots (s .args .z) (the-set s) (the-roots s) (s .args .p) (s .args .op) (s .args .args .key) (plans .small)
+    (size-few (s .args .z) (the-set s) (s .args .p) (plans .lent) good) in
     let many = sym (ap (λ (l : List Spot). length l) (shown at-source-of .sectors)) ∙ seen-count (at-source-of .source-of .result .seen) in (
-      s .pre .0,
+      plans .lent .size,
       (
-        solid .lent .most,
+        plans .lent .most,
         (omega (arith, few, many), (length-most (s .args .z) (the-set s) (s .args .p) good, room-most (s .args .z) (the-set s) (s .args .p) good)),
       ),
     )

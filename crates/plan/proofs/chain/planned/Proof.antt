@@ -1,13 +1,15 @@
 -- `plan::chain::planned` meets its contract: a walk down the definition. Assumes nothing.
 use mathlib.Core.Path.{_≡_, sym, ap, ap₂, _∙_}
 use mathlib.Core.Bool.{true, false}
-use mathlib.Core.List.{List}
+use mathlib.Core.List.{List, []}
 use Prim.Native.Nat.{ℕ}
 use borrow.Author.Tests.{not-true, not-false}
 use Rattle.sia.specs.Names.{opOf}
 use Rattle.rules.specs.View.{Setting, setting}
+use Rattle.rules.specs.Roots.{keptRoot}
 use Rattle.rules.specs.Inputs.{illFormed, pastEnd, inputsOf, wellFormed, argsOf}
 use Rattle.sia.specs.declared.Op.{Op}
+use Rattle.rules.specs.declared.Spot.{Spot}
 use Rattle.inputs.specs.Given.{given, fromOf, placed}
 use Rattle.inputs.proofs.Laws.Given.{told-is, args-are}
 use Rattle.plan.specs.Planned.{failed, argued}
@@ -20,7 +22,10 @@ use Rattle.plan.proofs.chain.planned.Tie as tie
 
 -- the setting, the operation and the inputs
 abbrev the-set : tie.Start → Setting
-the-set s = setting (s .args .sectors) (s .args .copies) (s .args .places) (s .args .terms) (s .args .disk .now)
+the-set s = setting (s .args .sectors) (s .args .copies) (s .args .places) (s .args .terms) [] []
+
+abbrev the-roots : tie.Start → Spot → List ℕ
+the-roots s = keptRoot (s .args .diskroots .now) (s .args .stageroots .now)
 
 abbrev the-op : tie.Start → Op
 the-op s = opOf (s .args .i .name)
@@ -30,7 +35,7 @@ the-inputs s = inputsOf (s .args .i) (s .args .input .now)
 
 -- what the decoder told
 abbrev start-1 : tie.After-decoded → tie.Start
-start-1 c = c .before .before .before .before .before .before .before .before .before .before
+start-1 c = c .before .before .before .before .before .before .before .before .before .before .before
 
 heard : (c : tie.After-decoded) → c .decoded .result ≡ given (the-op (start-1 c)) (the-inputs (start-1 c)) (fromOf (the-op (start-1 c)) (start-1 c .args .i))
 heard c = c .decoded .ensures ∙ ap (λ (o : Op). given o (the-inputs (start-1 c)) (fromOf o (start-1 c .args .i)))
@@ -42,7 +47,7 @@ well-told c = told-is _ _ _ _ (heard c)
 -- ---- the checks that did not apply
 
 abbrev start-2 : tie.Else1 → tie.Start
-start-2 c = c .before .before .before .before .before .before
+start-2 c = c .before .before .before .before .before .before .before
 
 formed : (c : tie.Else1) → illFormed (start-2 c .args .i) ≡ false
 formed c = sym (c .before .ill-formed .ensures) ∙ c .if1 .left
@@ -78,9 +83,9 @@ returns : tie.Need-returns
 returns c =
     let at-ill-formed = c .before .before in
     let at-op-of = at-ill-formed .before in
-    let s = at-op-of .before .before .before .before in
+    let s = at-op-of .before .before .before .before .before in
     c .failed .ensures ∙ ap (λ (o : Op). failed o _) (at-op-of .op-of .ensures)
-    ∙ fails-21 (s .args .z) (the-set s) (s .args .p) (s .args .i) (s .args .input .now) (sym (at-ill-formed .ill-formed .ensures) ∙ c .before .if1 .taken)
+    ∙ fails-21 (s .args .z) (the-set s) (the-roots s) (s .args .p) (s .args .i) (s .args .input .now) (sym (at-ill-formed .ill-formed .ensures) ∙ c .before .if1 .taken)
 
 past-end-requires : tie.Need-past-end-requires
 past-end-requires c κs = search needs
@@ -94,14 +99,14 @@ returns-2 c =
     let at-if1 = at-past-end .before .before in
     let s = start-2 at-if1 in
     c .failed2 .ensures ∙ ap (λ (o : Op). failed o _) (at-if1 .before .before .op-of .ensures)
-    ∙ fails-22 (s .args .z) (the-set s) (s .args .p) (s .args .i) (s .args .input .now) (formed at-if1)
+    ∙ fails-22 (s .args .z) (the-set s) (the-roots s) (s .args .p) (s .args .i) (s .args .input .now) (formed at-if1)
     (sym (at-past-end .past-end .ensures) ∙ c .before .if2 .taken)
 
 decoded-requires : tie.Need-decoded-requires
 decoded-requires c κs =
     let at-if1 = c .before .before .before in
     let s = start-2 at-if1 in
-    (at-if1 .before .before .op-of .ensures, (formed at-if1, ap (λ (n : ℕ). pastEnd n (s .args .i)) (s .pre .1 .1 .1) ∙ within c))
+    (at-if1 .before .before .op-of .ensures, (formed at-if1, ap (λ (n : ℕ). pastEnd n (s .args .i)) (s .pre .1 .1) ∙ within c))
 
 failed-requires-3 : tie.Need-failed-requires-3
 failed-requires-3 c κs = search needs
@@ -113,11 +118,11 @@ returns-3 c =
     let at-if1 = at-if2 .before .before .before in
     let s = start-2 at-if1 in
     c .failed3 .ensures ∙ ap (λ (o : Op). failed o _) (at-if1 .before .before .op-of .ensures)
-    ∙ fails-23 (s .args .z) (the-set s) (s .args .p) (s .args .i) (s .args .input .now) (formed at-if1) (within at-if2)
+    ∙ fails-23 (s .args .z) (the-set s) (the-roots s) (s .args .p) (s .args .i) (s .args .input .now) (formed at-if1) (within at-if2)
     (sym (well-told at-decoded) ∙ not-true _ (c .before .if3 .taken))
 
 argued-requires : tie.Need-argued-requires
-argued-requires c κs = let s = start-4 (c .before) in (s .pre .0, (s .pre .1 .0, s .pre .1 .1 .0))
+argued-requires c κs = let s = start-4 (c .before) in (s .pre .0, s .pre .1 .0)
 
 returns-4 : tie.Need-returns-4
 returns-4 c =
@@ -126,8 +131,8 @@ returns-4 c =
     let at-if1 = at-if2 .before .before .before in
     let s = start-2 at-if1 in
     c .argued .ensures
-    ∙ ap₂ (argued (s .args .z) (the-set s) (s .args .p) (s .args .i .proof)) (at-if1 .before .before .op-of .ensures) (heard-args at-if3)
-    ∙ argued-is (s .args .z) (the-set s) (s .args .p) (s .args .i) (s .args .input .now) (formed at-if1) (within at-if2) (told at-if3)
+    ∙ ap₂ (argued (s .args .z) (the-set s) (the-roots s) (s .args .p) (s .args .i .proof)) (at-if1 .before .before .op-of .ensures) (heard-args at-if3)
+    ∙ argued-is (s .args .z) (the-set s) (the-roots s) (s .args .p) (s .args .i) (s .args .input .now) (formed at-if1) (within at-if2) (told at-if3)
 
 pub planned-spec : {M : Type 1} → statement M
 planned-spec =

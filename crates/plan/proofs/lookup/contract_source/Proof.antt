@@ -23,7 +23,7 @@ returns : tie.Need-returns
 returns c =
     let at-place-of = c .before .before .before in
     let s = at-place-of .before in
-    shows-as _ _ _ (not-found (s .args .z) (setting 0 0 (s .args .places) (s .args .terms) []) (s .args .p) (s .args .key)
+    shows-as _ _ _ (not-found (s .args .z) (setting 0 0 (s .args .places) (s .args .terms) [] []) (s .args .p) (s .args .key)
     (ap (λ (q : Place). q .held) (sym (at-place-of .place-of .ensures)) ∙ not-true _ (c .before .if1 .taken))) (c .missing .ensures)
 
 same-id-requires : tie.Need-same-id-requires
@@ -40,11 +40,11 @@ returns-2 c =
     let at-place-of = at-if1 .before .before in
     let s = at-place-of .before in
     let same = sym (at-same-id .same-id .ensures) ∙ at-if2 .if2 .taken in
-    shows-as _ _ _ (own-found (s .args .z) (setting 0 0 (s .args .places) (s .args .terms) []) (s .args .p) (s .args .key)
+    shows-as _ _ _ (own-found (s .args .z) (setting 0 0 (s .args .places) (s .args .terms) [] []) (s .args .p) (s .args .key)
     (ap (λ (q : Place). q .held) (sym (at-place-of .place-of .ensures)) ∙ not-false _ (at-if1 .if1 .left)) same)
     (shows-seen _ _ (c .parent-seen .ensures .0
-    ∙ parent-spots (s .args .z) (setting 0 0 (s .args .places) (s .args .terms) []) (s .args .p) _
-    (at-place-of .place-of .ensures ∙ parent-whose (setting 0 0 (s .args .places) (s .args .terms) []) (s .args .key) same)))
+    ∙ parent-spots (s .args .z) (setting 0 0 (s .args .places) (s .args .terms) [] []) (s .args .p) _
+    (at-place-of .place-of .ensures ∙ parent-whose (setting 0 0 (s .args .places) (s .args .terms) [] []) (s .args .key) same)))
 
 committed-seen-requires : tie.Need-committed-seen-requires
 committed-seen-requires c κs =
@@ -60,7 +60,7 @@ returns-3 c =
     let at-if1 = at-same-id .before .before .before in
     let at-place-of = at-if1 .before .before in
     let s = at-place-of .before in
-    shows-as _ _ _ (other-found (s .args .z) (setting 0 0 (s .args .places) (s .args .terms) []) (s .args .p) (s .args .key)
+    shows-as _ _ _ (other-found (s .args .z) (setting 0 0 (s .args .places) (s .args .terms) [] []) (s .args .p) (s .args .key)
     (ap (λ (q : Place). q .held) (sym (at-place-of .place-of .ensures)) ∙ not-false _ (at-if1 .if1 .left))
     (sym (at-same-id .same-id .ensures) ∙ c .before .if2 .left))
     (shows-seen _ _ (c .committed-seen .ensures .0 ∙ ap (committedSpots (s .args .z)) (at-place-of .place-of .ensures)))

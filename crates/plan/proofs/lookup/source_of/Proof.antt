@@ -1,8 +1,10 @@
 -- `plan::lookup::source_of` meets its contract, arm by arm. Assumes nothing.
 use mathlib.Core.Path.{sym, ap}
+use mathlib.Core.List.{[]}
 use Rattle.rules.specs.View.{setting}
 use Rattle.plan.proofs.Laws.Lookup.{shows-as}
 use Rattle.rules.specs.View.{parent, parentSpots}
+use Rattle.rules.specs.Roots.{keptRoot}
 use Rattle.rules.specs.Plan.{Source, contractSource, sourceOf}
 use Rattle.sia.specs.declared.Op.{Op}
 use borrow.Author.Needs.{needs}
@@ -11,14 +13,16 @@ use Rattle.plan.proofs.lookup.source_of.Tie as tie
 
 -- what is read, by the operation
 abbrev source-at : tie.Start → Op → Source
-source-at s o = sourceOf (s .args .z) (setting 0 0 (s .args .places) (s .args .terms) (s .args .disk .now)) (s .args .p) o (s .args .key)
+source-at s o =
+    sourceOf (s .args .z) (setting 0 0 (s .args .places) (s .args .terms) [] []) (keptRoot (s .args .diskroots .now) (s .args .stageroots .now)) (s .args .p) o
+    (s .args .key)
 
 enum-told : tie.Need-enum-told
 enum-told c = search needs
 
 contract-source-requires : tie.Need-contract-source-requires
 contract-source-requires c κs =
-    let s = c .before .before .before in
+    let s = c .before .before .before .before in
     (s .pre .0, s .pre .1 .0)
 
 enum-told-2 : tie.Need-enum-told-2
@@ -26,7 +30,7 @@ enum-told-2 c = search needs
 
 sector-source-requires : tie.Need-sector-source-requires
 sector-source-requires c κs =
-    let s = c .before .before .before in
+    let s = c .before .before .before .before in
     (s .pre .0, s .pre .1 .1)
 
 enum-told-3 : tie.Need-enum-told-3
@@ -62,43 +66,43 @@ nothing-requires-5 c κs = search needs
 returns : tie.Need-returns
 unfolding sourceOf contractSource parentSpots parent
 returns c =
-    let s = c .before .before .before .before in
+    let s = c .before .before .before .before .before in
     shows-as _ _ _ (sym (ap (source-at s) (c .before .enum-told .given .1))) (c .contract-source .ensures)
 
 returns-2 : tie.Need-returns-2
 unfolding sourceOf
 returns-2 c =
-    let s = c .before .before .before .before in
+    let s = c .before .before .before .before .before in
     shows-as _ _ _ (sym (ap (source-at s) (c .before .enum-told2 .given .1))) (c .sector-source .ensures)
 
 returns-3 : tie.Need-returns-3
 unfolding sourceOf
 returns-3 c =
-    let s = c .before .before .before .before in
+    let s = c .before .before .before .before .before in
     shows-as _ _ _ (sym (ap (source-at s) (c .before .enum-told3 .given .1))) (c .nothing .ensures)
 
 returns-4 : tie.Need-returns-4
 unfolding sourceOf
 returns-4 c =
-    let s = c .before .before .before .before in
+    let s = c .before .before .before .before .before in
     shows-as _ _ _ (sym (ap (source-at s) (c .before .enum-told4 .given .1))) (c .nothing2 .ensures)
 
 returns-5 : tie.Need-returns-5
 unfolding sourceOf
 returns-5 c =
-    let s = c .before .before .before .before in
+    let s = c .before .before .before .before .before in
     shows-as _ _ _ (sym (ap (source-at s) (c .before .enum-told5 .given .1))) (c .nothing3 .ensures)
 
 returns-6 : tie.Need-returns-6
 unfolding sourceOf
 returns-6 c =
-    let s = c .before .before .before .before in
+    let s = c .before .before .before .before .before in
     shows-as _ _ _ (sym (ap (source-at s) (c .before .enum-told6 .given .1))) (c .nothing4 .ensures)
 
 returns-7 : tie.Need-returns-7
 unfolding sourceOf
 returns-7 c =
-    let s = c .before .before .before .before in
+    let s = c .before .before .before .before .before in
     shows-as _ _ _ (sym (ap (source-at s) (c .before .enum-told7 .given .1))) (c .nothing5 .ensures)
 
 pub source-of-spec : {M : Type 1} → statement M

@@ -1,0 +1,2 @@
+-- What the code asks of its callers.
+pub mod Asks
