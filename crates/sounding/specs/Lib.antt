@@ -1,0 +1,2 @@
+-- What the functions that look at kept roots ask of their callers.
+pub mod Asks
