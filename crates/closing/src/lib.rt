@@ -71,7 +71,7 @@ fn same_pair(one: Pair, two: Pair) -> bool
     area::same(&root, &other)
 }
 
-// Staged sectors go to the parent's slots on the disk, and the parent takes its final size.
+// Staged sectors go to the parent's slots on the disk, each with the root kept beside it, and the parent takes its final size.
 fn commit(host: Host, disk: &mut [u8], stage: &[u8]) -> Closing
     requires { ⌜ Ready (now disk) host (now stage) ⌝ }
     ensures { λ r. ⌜ closeLeaves r (now (disk .exit)) ≡ Says.commit (now (disk .entry)) host (now (stage .entry)) ⌝ }
@@ -90,9 +90,14 @@ fn commit(host: Host, disk: &mut [u8], stage: &[u8]) -> Closing
     let new = commit::final_place(old, size, slots);
     let after_places = host::replaced_in(places, id, new);
     let growth = commit::growth(size, old.size);
-    commit::copy_back(z, stage, staged, slots, (size / z) as usize, disk);
+    let count = (size / z) as usize;
+    commit::copy_back(z, stage, staged, slots, count, disk);
+    let stageroots = host.stageroots;
+    let mut diskroots = host.diskroots;
+    commit::copy_back(32, &stageroots, staged, slots, count, &mut diskroots);
     let mut after = host;
     after.places = after_places;
+    after.diskroots = diskroots;
     let none = Program::none();
     after.program = none;
     Closing {
@@ -108,8 +113,8 @@ fn agree_to(host: Host, disk: &mut [u8], stage: &[u8], named: Pair) -> Closing
     requires { ⌜ Ready (now disk) host (now stage) ⌝ }
     ensures { λ r. ⌜ closeLeaves r (now (disk .exit)) ≡ Says.agreed (now (disk .entry)) host (now (stage .entry)) named ⌝ }
 {
-    let starting = turns::starting_pair(host, &*disk);
-    let running = turns::running_pair(host, &*disk, stage);
+    let starting = turns::starting_pair(host);
+    let running = turns::running_pair(host);
     if same_pair(running, starting) {
         return give_up(0, host);
     }

@@ -5,17 +5,15 @@ use mathlib.Core.List.{List}
 use Prim.Native.Nat.{ℕ, _+_, _≤_}
 use lib.ListN.{length}
 use Rattle.host.specs.Order.{inOrder}
-use Rattle.rules.specs.View.{diskRight}
 use Rattle.rules.specs.Run.{going}
 use Rattle.rules.specs.Calls.{inputRight, outputRight, Pieced, pieced, Interrupted, interrupted}
 use Rattle.host.specs.declared.Host.{Host}
 use Rattle.rules.specs.declared.Answer.{Answer}
 use Rattle.turns.specs.Asks.{Ready}
 
--- a host in order with an open program that is going, its disk and the output area as stated
-pub record Stops (d : List ℕ) (h : Host) (out : List ℕ) : Type 0 where
+-- a host in order with an open program that is going, and the output area as stated
+pub record Stops (h : Host) (out : List ℕ) : Type 0 where
   pub order : inOrder h ≡ true
-  pub disk : diskRight h d ≡ true
   pub live : h .program .active ≡ true
   pub output : outputRight h out ≡ true
   pub going : going (h .program .terms) (h .program .progress) ≡ true

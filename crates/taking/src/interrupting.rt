@@ -1,20 +1,22 @@
 // Interrupting a program.
 ghost use mathlib.Core.Path.{_≡_};
+ghost use mathlib.Core.List.{[]};
 ghost use Rattle.rules.specs.Calls as Says;
 ghost use Rattle.rules.specs.Calls.{stopped};
 ghost use Rattle.taking.specs.Asks.{Stops, interruptLeaves};
 use host::Host;
 use rules::Answer;
 
-// Record 20, for the first instruction not run.
-fn stop(host: Host, disk: &[u8], output: &mut [u8]) -> Answer
-    requires { ⌜ Stops (now disk) host (now output) ⌝ }
-    ensures { λ r. ⌜ interruptLeaves r (now (output .exit)) ≡ stopped (now (disk .entry)) host (now (output .entry)) ⌝ }
+// Record 20, for the first instruction not run. Its root comes from the roots that are kept: no area is looked at.
+fn stop(host: Host, output: &mut [u8]) -> Answer
+    requires { ⌜ Stops host (now output) ⌝ }
+    ensures { λ r. ⌜ interruptLeaves r (now (output .exit)) ≡ stopped [] host (now (output .entry)) ⌝ }
 {
     let mut program = host.program;
     let parent = turns::parent(host);
     let progress = program.progress;
-    let failed = step::fail(host.sector, 20, disk, parent, progress, output);
+    let diskroots = host.diskroots;
+    let failed = step::fail(host.sector, 20, &diskroots, parent, progress, output);
     program.progress = failed;
     let mut after = host;
     after.program = program;
@@ -44,7 +46,7 @@ pub fn interrupt(host: Host, disk: &[u8], output: &mut [u8]) -> Answer
         return opening::refused(4, host);
     }
     if turns::going(program) {
-        return stop(host, disk, output);
+        return stop(host, output);
     }
     let progress = program.progress;
     Answer {

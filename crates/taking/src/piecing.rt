@@ -49,16 +49,20 @@ fn accept(
     let came = program.came;
     area::copy_between(bytes, 0, input, came as usize, bytes.len());
     let k = came + bytes.len() as u64;
+    let diskroots = host.diskroots;
+    let mut stageroots = host.stageroots;
     let progress = turns::run(
         host.sector,
         host.disk,
         host.stage,
         places,
         terms,
+        &diskroots,
         disk,
         &*input,
         k,
         start,
+        &mut stageroots,
         stage,
         output,
     );
@@ -66,6 +70,7 @@ fn accept(
     program.progress = progress;
     let mut after = host;
     after.program = program;
+    after.stageroots = stageroots;
     Answer {
         number: 0,
         tally: progress.tally,

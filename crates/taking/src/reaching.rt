@@ -1,8 +1,10 @@
 // What a program has reached.
 ghost use mathlib.Core.Path.{_≡_};
+ghost use mathlib.Core.Bool.{true};
+ghost use mathlib.Core.List.{[]};
+ghost use Rattle.host.specs.Order.{inOrder};
 ghost use Rattle.rules.specs.Calls as Says;
 ghost use Rattle.rules.specs.Calls.{reachedAt, reachedPair, noPair};
-ghost use Rattle.turns.specs.Asks.{Ready};
 use host::Host;
 use rules::Reached;
 
@@ -17,15 +19,16 @@ fn unreached(number: u64) -> Reached
     }
 }
 
-// The pair that an agreement would name; after a failure the starting pair.
-fn reach<'a>(host: Host, disk: &'a [u8], stage: &'a [u8]) -> Reached
-    requires { ⌜ Ready (now disk) host (now stage) ⌝ }
-    ensures { λ r. ⌜ r ≡ reachedAt 0 (reachedPair (now (disk .entry)) host (now (stage .entry))) ⌝ }
+// The pair that an agreement would name; after a failure the starting pair. Both come from the roots that are kept: no area is looked at.
+fn reach(host: Host) -> Reached
+    requires { ⌜ inOrder host ≡ true ⌝ }
+    requires { ⌜ host .program .active ≡ true ⌝ }
+    ensures { λ r. ⌜ r ≡ reachedAt 0 (reachedPair [] host []) ⌝ }
 {
     let program = host.program;
     let progress = program.progress;
     if progress.failed {
-        let starting = turns::starting_pair(host, disk);
+        let starting = turns::starting_pair(host);
         let root = starting.root;
         return Reached {
             number: 0,
@@ -33,7 +36,7 @@ fn reach<'a>(host: Host, disk: &'a [u8], stage: &'a [u8]) -> Reached
             root,
         };
     }
-    let running = turns::running_pair(host, disk, stage);
+    let running = turns::running_pair(host);
     let root = running.root;
     Reached {
         number: 0,
@@ -43,7 +46,7 @@ fn reach<'a>(host: Host, disk: &'a [u8], stage: &'a [u8]) -> Reached
 }
 
 // The size and root that the program has reached: 1, 2, 4. It changes nothing.
-pub fn reached<'a>(host: Host, disk: &'a [u8], stage: &'a [u8]) -> Reached
+pub fn reached(host: Host, disk: &[u8], stage: &[u8]) -> Reached
     ensures { λ r. ⌜ r ≡ Says.reached (now (disk .entry)) host (now (stage .entry)) ⌝ }
 {
     if !order::in_order(host) {
@@ -56,5 +59,5 @@ pub fn reached<'a>(host: Host, disk: &'a [u8], stage: &'a [u8]) -> Reached
     if !program.active {
         return unreached(4);
     }
-    reach(host, disk, stage)
+    reach(host)
 }

@@ -3,10 +3,12 @@ use mathlib.Core.Path.{_≡_, refl, sym, ap, ap₂, _∙_}
 use mathlib.Core.Bool.{Bool}
 use borrow.Author.Tests.{not-true, not-false}
 use Rattle.area.proofs.Laws.Pick.{yes, no}
-use Rattle.rules.specs.Record.{samePair}
-use Rattle.rules.specs.Commit.{givenUp, agreed}
+use Rattle.rules.specs.View.{settingOf}
+use Rattle.rules.specs.Roots.{rootOf}
+use Rattle.rules.specs.Record.{samePair, startingPair, runningPair}
+use Rattle.rules.specs.Commit.{givenUp, agreedBy}
 use Rattle.rules.specs.declared.Pair.{Pair}
-use Rattle.turns.proofs.Laws.Hosts.{areas-disk}
+use Rattle.turns.proofs.Laws.Hosts.{starting-any, running-any}
 use Rattle.closing.specs.Asks.{closeLeaves}
 use Rattle.closing.specs.declared.Closing.{Closing}
 use borrow.Author.Needs.{needs}
@@ -17,11 +19,26 @@ use Rattle.closing.proofs.agree_to.Tie as tie
 tested : {b : Bool} {one two : Pair} (is its : Pair) → b ≡ samePair one two → one ≡ is → two ≡ its → samePair is its ≡ b
 tested is its e p q = sym (e ∙ ap₂ samePair p q)
 
+-- ---- the two pairs, as an agreement has them
+
+abbrev start : tie.After-starting-pair → tie.Start
+start c = c .before .before .before
+
+started : (c : tie.After-starting-pair) → let a = start c .args in c .starting-pair .result ≡ startingPair (a .host .sector) (settingOf (a .host) (a .disk .now))
+started c = let a = start c .args in c .starting-pair .ensures ∙ starting-any (a .host) (a .disk .now)
+
+reached : (c : tie.After-running-pair) → let a = start (c .before) .args in let s = settingOf (a .host) (a .disk .now) in
+    c .running-pair .result
+    ≡ runningPair (a .host .sector) s (rootOf (a .host .sector) s (a .stage .now) (a .host .stageroots)) (a .host .program .progress)
+reached c = let a = start (c .before) .args in c .running-pair .ensures ∙ running-any (a .host) (a .disk .now) (a .stage .now)
+
+-- ---- the needs
+
 starting-pair-requires : tie.Need-starting-pair-requires
-starting-pair-requires c κs = let asked = c .before .before .before .pre in (asked .order, areas-disk _ _ _ (asked .areas))
+starting-pair-requires c κs = c .before .before .pre .order
 
 running-pair-requires : tie.Need-running-pair-requires
-running-pair-requires c κs = search needs
+running-pair-requires c κs = let asked = c .before .before .before .pre in (asked .order, asked .live)
 
 same-pair-requires : tie.Need-same-pair-requires
 same-pair-requires c κs = search needs
@@ -29,19 +46,14 @@ same-pair-requires c κs = search needs
 give-up-requires : tie.Need-give-up-requires
 give-up-requires c κs = search needs
 
-same-length : tie.Need-same-length
-same-length c = search needs
-
 returns : tie.Need-returns
-unfolding agreed givenUp
+unfolding agreedBy givenUp
 returns c =
     let then = c .before .before in
     let pairs = then .before in
-    let started = pairs .before .before in
-    let disk = started .before .before .before .before .args .disk .now in
+    let disk = start (pairs .before) .args .disk .now in
     ap (λ (r : Closing). closeLeaves r disk) (c .give-up .ensures)
-    ∙ yes _ _ _ (tested _ _ (then .same-pair .ensures) (pairs .running-pair .ensures) (started .starting-pair .ensures)
-    ∙ c .before .if1 .taken) refl
+    ∙ yes _ _ _ (tested _ _ (then .same-pair .ensures) (reached pairs) (started (pairs .before)) ∙ c .before .if1 .taken) refl
 
 same-pair-requires-2 : tie.Need-same-pair-requires-2
 same-pair-requires-2 c κs = search needs
@@ -49,39 +61,32 @@ same-pair-requires-2 c κs = search needs
 give-up-requires-2 : tie.Need-give-up-requires-2
 give-up-requires-2 c κs = search needs
 
-same-length-2 : tie.Need-same-length-2
-same-length-2 c = search needs
-
 returns-2 : tie.Need-returns-2
-unfolding agreed givenUp
+unfolding agreedBy givenUp
 returns-2 c =
     let else = c .before in
     let then = else .before .before .before in
     let pairs = then .before in
-    let started = pairs .before .before in
-    let disk = started .before .before .before .before .args .disk .now in
+    let disk = start (pairs .before) .args .disk .now in
     ap (λ (r : Closing). closeLeaves r disk) (c .give-up2 .ensures)
-    ∙ no _ _ _ (tested _ _ (then .same-pair .ensures) (pairs .running-pair .ensures) (started .starting-pair .ensures)
-    ∙ else .before .before .if1 .left)
-    (no _ _ _ (tested _ _ (else .before .same-pair2 .ensures) refl (pairs .running-pair .ensures) ∙ not-true _ (else .if2 .taken)) refl)
+    ∙ no _ _ _ (tested _ _ (then .same-pair .ensures) (reached pairs) (started (pairs .before)) ∙ else .before .before .if1 .left)
+    (no _ _ _ (tested _ _ (else .before .same-pair2 .ensures) refl (reached pairs) ∙ not-true _ (else .if2 .taken)) refl)
 
 commit-requires : tie.Need-commit-requires
 commit-requires c κs = search needs
 
-same-length-3 : tie.Need-same-length-3
-same-length-3 c = search needs
+same-length : tie.Need-same-length
+same-length c = search needs
 
 returns-3 : tie.Need-returns-3
-unfolding agreed givenUp
+unfolding agreedBy givenUp
 returns-3 c =
     let done = c .before .before in
     let else = done .before .before in
     let then = else .before .before .before in
     let pairs = then .before in
-    let started = pairs .before .before in
-    no _ _ _ (tested _ _ (then .same-pair .ensures) (pairs .running-pair .ensures) (started .starting-pair .ensures)
-    ∙ else .before .before .if1 .left)
-    (yes _ _ _ (tested _ _ (else .before .same-pair2 .ensures) refl (pairs .running-pair .ensures) ∙ not-false _ (else .if2 .left))
+    no _ _ _ (tested _ _ (then .same-pair .ensures) (reached pairs) (started (pairs .before)) ∙ else .before .before .if1 .left)
+    (yes _ _ _ (tested _ _ (else .before .same-pair2 .ensures) refl (reached pairs) ∙ not-false _ (else .if2 .left))
     (done .commit .ensures))
 
 pub agree-to-spec : {M : Type 1} → statement M
@@ -92,12 +97,10 @@ agree-to-spec =
     running-pair-requires
     same-pair-requires
     give-up-requires
-    same-length
     returns
     same-pair-requires-2
     give-up-requires-2
-    same-length-2
     returns-2
     commit-requires
-    same-length-3
+    same-length
     returns-3)

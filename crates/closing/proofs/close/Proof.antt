@@ -6,7 +6,7 @@ use borrow.Author.Tests.{not-false}
 use Rattle.area.proofs.Laws.Pick.{yes, no}
 use Rattle.host.proofs.Laws.Order.{order-facts}
 use Rattle.rules.specs.View.{diskRight, areasRight}
-use Rattle.rules.specs.Commit.{givenUp, close}
+use Rattle.rules.specs.Commit.{givenUp, closeBy}
 use Rattle.closing.specs.Asks.{closeLeaves}
 use Rattle.closing.specs.declared.Closing.{Closing}
 use borrow.Author.Needs.{needs}
@@ -20,7 +20,7 @@ refused-requires : tie.Need-refused-requires
 refused-requires c κs = search needs
 
 returns : tie.Need-returns
-unfolding close areasRight diskRight givenUp
+unfolding closeBy areasRight diskRight givenUp
 returns c =
     yes _ _ _ (ap not (sym (c .before .before .in-order .ensures)) ∙ c .before .if1 .taken)
     (ap (λ (r : Closing). closeLeaves r (c .before .before .before .before .before .args .disk .now)) (c .refused .ensures))
@@ -37,7 +37,7 @@ same-length : tie.Need-same-length
 same-length c = search needs
 
 returns-2 : tie.Need-returns-2
-unfolding close areasRight diskRight givenUp
+unfolding closeBy areasRight diskRight givenUp
 returns-2 c =
     no _ _ _ (ap not (sym (c .before .before .before .before .before .in-order .ensures)) ∙ c .before .before .before .before .if1 .left)
     (yes _ _ _ (ap not (sym (c .before .before .areas-right .ensures)) ∙ c .before .if2 .taken)
@@ -50,7 +50,7 @@ same-length-2 : tie.Need-same-length-2
 same-length-2 c = search needs
 
 returns-3 : tie.Need-returns-3
-unfolding close areasRight diskRight givenUp
+unfolding closeBy areasRight diskRight givenUp
 returns-3 c =
     no _ _ _ (ap not (sym (c .before .before .before .before .before .before .before .before .in-order .ensures)) ∙ c .before .before .before .before .before .before .before .if1 .left)
     (no _ _ _ (ap not (sym (c .before .before .before .before .before .areas-right .ensures)) ∙ c .before .before .before .before .if2 .left)
@@ -64,7 +64,7 @@ same-length-3 : tie.Need-same-length-3
 same-length-3 c = search needs
 
 returns-4 : tie.Need-returns-4
-unfolding close areasRight diskRight givenUp
+unfolding closeBy areasRight diskRight givenUp
 returns-4 c =
     no _ _ _ (ap not (sym (c .before .before .before .before .before .before .before .before .before .in-order .ensures)) ∙ c .before .before .before .before .before .before .before .before .if1 .left)
     (no _ _ _ (ap not (sym (c .before .before .before .before .before .before .areas-right .ensures)) ∙ c .before .before .before .before .before .if2 .left)
@@ -82,7 +82,7 @@ same-length-4 : tie.Need-same-length-4
 same-length-4 c = search needs
 
 returns-5 : tie.Need-returns-5
-unfolding close areasRight diskRight givenUp
+unfolding closeBy areasRight diskRight givenUp
 returns-5 c =
     no _ _ _ (ap not (sym (c .before .before .before .before .before .before .before .before .before .before .before .in-order .ensures)) ∙ c .before .before .before .before .before .before .before .before .before .before .if1 .left)
     (no _ _ _ (ap not (sym (c .before .before .before .before .before .before .before .before .areas-right .ensures)) ∙ c .before .before .before .before .before .before .before .if2 .left)
@@ -99,7 +99,7 @@ same-length-5 : tie.Need-same-length-5
 same-length-5 c = search needs
 
 returns-6 : tie.Need-returns-6
-unfolding close areasRight diskRight givenUp
+unfolding closeBy areasRight diskRight givenUp
 returns-6 c =
     no _ _ _ (ap not (sym (c .before .before .before .before .before .before .before .before .before .before .before .before .before .before .in-order .ensures)) ∙ c .before .before .before .before .before .before .before .before .before .before .before .before .before .if1 .left)
     (no _ _ _ (ap not (sym (c .before .before .before .before .before .before .before .before .before .before .before .areas-right .ensures)) ∙ c .before .before .before .before .before .before .before .before .before .before .if2 .left)

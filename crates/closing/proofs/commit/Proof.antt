@@ -1,17 +1,19 @@
--- `closing::commit` meets its contract: the parent's final slots, its place, the growth, and the staged sectors copied back. Assumes nothing.
+-- `closing::commit` meets its contract: the parent's final slots, its place, the growth, and the staged sectors
+-- and their roots copied back. Assumes nothing.
 use mir.Syntax.{w64}
 use mir.Val.{ofZ, toZ}
 use mir.Facts.{toZ-ofZ}
-use mathlib.Core.Path.{ap, _∙_}
+use mathlib.Core.Path.{sym, ap, _∙_}
 use Rattle.area.specs.Slots.{Size}
 use Rattle.area.proofs.Laws.Slots.{some}
-use Rattle.host.specs.With.{withPlaces, withProgram}
+use Rattle.host.specs.With.{withPlaces, withProgram, withDiskRoots}
 use Rattle.host.specs.declared.Host.{Host}
 use Rattle.host.proofs.Laws.Order.{order-facts}
+use Rattle.host.proofs.Laws.Lengths.{disk-rooted, stage-rooted}
 use Rattle.rules.specs.Commit.{Closed, closed}
 use Rattle.rules.specs.Visit.{Declared}
 use Rattle.commit.proofs.Laws.Shapes.{sounds}
-use Rattle.commit.proofs.Callers.{few-slots, few-sectors, last-size, first-size, backs, commit-made}
+use Rattle.commit.proofs.Callers.{few-slots, few-sectors, last-size, first-size, backs, roots-back, commit-made}
 use Rattle.host.specs.declared.Program.{Program}
 use borrow.Author.Needs.{needs}
 use Rattle.closing.proofs.commit.Statement.{statement}
@@ -46,8 +48,8 @@ growth-requires c κs =
       first-size _ (host at) _ (declared at) (r .order) (r .areas) (r .live) (at .place-of .ensures),
     )
 
-div-copy-back : tie.Need-div-copy-back
-div-copy-back c = some _ (size (c .before .before .before .before))
+div-count : tie.Need-div-count
+div-count c = some _ (size (c .before .before .before .before))
 
 copy-back-requires : tie.Need-copy-back-requires
 copy-back-requires c κs =
@@ -56,10 +58,24 @@ copy-back-requires c κs =
     let r = start at .pre in
     backs _ (host at) _ (declared at) (r .order) (r .areas) (r .live) (at .place-of .ensures) (slots .final-slots .ensures)
 
+slice-aggregate-copy-back : tie.Need-slice-aggregate-copy-back
+slice-aggregate-copy-back c = let at = c .before .before .before .before .before .before .before .before .before .before .before in sym (stage-rooted (host at) _ (start at .good .0))
+
+slice-aggregate-copy-back-2 : tie.Need-slice-aggregate-copy-back-2
+slice-aggregate-copy-back-2 c = let at = c .before .before .before .before .before .before .before .before .before .before .before .before in sym (disk-rooted (host at) _ (start at .good .0))
+
+copy-back-requires-2 : tie.Need-copy-back-requires-2
+copy-back-requires-2 c κs =
+    let slots = c .before .before .before .before .before .before .before .before .before .before .before in
+    let at = slots .before in
+    let r = start at .pre in
+    roots-back _ (host at) _ (declared at) (r .order) (r .areas) (r .live) (at .place-of .ensures) (slots .final-slots .ensures)
+
 returns : tie.Need-returns
-unfolding withProgram withPlaces
+unfolding withProgram withPlaces withDiskRoots
 returns c =
-    let back = c .before .before .before in
+    let rooted = c .before .before in
+    let back = rooted .before .before .before .before .before .before .before in
     let grown = back .before .before in
     let replaced = grown .before in
     let placed = replaced .before in
@@ -67,11 +83,13 @@ returns c =
     let at = slots .before in
     let h = host at in
     let made : Program → Closed =
-    λ g. closed 0 (h .program .progress .tally) (toZ w64 (ofZ w64 (grown .growth .result))) (withProgram (withPlaces h (replaced .replaced-in .result)) g)
+    λ g. closed 0 (h .program .progress .tally) (toZ w64 (ofZ w64 (grown .growth .result)))
+    (withDiskRoots (withProgram (withPlaces h (replaced .replaced-in .result)) g) (rooted .copy-back2 .last .1 .1 .1 .1 .1 .0))
     (back .copy-back .last .1 .1 .1 .1 .1 .0) in
     ap made (c .none .ensures)
     ∙ commit-made _ h _ (at .place-of .ensures) (slots .final-slots .ensures) (placed .final-place .ensures) (replaced .replaced-in .ensures)
     (toZ-ofZ {w = w64} {z = grown .growth .result} (record { sfits = grown .growth .ok }) ∙ grown .growth .ensures) (back .copy-back .ensures)
+    (rooted .copy-back2 .ensures)
 
 pub commit-spec : {M : Type 1} → statement M
 commit-spec =
@@ -82,8 +100,11 @@ commit-spec =
     (λ c κs. search needs)
     (λ c κs. search needs)
     growth-requires
-    div-copy-back
+    div-count
     copy-back-requires
+    slice-aggregate-copy-back
+    slice-aggregate-copy-back-2
+    copy-back-requires-2
     (λ c κs. search needs)
     (λ c. search needs)
     returns)

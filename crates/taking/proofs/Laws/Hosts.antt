@@ -1,7 +1,7 @@
 -- What a host in order gives the calls. Assumes nothing.
 use mathlib.Core.Path.{_≡_, refl, sym, ap, ap₂, _∙_}
 use mathlib.Core.Bool.{Bool, true, false, not}
-use mathlib.Core.List.{List}
+use mathlib.Core.List.{List, []}
 use Prim.Native.Nat.{ℕ, _+_, _-_, _≤_}
 use native.Mathlib.Omega.{arith}
 use lib.ListN.{length}
@@ -14,20 +14,23 @@ use Rattle.sia.specs.Encode.{within}
 use Rattle.host.specs.Order.{inOrder}
 use Rattle.host.proofs.Laws.Order.{order-facts}
 use Rattle.rules.specs.View.{Turn, turn, settingOf, turnOf, withRun}
-use Rattle.rules.specs.Run.{going, run}
-use Rattle.rules.specs.Calls.{inputRight, outputRight, pieced, accepted}
+use Rattle.rules.specs.Record.{recordBytes, failureBytes}
+use Rattle.rules.specs.Run.{failedProgress, failing, going, run}
+use Rattle.rules.specs.Calls.{inputRight, outputRight, Pieced, pieced, acceptedBy, accepted, interrupted, stoppedBy, stopped, reachedPairBy, reachedPair}
+use Rattle.turns.proofs.Laws.Hosts.{starting-any, running-any}
 use Rattle.taking.specs.Asks.{Stops}
 use Rattle.host.specs.declared.Progress.{Progress}
 use Rattle.host.specs.declared.Host.{Host}
+use Rattle.rules.specs.declared.Pair.{Pair}
 
 -- an area of an open program that is not wrong is right
 pub right-if : (active right : Bool) → active ≡ true → both active (not right) ≡ false → right ≡ true
 right-if active right a e = not-false _ (sym (picks active (not right) false a) ∙ e)
 
 -- "with 72 left unless it failed": there is room for the record of a failure
-pub room-left : {disk : List ℕ} {output : List ℕ} (h : Host) → Stops disk h output → h .program .progress .written + 72 ≤ length output
+pub room-left : {output : List ℕ} (h : Host) → Stops h output → h .program .progress .written + 72 ≤ length output
 unfolding outputRight going
-room-left {disk} {output} h s =
+room-left {output} h s =
     let f = order-facts h (s .order) .running (s .live) .progress in
     let failed : h .program .progress .failed ≡ false = not-true _ (both-left _ _ (s .going)) in
     let long : length output ≡ h .program .terms .room = eqb-true _ _ (s .output) in
@@ -54,13 +57,28 @@ unfolding inputRight
 input-long h input e = eqb-true _ _ e
 
 -- a piece, from what its functions left
-pub accepted-is : (disk : List ℕ) (h : Host) (stage input output bytes : List ℕ) {area : List ℕ} {g : Progress} {st out : List ℕ} {k : ℕ} → area ≡ put input (h .program .came) bytes
-    → k ≡ h .program .came + length bytes → turn g st out ≡ run (h .sector) (settingOf h disk) area k (turnOf h stage output)
-    → pieced 0 (g .tally) (withRun h k g) st area out ≡ accepted disk h stage input output bytes
-unfolding accepted
-accepted-is disk h stage input output bytes {area} {g} {st} {out} {k} a e t =
-    ap (λ (x : Turn). pieced 0 (x .progress .tally) (withRun h k (x .progress)) (x .stage) area (x .output)) t
-    ∙ ap₂ (λ (n : ℕ) (l : List ℕ). let x = run (h .sector) (settingOf h disk) l n (turnOf h stage output) in pieced 0 (x .progress .tally) (withRun h n (x .progress)) (x .stage) l (x .output)) e a
+pub accepted-is : (disk : List ℕ) (h : Host) (stage input output bytes : List ℕ) {area : List ℕ} {g : Progress} {st out roots : List ℕ} {k : ℕ} → area ≡ put input (h .program .came) bytes
+    → k ≡ h .program .came + length bytes → turn g st out roots ≡ run (h .sector) (settingOf h disk) area k (turnOf h stage output)
+    → pieced 0 (g .tally) (withRun h k g roots) st area out ≡ accepted disk h stage input output bytes
+unfolding acceptedBy
+accepted-is disk h stage input output bytes {area} {g} {st} {out} {roots} {k} a e t =
+    let left : ℕ → List ℕ → Turn → Pieced = λ n l x. pieced 0 (x .progress .tally) (withRun h n (x .progress) (x .roots)) (x .stage) l (x .output) in
+    ap (left k area) t
+    ∙ ap₂ (λ (n : ℕ) (l : List ℕ). left n l (run (h .sector) (settingOf h disk) l n (turnOf h stage output))) e a
+
+-- ---- kept roots look at no area
+
+pub stopped-any : (h : Host) (disk output : List ℕ) → stopped [] h output ≡ stopped disk h output
+unfolding stoppedBy failing failureBytes turnOf
+stopped-any h disk output =
+    let p = failedProgress (h .program .progress) in
+    ap (λ (pair : Pair). interrupted 0 (p .tally) (withRun h (h .program .came) p (h .stageroots))
+    (put output (h .program .progress .written) (recordBytes 20 0 pair 0 [] 0 []))) (starting-any h disk)
+
+pub reached-any : (h : Host) (disk stage : List ℕ) → reachedPair [] h [] ≡ reachedPair disk h stage
+unfolding reachedPairBy
+reached-any h disk stage =
+    ap₂ (pick (h .program .progress .failed)) (starting-any h disk) (sym (running-any h [] []) ∙ running-any h disk stage)
 
 pub declared-most : (h : Host) → inOrder h ≡ true → h .program .active ≡ true → h .program .terms .head .length ≤ 65536
 unfolding within

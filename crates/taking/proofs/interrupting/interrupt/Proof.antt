@@ -5,7 +5,7 @@ use borrow.Author.Tests.{not-false}
 use Rattle.area.proofs.Laws.Pick.{yes, no}
 use Rattle.host.proofs.Laws.Order.{order-facts}
 use Rattle.rules.specs.View.{diskRight}
-use Rattle.rules.specs.Calls.{outputRight, interrupt}
+use Rattle.rules.specs.Calls.{outputRight, interruptBy}
 use Rattle.taking.specs.Asks.{interruptLeaves}
 use Rattle.taking.proofs.Laws.Hosts.{right-if}
 use Rattle.rules.specs.declared.Answer.{Answer}
@@ -20,7 +20,7 @@ refused-requires : tie.Need-refused-requires
 refused-requires c κs = search needs
 
 returns : tie.Need-returns
-unfolding interrupt diskRight outputRight
+unfolding interruptBy diskRight outputRight
 returns c =
     yes _ _ _ (ap not (sym (c .before .before .in-order .ensures)) ∙ c .before .if1 .taken)
     (ap (λ (r : Answer). interruptLeaves r (c .before .before .before .before .before .args .output .now)) (c .refused .ensures))
@@ -34,7 +34,7 @@ refused-requires-2 : tie.Need-refused-requires-2
 refused-requires-2 c κs = search needs
 
 returns-2 : tie.Need-returns-2
-unfolding interrupt diskRight outputRight
+unfolding interruptBy diskRight outputRight
 returns-2 c =
     no _ _ _ (ap not (sym (c .before .before .before .before .in-order .ensures)) ∙ c .before .before .before .if1 .left)
     (yes _ _ _ (ap not (sym (c .before .before .lent .ensures)) ∙ c .before .if2 .taken)
@@ -50,7 +50,7 @@ same-length : tie.Need-same-length
 same-length c = search needs
 
 returns-3 : tie.Need-returns-3
-unfolding interrupt diskRight outputRight
+unfolding interruptBy diskRight outputRight
 returns-3 c =
     no _ _ _ (ap not (sym (c .before .before .before .before .before .before .before .before .before .in-order .ensures)) ∙ c .before .before .before .before .before .before .before .before .if1 .left)
     (no _ _ _ (ap not (sym (c .before .before .before .before .before .before .before .lent .ensures)) ∙ c .before .before .before .before .before .before .if2 .left)
@@ -64,7 +64,7 @@ same-length-2 : tie.Need-same-length-2
 same-length-2 c = search needs
 
 returns-4 : tie.Need-returns-4
-unfolding interrupt diskRight outputRight
+unfolding interruptBy diskRight outputRight
 returns-4 c =
     no _ _ _ (ap not (sym (c .before .before .before .before .before .before .before .before .before .before .before .in-order .ensures)) ∙ c .before .before .before .before .before .before .before .before .before .before .if1 .left)
     (no _ _ _ (ap not (sym (c .before .before .before .before .before .before .before .before .before .lent .ensures)) ∙ c .before .before .before .before .before .before .before .before .if2 .left)
@@ -91,7 +91,7 @@ same-length-3 : tie.Need-same-length-3
 same-length-3 c = search needs
 
 returns-5 : tie.Need-returns-5
-unfolding interrupt diskRight outputRight
+unfolding interruptBy diskRight outputRight
 returns-5 c =
     no _ _ _ (ap not (sym (c .before .before .before .before .before .before .before .before .before .before .before .before .before .before .before .before .in-order .ensures)) ∙ c .before .before .before .before .before .before .before .before .before .before .before .before .before .before .before .if1 .left)
     (no _ _ _ (ap not (sym (c .before .before .before .before .before .before .before .before .before .before .before .before .before .before .lent .ensures)) ∙ c .before .before .before .before .before .before .before .before .before .before .before .before .before .if2 .left)
@@ -104,7 +104,7 @@ same-length-4 : tie.Need-same-length-4
 same-length-4 c = search needs
 
 returns-6 : tie.Need-returns-6
-unfolding interrupt diskRight outputRight
+unfolding interruptBy diskRight outputRight
 returns-6 c =
     no _ _ _ (ap not (sym (c .before .before .before .before .before .before .before .before .before .before .before .before .before .in-order .ensures)) ∙ c .before .before .before .before .before .before .before .before .before .before .before .before .if1 .left)
     (no _ _ _ (ap not (sym (c .before .before .before .before .before .before .before .before .before .before .before .lent .ensures)) ∙ c .before .before .before .before .before .before .before .before .before .before .if2 .left)

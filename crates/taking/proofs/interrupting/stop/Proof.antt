@@ -7,7 +7,7 @@ use Rattle.host.specs.With.{withProgram, withCame, withProgress}
 use Rattle.rules.specs.View.{settingOf, turnOf, withRun, parent}
 use Rattle.rules.specs.Record.{pairOf, startingPair, recordBytes, failureBytes}
 use Rattle.rules.specs.Run.{failing}
-use Rattle.rules.specs.Calls.{Interrupted, interrupted, stopped}
+use Rattle.rules.specs.Calls.{Interrupted, interrupted, stoppedBy}
 use Rattle.turns.proofs.Laws.Hosts.{stands}
 use Rattle.taking.proofs.Laws.Hosts.{room-left}
 use Rattle.host.specs.declared.Place.{Place}
@@ -29,7 +29,7 @@ same-length : tie.Need-same-length
 same-length c = search needs
 
 returns : tie.Need-returns
-unfolding stopped failing failureBytes startingPair parent settingOf turnOf withRun withProgram withProgress withCame
+unfolding stoppedBy failing failureBytes startingPair parent settingBy turnOf withRun withStageRoots withProgram withProgress withCame
 returns c =
     let failed = c .before .before in
     let found = failed .before .before .before in

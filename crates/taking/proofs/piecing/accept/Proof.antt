@@ -21,7 +21,7 @@ add-k : tie.Need-add-k
 add-k c = let start = c .before .before .before .before .before .before .before .before .before .before .before .before .before in omega (arith, start .pre .fits, declared-most (start .args .host) (start .pre .ready .order) (start .pre .ready .live))
 
 run-requires : tie.Need-run-requires
-unfolding settingOf turnOf
+unfolding settingBy turnOf
 run-requires c κs =
     let start = c .before .before .before .before .before .before .before .before .before .before .before .before .before .before .before .before in
     let h = start .args .host in
@@ -37,7 +37,7 @@ same-length-3 : tie.Need-same-length-3
 same-length-3 c = search needs
 
 returns : tie.Need-returns
-unfolding settingOf turnOf withRun withProgram withProgress withCame
+unfolding settingBy turnOf withRun withStageRoots withProgram withProgress withCame
 returns c =
     let a = c .before .before .before .before .before .before .before .before .before .before .before .before .before .before .before .before .before .before .before .before .before .args in
     accepted-is _ (a .host) _ _ _ _ (c .before .before .before .before .before .before .before .before .before .before .copy-between .ensures ∙ ap (put _ _) (part-whole _ _ refl)) refl (c .before .before .before .before .run .ensures)

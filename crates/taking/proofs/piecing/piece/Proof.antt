@@ -6,7 +6,7 @@ use borrow.Author.Tests.{not-false, ltb-false}
 use Rattle.area.proofs.Laws.Pick.{yes, no, both-left, both-right}
 use Rattle.host.proofs.Laws.Order.{order-facts}
 use Rattle.rules.specs.View.{diskRight, areasRight}
-use Rattle.rules.specs.Calls.{inputRight, outputRight, piece}
+use Rattle.rules.specs.Calls.{inputRight, outputRight, pieceBy}
 use Rattle.taking.specs.Asks.{pieceLeaves}
 use Rattle.taking.proofs.Laws.Hosts.{right-if, came-within}
 use Rattle.rules.specs.declared.Answer.{Answer}
@@ -21,7 +21,7 @@ refused-requires : tie.Need-refused-requires
 refused-requires c κs = search needs
 
 returns : tie.Need-returns
-unfolding piece areasRight diskRight inputRight outputRight
+unfolding pieceBy areasRight diskRight inputRight outputRight
 returns c =
     yes _ _ _ (ap not (sym (c .before .before .in-order .ensures)) ∙ c .before .if1 .taken)
     (ap (λ (r : Answer). pieceLeaves r (c .before .before .before .before .before .before .before .before .args .stage .now) (c .before .before .before .before .before .before .before .before .args .input .now) (c .before .before .before .before .before .before .before .before .args .output .now)) (c .refused .ensures))
@@ -38,7 +38,7 @@ same-length : tie.Need-same-length
 same-length c = search needs
 
 returns-2 : tie.Need-returns-2
-unfolding piece areasRight diskRight inputRight outputRight
+unfolding pieceBy areasRight diskRight inputRight outputRight
 returns-2 c =
     no _ _ _ (ap not (sym (c .before .before .before .before .before .in-order .ensures)) ∙ c .before .before .before .before .if1 .left)
     (yes _ _ _ (ap not (sym (c .before .before .areas-right .ensures)) ∙ c .before .if2 .taken)
@@ -60,7 +60,7 @@ same-length-4 : tie.Need-same-length-4
 same-length-4 c = search needs
 
 returns-3 : tie.Need-returns-3
-unfolding piece areasRight diskRight inputRight outputRight
+unfolding pieceBy areasRight diskRight inputRight outputRight
 returns-3 c =
     no _ _ _ (ap not (sym (c .before .before .before .before .before .before .before .before .before .before .before .before .in-order .ensures)) ∙ c .before .before .before .before .before .before .before .before .before .before .before .if1 .left)
     (no _ _ _ (ap not (sym (c .before .before .before .before .before .before .before .before .before .areas-right .ensures)) ∙ c .before .before .before .before .before .before .before .before .if2 .left)
@@ -80,7 +80,7 @@ same-length-7 : tie.Need-same-length-7
 same-length-7 c = search needs
 
 returns-4 : tie.Need-returns-4
-unfolding piece areasRight diskRight inputRight outputRight
+unfolding pieceBy areasRight diskRight inputRight outputRight
 returns-4 c =
     no _ _ _ (ap not (sym (c .before .before .before .before .before .before .before .before .before .before .before .before .before .before .in-order .ensures)) ∙ c .before .before .before .before .before .before .before .before .before .before .before .before .before .if1 .left)
     (no _ _ _ (ap not (sym (c .before .before .before .before .before .before .before .before .before .before .before .areas-right .ensures)) ∙ c .before .before .before .before .before .before .before .before .before .before .if2 .left)
@@ -104,7 +104,7 @@ same-length-10 : tie.Need-same-length-10
 same-length-10 c = search needs
 
 returns-5 : tie.Need-returns-5
-unfolding piece areasRight diskRight inputRight outputRight
+unfolding pieceBy areasRight diskRight inputRight outputRight
 returns-5 c =
     no _ _ _ (ap not (sym (c .before .before .before .before .before .before .before .before .before .before .before .before .before .before .before .before .in-order .ensures)) ∙ c .before .before .before .before .before .before .before .before .before .before .before .before .before .before .before .if1 .left)
     (no _ _ _ (ap not (sym (c .before .before .before .before .before .before .before .before .before .before .before .before .before .areas-right .ensures)) ∙ c .before .before .before .before .before .before .before .before .before .before .before .before .if2 .left)
@@ -135,7 +135,7 @@ same-length-13 : tie.Need-same-length-13
 same-length-13 c = search needs
 
 returns-6 : tie.Need-returns-6
-unfolding piece areasRight diskRight inputRight outputRight
+unfolding pieceBy areasRight diskRight inputRight outputRight
 returns-6 c =
     no _ _ _ (ap not (sym (c .before .before .before .before .before .before .before .before .before .before .before .before .before .before .before .before .before .before .before .before .before .before .before .before .before .in-order .ensures)) ∙ c .before .before .before .before .before .before .before .before .before .before .before .before .before .before .before .before .before .before .before .before .before .before .before .before .if1 .left)
     (no _ _ _ (ap not (sym (c .before .before .before .before .before .before .before .before .before .before .before .before .before .before .before .before .before .before .before .before .before .before .areas-right .ensures)) ∙ c .before .before .before .before .before .before .before .before .before .before .before .before .before .before .before .before .before .before .before .before .before .if2 .left)

@@ -6,7 +6,7 @@ use borrow.Author.Tests.{not-false}
 use Rattle.area.proofs.Laws.Pick.{yes, no}
 use Rattle.host.proofs.Laws.Order.{order-facts}
 use Rattle.rules.specs.View.{diskRight, areasRight}
-use Rattle.rules.specs.Calls.{reached}
+use Rattle.rules.specs.Calls.{reachedBy}
 use borrow.Author.Needs.{needs}
 use Rattle.taking.proofs.reaching.reached.Statement.{statement}
 use Rattle.taking.proofs.reaching.reached.Tie as tie
@@ -18,7 +18,7 @@ unreached-requires : tie.Need-unreached-requires
 unreached-requires c κs = search needs
 
 returns : tie.Need-returns
-unfolding reached areasRight diskRight
+unfolding reachedBy areasRight diskRight
 returns c =
     yes _ _ _ (ap not (sym (c .before .before .in-order .ensures)) ∙ c .before .if1 .taken)
     (c .unreached .ensures)
@@ -32,7 +32,7 @@ unreached-requires-2 : tie.Need-unreached-requires-2
 unreached-requires-2 c κs = search needs
 
 returns-2 : tie.Need-returns-2
-unfolding reached areasRight diskRight
+unfolding reachedBy areasRight diskRight
 returns-2 c =
     no _ _ _ (ap not (sym (c .before .before .before .before .in-order .ensures)) ∙ c .before .before .before .if1 .left)
     (yes _ _ _ (ap not (sym (c .before .before .areas-right .ensures)) ∙ c .before .if2 .taken)
@@ -42,7 +42,7 @@ unreached-requires-3 : tie.Need-unreached-requires-3
 unreached-requires-3 c κs = search needs
 
 returns-3 : tie.Need-returns-3
-unfolding reached areasRight diskRight
+unfolding reachedBy areasRight diskRight
 returns-3 c =
     no _ _ _ (ap not (sym (c .before .before .before .before .before .before .before .in-order .ensures)) ∙ c .before .before .before .before .before .before .if1 .left)
     (no _ _ _ (ap not (sym (c .before .before .before .before .before .areas-right .ensures)) ∙ c .before .before .before .before .if2 .left)
@@ -54,7 +54,7 @@ unfolding areasRight diskRight
 reach-requires c κs = record { order = sym (c .before .before .before .before .before .before .in-order .ensures) ∙ not-false _ (c .before .before .before .before .before .if1 .left); areas = sym (c .before .before .before .before .areas-right .ensures) ∙ not-false _ (c .before .before .before .if2 .left); live = not-false _ (c .if3 .left) }
 
 returns-4 : tie.Need-returns-4
-unfolding reached areasRight diskRight
+unfolding reachedBy areasRight diskRight
 returns-4 c =
     no _ _ _ (ap not (sym (c .before .before .before .before .before .before .before .in-order .ensures)) ∙ c .before .before .before .before .before .before .if1 .left)
     (no _ _ _ (ap not (sym (c .before .before .before .before .before .areas-right .ensures)) ∙ c .before .before .before .before .if2 .left)
