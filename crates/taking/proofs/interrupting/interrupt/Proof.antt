@@ -7,7 +7,7 @@ use Rattle.host.proofs.Laws.Order.{order-facts}
 use Rattle.rules.specs.View.{diskRight}
 use Rattle.rules.specs.Calls.{outputRight, interruptBy}
 use Rattle.taking.specs.Asks.{interruptLeaves}
-use Rattle.taking.proofs.Laws.Hosts.{right-if}
+use Rattle.taking.proofs.Laws.Hosts.{right-if, stopped-any}
 use Rattle.rules.specs.declared.Answer.{Answer}
 use borrow.Author.Needs.{needs}
 use Rattle.taking.proofs.interrupting.interrupt.Statement.{statement}
@@ -81,7 +81,6 @@ stop-requires c κs =
     let live = not-false _ (c .before .before .before .if4 .left) in
     record {
       order = sym (c .before .before .before .before .before .before .before .before .before .before .before .before .before .in-order .ensures) ∙ not-false _ (c .before .before .before .before .before .before .before .before .before .before .before .before .if1 .left);
-      disk = sym (c .before .before .before .before .before .before .before .before .before .before .before .lent .ensures) ∙ not-false _ (c .before .before .before .before .before .before .before .before .before .before .if2 .left);
       live = live;
       output = right-if _ _ live (sym (c .before .before .before .before .before .before .wrong .ensures) ∙ c .before .before .before .before .before .if3 .left);
       going = sym (c .before .before .going .ensures) ∙ c .before .if5 .taken;
@@ -98,7 +97,7 @@ returns-5 c =
     (no _ _ _ (sym (c .before .before .before .before .before .before .before .before .before .wrong .ensures) ∙ c .before .before .before .before .before .before .before .before .if3 .left)
     (no _ _ _ (c .before .before .before .before .before .before .if4 .left)
     (yes _ _ _ (sym (c .before .before .before .before .before .going .ensures) ∙ c .before .before .before .before .if5 .taken)
-    (c .before .before .stop .ensures)))))
+    (c .before .before .stop .ensures ∙ stopped-any (c .before .before .before .before .before .before .before .before .before .before .before .before .before .before .before .before .before .before .before .args .host) (c .before .before .before .before .before .before .before .before .before .before .before .before .before .before .before .before .before .before .before .args .disk .now) (c .before .before .before .before .before .before .before .before .before .before .before .before .before .before .before .before .before .before .before .args .output .now))))))
 
 same-length-4 : tie.Need-same-length-4
 same-length-4 c = search needs

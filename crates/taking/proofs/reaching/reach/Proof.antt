@@ -1,28 +1,28 @@
 -- `taking::reaching::reach` meets its contract: the starting pair after a failure, else the running one. Assumes nothing.
 use mathlib.Core.Path.{refl, ap, _∙_}
+use mathlib.Core.List.{[]}
 use Rattle.area.proofs.Laws.Pick.{yes, no}
 use Rattle.rules.specs.Calls.{reachedAt, reachedPairBy}
-use Rattle.turns.proofs.Laws.Hosts.{areas-disk}
+use Rattle.turns.proofs.Laws.Hosts.{running-any}
 use borrow.Author.Needs.{needs}
 use Rattle.taking.proofs.reaching.reach.Statement.{statement}
 use Rattle.taking.proofs.reaching.reach.Tie as tie
 
 starting-pair-requires : tie.Need-starting-pair-requires
-starting-pair-requires c κs =
-    let program = c .before .before in
-    let asked = program .before .before .before .pre in
-    (asked .order, areas-disk _ _ _ (asked .areas))
+starting-pair-requires c κs = c .before .before .before .pre .0
 
 returns : tie.Need-returns
 unfolding reachedPairBy
 returns c = ap (reachedAt 0) (c .before .starting-pair .ensures ∙ yes _ _ _ (c .before .before .if1 .taken) refl)
 
 running-pair-requires : tie.Need-running-pair-requires
-running-pair-requires c κs = search needs
+running-pair-requires c κs = c .before .before .before .pre
 
 returns-2 : tie.Need-returns-2
 unfolding reachedPairBy
-returns-2 c = ap (reachedAt 0) (c .before .running-pair .ensures ∙ no _ _ _ (c .before .before .if1 .left) refl)
+returns-2 c =
+    let h = c .before .before .before .before .before .args .host in
+    ap (reachedAt 0) (c .before .running-pair .ensures ∙ running-any h [] [] ∙ no _ _ _ (c .before .before .if1 .left) refl)
 
 pub reach-spec : {M : Type 1} → statement M
 reach-spec =

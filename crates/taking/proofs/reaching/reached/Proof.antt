@@ -6,7 +6,8 @@ use borrow.Author.Tests.{not-false}
 use Rattle.area.proofs.Laws.Pick.{yes, no}
 use Rattle.host.proofs.Laws.Order.{order-facts}
 use Rattle.rules.specs.View.{diskRight, areasRight}
-use Rattle.rules.specs.Calls.{reachedBy}
+use Rattle.rules.specs.Calls.{reachedBy, reachedAt}
+use Rattle.taking.proofs.Laws.Hosts.{reached-any}
 use borrow.Author.Needs.{needs}
 use Rattle.taking.proofs.reaching.reached.Statement.{statement}
 use Rattle.taking.proofs.reaching.reached.Tie as tie
@@ -50,8 +51,7 @@ returns-3 c =
     (c .unreached3 .ensures)))
 
 reach-requires : tie.Need-reach-requires
-unfolding areasRight diskRight
-reach-requires c κs = record { order = sym (c .before .before .before .before .before .before .in-order .ensures) ∙ not-false _ (c .before .before .before .before .before .if1 .left); areas = sym (c .before .before .before .before .areas-right .ensures) ∙ not-false _ (c .before .before .before .if2 .left); live = not-false _ (c .if3 .left) }
+reach-requires c κs = (sym (c .before .before .before .before .before .before .in-order .ensures) ∙ not-false _ (c .before .before .before .before .before .if1 .left), not-false _ (c .if3 .left))
 
 returns-4 : tie.Need-returns-4
 unfolding reachedBy areasRight diskRight
@@ -59,7 +59,7 @@ returns-4 c =
     no _ _ _ (ap not (sym (c .before .before .before .before .before .before .before .in-order .ensures)) ∙ c .before .before .before .before .before .before .if1 .left)
     (no _ _ _ (ap not (sym (c .before .before .before .before .before .areas-right .ensures)) ∙ c .before .before .before .before .if2 .left)
     (no _ _ _ (c .before .if3 .left)
-    (c .reach .ensures)))
+    (c .reach .ensures ∙ ap (reachedAt 0) (reached-any (c .before .before .before .before .before .before .before .before .before .before .args .host) (c .before .before .before .before .before .before .before .before .before .before .args .disk .now) (c .before .before .before .before .before .before .before .before .before .before .args .stage .now)))))
 
 pub reached-spec : {M : Type 1} → statement M
 reached-spec =
