@@ -2,6 +2,7 @@
 //! name, from the same input and with the same line for an answer.
 
 use crate::blake2b::hash32;
+use crate::coverage;
 use crate::depot::SECTOR;
 use crate::head::Reader;
 use crate::host::{self, Host};
@@ -134,7 +135,8 @@ pub fn play(bytes: &[u8]) -> String {
         written: 0,
     };
     let mut visits = 0;
-    let refusal = match all(&mut reader, &mut areas, &id, &offer, &mut visits) {
+    // counting would be measured too
+    let refusal = match coverage::uncounted(|| all(&mut reader, &mut areas, &id, &offer, &mut visits)) {
         Ok(()) => String::new(),
         Err(number) => format!(" refused {number}"),
     };
