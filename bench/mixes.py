@@ -1,11 +1,12 @@
 #!/usr/bin/env python3
-"""bench/mixes.py: mixes of instructions, the proved program `mixes` beside the Rust model on the same input.
+"""bench/mixes.py: mixes of instructions, the proved program `mixes` beside the Rust model.
 
 use: bench/mixes.py PROVED MODEL            measures, and prints the table
-     bench/mixes.py input MIX SECTORS N     one input to standard output, its measured visit N times
+     bench/mixes.py programs ONE OTHER      the same of two programs `mixes`, such as one of before a change and one of after it
+     bench/mixes.py input MIX SECTORS N     one input to standard output, its measured visit N times (of "empty pieces", N pieces)
      bench/mixes.py example                 the input of crates/mixes/stdin
 
-Heads and data are document 01's encoding. See docs/BENCH.md.
+Heads and data are document 01's encoding. See docs/BENCH.md. TURNS in the environment sets how many turns there are.
 """
 import os
 import sys
@@ -15,10 +16,9 @@ STAGE = 16
 ID = bytes(range(1, 33))
 BUDGET = 1 << 62
 PRICES = [1] * 7
-# Compressions that the measured visits of a run are made to need: about half a second of them. Many short turns find a quiet moment
-# sooner than few long ones.
-COMPRESSIONS = 2_500_000
-TURNS = 15
+# The seconds that the measured visits of a run are made to take. Many short turns find a quiet moment sooner than few long ones.
+SECONDS = 0.4
+TURNS = int(os.environ.get("TURNS", "15"))
 
 
 def number(n):
@@ -58,9 +58,10 @@ class Visit:
         assert len(self.instructions) <= 32 and len(self.data) <= 65536
         return ID + number(len(self.instructions)) + b"".join(self.instructions) + number(len(self.data))
 
-    def encoded(self, times):
+    def encoded(self, times, empty=0):
+        """So many times, each after a program under the same head that is given so many empty pieces."""
         head = self.head()
-        return number(times) + number(len(head)) + head + number(len(self.data)) + self.data
+        return number(times) + number(empty) + number(len(head)) + head + number(len(self.data)) + self.data
 
 
 def filler(seed, length):
@@ -119,17 +120,23 @@ def copies_and_swaps(sectors):
     return visit
 
 
-MIXES = {"writes": writes, "reads": reads, "copies and swaps": copies_and_swaps}
+def short_reads(sectors):
+    """32 Reads of 64 bytes without a proof, at different places."""
+    visit = Visit()
+    for i in range(32):
+        visit.read((i * 5 + 3) % sectors * SECTOR + i * 125 % (SECTOR - 64), 64, False)
+    return visit
 
 
-def root_compressions(sectors):
-    return 128 * sectors - 1
+def one_write(sectors):
+    """One Write: an empty piece finds it waiting for its data."""
+    visit = Visit()
+    visit.write((sectors - 1) * SECTOR, filler(1, 64))
+    return visit
 
 
-def compressions(name, visit, sectors):
-    """About how many a visit needs: a root an instruction, one to learn the pair reached, one to close; proofs hash a second time."""
-    roots = len(visit.instructions) * (2 if name == "reads" and sectors > 1 else 1) + 2
-    return roots * root_compressions(sectors)
+EMPTY = "empty pieces"
+MIXES = {"writes": writes, "reads": reads, "short reads": short_reads, "copies and swaps": copies_and_swaps, EMPTY: one_write}
 
 
 def grown(sectors):
@@ -139,12 +146,20 @@ def grown(sectors):
 
 
 def made(name, sectors, times):
-    """The whole input, with the measured visit so many times; with none the visit is left out."""
-    return grown(sectors) + (MIXES[name](sectors).encoded(times) if times else b"")
+    """The whole input, with the measured visit so many times; with none the visit is left out. Empty pieces: one visit after so many."""
+    visit = MIXES[name](sectors)
+    if name == EMPTY:
+        return grown(sectors) + visit.encoded(1, times)
+    return grown(sectors) + (visit.encoded(times) if times else b"")
+
+
+def units(name, sectors):
+    """What a time is divided by: the instructions of a visit; of empty pieces each one is a unit."""
+    return 1 if name == EMPTY else len(MIXES[name](sectors).instructions)
 
 
 def example():
-    """Every instruction but ReadSector in two sectors, twice; a visit whose last instruction fails, so that its close is refused; one more."""
+    """Every instruction but ReadSector in two sectors, twice; a visit whose last instruction fails; one more, after three empty pieces."""
     mixed, failing = Visit(), Visit()
     mixed.write(100, filler(9, 64))
     mixed.copy(4096, 100, 64)
@@ -153,7 +168,7 @@ def example():
     mixed.truncate(8192)
     failing.write(0, filler(3, 64))
     failing.read(4090, 7, False)
-    return grown(2) + mixed.encoded(2) + failing.encoded(1) + mixed.encoded(1)
+    return grown(2) + mixed.encoded(2) + failing.encoded(1) + mixed.encoded(1, 3)
 
 
 def run(command, environment, path):
@@ -179,42 +194,73 @@ def run(command, environment, path):
     return used.ru_utime + used.ru_stime, wrote
 
 
-def least(rivals, paths):
-    """For each rival and each input the least time of several turns; the rivals take turns, and must write the same."""
-    times = [[float("inf")] * len(paths) for _ in rivals]
+class Side:
+    """One of the two programs."""
+
+    def __init__(self, *command, **extra):
+        self.command, self.environment = list(command), dict(os.environ, **extra)
+
+    def seconds(self, name, sectors, times):
+        return run(self.command, self.environment, stored(name, sectors, times))[0]
+
+    def enough(self, name, sectors):
+        """How often the measured visit is done so that a run takes SECONDS more than without it."""
+        times, base = 1, self.seconds(name, sectors, 0)
+        while True:
+            took = self.seconds(name, sectors, times) - base
+            if SECONDS / 8 <= took:
+                return max(1, round(times * SECONDS / took))
+            times *= 8
+
+
+def stored(name, sectors, times):
+    """Where an input stands."""
+    path = f"target/bench/mixes/{name.replace(' ', '-')}-{sectors}-{times}"
+    if not os.path.exists(path):
+        with open(path, "wb") as target:
+            target.write(made(name, sectors, times))
+    return path
+
+
+def compare(sides, name, sectors):
+    """Stops where the two do not write the same for a few visits."""
+    wrote = [run(side.command, side.environment, stored(name, sectors, 3))[1] for side in sides]
+    if wrote[0] != wrote[1] or b" refused " in wrote[0] or not wrote[0].startswith(b"visits "):
+        sys.exit(f"bench: on {name} in {sectors} sectors the programs wrote\n{wrote[0].decode()}{wrote[1].decode()}")
+
+
+def least(sides, name, sectors):
+    """For each side the least time of several turns of an instruction, in seconds, less that of the same input without it. The sides take turns."""
+    times = [side.enough(name, sectors) for side in sides]
+    found = [[float("inf")] * 2 for _ in sides]
     for _ in range(TURNS):
-        for i, path in enumerate(paths):
-            wrote = []
-            for j, (command, environment) in enumerate(rivals):
-                seconds, line = run(command, environment, path)
-                times[j][i] = min(times[j][i], seconds)
-                wrote.append(line)
-            if wrote[0] != wrote[1] or b" refused " in wrote[0] or not wrote[0].startswith(b"visits "):
-                sys.exit(f"bench: on {path} the programs wrote\n{wrote[0].decode()}{wrote[1].decode()}")
-    return times
+        for i, side in enumerate(sides):
+            for j, n in enumerate((0, times[i])):
+                found[i][j] = min(found[i][j], side.seconds(name, sectors, n))
+    return [(with_it - without) / n / units(name, sectors) for (without, with_it), n in zip(found, times)]
 
 
-def measure(proved, model):
-    rivals = [([proved], dict(os.environ)), ([model, "mixes"], dict(os.environ, MODEL_PLAIN="1"))]
-    directory = "target/bench/mixes"
-    os.makedirs(directory, exist_ok=True)
-    print(f"load at the start: {' '.join(f'{x:.2f}' for x in os.getloadavg())} on {os.cpu_count()} cores")
-    print("processor time an instruction, in microseconds, the least of", TURNS, "turns")
-    print(f"{'mix':<18} {'sectors':>7} {'a visit':>8} {'visits':>7} {'proved':>9} {'Rust':>9} {'ratio':>6}")
+def load():
+    return " ".join(f"{x:.2f}" for x in os.getloadavg())
+
+
+def measure(names, sides):
+    os.makedirs("target/bench/mixes", exist_ok=True)
+    for old in os.listdir("target/bench/mixes"):
+        os.remove(f"target/bench/mixes/{old}")
+    print(f"load at the start: {load()} on {os.cpu_count()} cores")
+    print("processor time an instruction or an empty piece, in microseconds, the least of", TURNS, "turns")
+    print(f"{'mix':<18} {'sectors':>7} {'a visit':>8} {names[0]:>9} {names[1]:>9} {'ratio':>6}")
+    table = {}
     for name in MIXES:
         for sectors in (1, 8, 64):
-            visit = MIXES[name](sectors)
-            count = len(visit.instructions)
-            times = max(1, COMPRESSIONS // compressions(name, visit, sectors))
-            paths = []
-            for n in (0, times):
-                path = f"{directory}/{name.replace(' ', '-')}-{sectors}-{n}"
-                with open(path, "wb") as target:
-                    target.write(made(name, sectors, n))
-                paths.append(path)
-            a, b = ((with_it - without) / times / count * 1e6 for without, with_it in least(rivals, paths))
-            print(f"{name:<18} {sectors:>7} {count:>8} {times:>7} {a:>9.1f} {b:>9.1f} {a / b:>6.2f}", flush=True)
-    print(f"load at the end: {' '.join(f'{x:.2f}' for x in os.getloadavg())}")
+            compare(sides, name, sectors)
+            a, b = table[name, sectors] = [seconds * 1e6 for seconds in least(sides, name, sectors)]
+            print(f"{name:<18} {sectors:>7} {units(name, sectors):>8} {a:>9.2f} {b:>9.2f} {a / b:>6.2f}", flush=True)
+    for name in MIXES:
+        (a, b), (c, d) = table[name, 1], table[name, 64]
+        print(f"{name}, 64 sectors to 1: {names[0]} {c / a:.2f}, {names[1]} {d / b:.2f}")
+    print(f"load at the end: {load()}")
 
 
 def main():
@@ -223,8 +269,10 @@ def main():
         sys.stdout.buffer.write(made(words[1], int(words[2]), int(words[3])))
     elif words == ["example"]:
         sys.stdout.buffer.write(example())
+    elif len(words) == 3 and words[0] == "programs":
+        measure(["one", "other"], [Side(words[1]), Side(words[2])])
     elif len(words) == 2:
-        measure(*words)
+        measure(["proved", "Rust"], [Side(words[0]), Side(words[1], "mixes", MODEL_PLAIN="1")])
     else:
         sys.exit(__doc__)
 

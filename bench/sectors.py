@@ -245,7 +245,7 @@ def main():
         sys.exit(__doc__)
     proved, model = sys.argv[1:]
     ours, quick = ([proved], dict(os.environ)), ([model, "once"], dict(os.environ))
-    # Where times are taken, the model hashes everything too: its kept roots are turned off.
+    # Where times are taken, the model remembers no roots of equal bytes.
     plain = quick[0], dict(os.environ, MODEL_PLAIN="1")
     os.makedirs(DIRECTORY, exist_ok=True)
     began = time.monotonic()

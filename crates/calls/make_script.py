@@ -4,7 +4,9 @@ pieces, what it has reached, and the agreement to that; then a program that writ
 agreement names another pair. Then sector sizes and lengths that are refused, and a host of sectors of 8,192 bytes: a contract that is grown,
 written across the edge at 4,096 and read there with a proof, and committed; the proof for the checker, as it is and changed; a sector size put
 into the host's record, with the program open and after it; and a proof among 4,194,304 segments,
-and one among one more, which no proof covers. `stdout` is what the model makes of it.
+and one among one more, which no proof covers. At last a host of a contract of two sectors, and whether it is sound: with a byte of the second's kept root changed it is not,
+and records, proofs, the look-up and the agreement follow from that root; a Write of equal bytes and its commit heal it. Then the same of a staged
+sector, which the next Write heals. `stdout` is what the model makes of it.
 `model/run check` builds the model."""
 import hashlib, pathlib, struct, subprocess
 
@@ -107,5 +109,52 @@ script += (fresh(6144, 4 * 6144, 6144) + fresh(2048, 8192, 4096) + fresh(8_388_6
     + size(0) + reached + size(4096) + reached + size(8192) + reached
     + check(levels[22], 4_194_304, 0, 1, alike, b"".join(levels[:22]))
     + check(digest(b"\1" + levels[22] + levels[0]), 4_194_305, 4_194_304, 4_194_305, alike, levels[22]))
+
+# kept roots
+disk, stage = 8 * 4096, 4 * 4096
+
+def program(*steps):
+    """A program's opening, and its data; a name that ends with a star asks for a proof."""
+    data, head = b"", b""
+    for name, *inputs in steps:
+        operands = [(len(data) + sum(map(len, inputs[:i])), len(b)) for i, b in enumerate(inputs)]
+        head += instruction(name.rstrip(b"*"), *operands, proof=bytes([name.endswith(b"*")]))
+        data += b"".join(inputs)
+    return opened(contract + number(len(steps)) + head + number(len(data))), data
+
+def played(*steps):
+    start, data = program(*steps)
+    return start + piece(data, data)
+
+def write(at, b):
+    return b"Write", number(at), number(len(b)) + b
+
+def kept(field, slot, j, value):
+    return b"x" + number(field, slot, j, value)
+
+def named(hash):
+    return b"a" + number(disk, stage, 8192) + hash
+
+node = lambda left, right: digest(b"\1" + left + right)
+sound, reached, give_up = (kind + number(disk, stage) for kind in (b"s", b"r", b"g"))
+sectors = [b"crisps".ljust(4096, b"\0"), b"raisins".ljust(4096, b"\0")]
+one, two = (root(parts(b)) for b in sectors)
+wrong = two[:31] + bytes([two[31] ^ 1])
+reads = [(b"Read*", contract, number(at), number(64)) for at in (64, 4160)] + [(b"ReadSector*", wrong, number(0), number(64))]
+changed = root(parts(b"Crisps".ljust(4096, b"\0")))
+start, data = program(write(4096, b"Raisins"), write(4103, b"!"))
+half, whole = (root(parts(b.ljust(4096, b"\0"))) for b in (b"Raisins", b"Raisins!"))
+
+script += (b"F" + number(disk, stage) + b"\x11" + sound + b"f" + contract + b"s" + number(disk, stage - 1) + b"s" + number(4096, stage)
+    + played((b"Truncate", number(4096)), (b"Truncate", number(8192)), write(0, b"crisps"), write(4096, b"raisins")) + sound
+    + named(node(one, two)) + sound
+    + kept(26, 63, 31, 255) + kept(27, 15, 31, 255) + kept(26, 2, 0, 1) + sound
+    + kept(26, 1, 31, wrong[31]) + sound
+    + played(*reads) + reached + named(node(one, two))
+    + played((b"ReadSector", two, number(0), number(7))) + reached + give_up
+    + played(write(0, b"C")) + reached + named(node(changed, two))
+    + played(write(4096, b"raisins")) + sound + reached + named(node(one, two)) + sound
+    + start + piece(data[:23], data) + sound + kept(27, 0, 0, half[0] ^ 128) + sound + reached
+    + piece(data[23:], data) + sound + reached + named(node(one, whole)) + sound)
 here.joinpath("stdin").write_bytes(script)
 here.joinpath("stdout").write_bytes(subprocess.run([model, "calls"], input=script, capture_output=True, check=True).stdout)

@@ -9,8 +9,8 @@ SEED, MADE = 20, 8000
 TIMES = 3  # each thing that can be reached is reached by so many cases, where the generator has them
 SIZED_TIMES = 1  # the same for an answer or a record number on hosts of larger sectors
 # inputs of the generator that notice mistakes which the others do not (model/mutants.py)
-ALSO = {11, 1089, 1257, 1299, 3244, 3703, 4033, 4933, 6232, 6453}
-DEPOTS, SCRIPTS = 280, 70  # at least so many of the generator's
+ALSO = {363, 677, 841, 1249, 1715, 1931, 2407, 3974, 5242}
+DEPOTS, SCRIPTS = 187, 70  # at least so many of the generator's
 
 def number(*ns):
     return struct.pack(f"<{len(ns)}Q", *ns)
@@ -52,14 +52,14 @@ def chosen(inputs):
     return [inputs[i][:2] for i in sorted(kept)]
 
 def head_and_data(contract, steps):
-    """A head and its data, for steps: a name and its inputs."""
+    """A head and its data, for steps: a name and its inputs; a name that ends with a star asks for a proof."""
     data, head = b"", b""
     for name, *inputs in steps:
-        head += name.ljust(16, b"\0") + number(len(inputs))
+        head += name.rstrip(b"*").ljust(16, b"\0") + number(len(inputs))
         for one in inputs:
             head += number(len(data), len(one))
             data += one
-        head += b"\0"
+        head += bytes([name.endswith(b"*")])
     return contract + number(len(steps)) + head + number(len(data)), data
 
 def program(contract, formed, *steps):
@@ -226,10 +226,6 @@ def still_scripts():
     pair = size, hash = len(snacks), root(snacks)
     late = hash[:31] + bytes([hash[31] ^ 1])
     others = [(size + 4096, hash), (0, hash), (size, late), (0, bytes(32)), (2**64 - 1, b"\xff" * 32)]
-    def swap(at, to, n):
-        return b"Swap", number(at), number(to), number(n)
-    def copy(to, at, n):
-        return b"Copy", number(to), number(at), number(n)
     every = visit(one, snacks + bytes(4096 * 4), *(grow(n) for n in range(3, 7)))
     still = [
         (write(0, b"crisps"),),
@@ -418,12 +414,143 @@ def checked_scripts():
     for n in (len(right) - 73, len(right) - 72, 2**64 - 1):
         yield FRESH + right[:57] + number(n) + right[65:] + REACHED
 
+SOUND = b"s" + number(DISK, STAGE)
+
+def join(roots):
+    """The root of a contract from those of its sectors."""
+    if len(roots) <= 1:
+        return roots[0] if roots else bytes(32)
+    k = 1
+    while 2 * k < len(roots):
+        k *= 2
+    return hashlib.blake2b(b"\1" + join(roots[:k]) + join(roots[k:]), digest_size=32).digest()
+
+def proved(step):
+    return step[0] + b"*", *step[1:]
+
+def found(root, at, n):
+    return b"ReadSector", root, number(at), number(n)
+
+def swap(at, to, n):
+    return b"Swap", number(at), number(to), number(n)
+
+def copy(to, at, n):
+    return b"Copy", number(to), number(at), number(n)
+
+def keep(field, slot, root):
+    """Pokes that make this the kept root of a slot, of disk (26) or stage (27)."""
+    return b"".join(poke(field, slot, j, root[j]) for j in range(32))
+
+def kept_scripts():
+    """Scripts of `calls` on kept roots (M-105): what sets them, hosts that are sound and hosts that are not, and what follows from a root that
+    is not its sector's."""
+    one, two = MANY[:2]
+    words = b"crisps", b"nuts", b"raisins"
+    sectors = [word.ljust(4096, b"\0") for word in words]
+    snacks, roots = b"".join(sectors), [root(b) for b in sectors]
+    filled = grow(1), grow(2), grow(3), *(write(4096 * i, word) for i, word in enumerate(words))
+    ready = FRESH + form(one, two) + visit(one, snacks, *filled)
+    program = lambda id, *steps: b"".join(opened(id, *steps))
+    # asked of no host, of a refused one, out of order; with other lengths; with no program open and with one
+    lengths = (DISK, STAGE), (DISK - 4096, STAGE), (DISK, STAGE - 1), (0, 0), (DISK + 1, STAGE), (DISK, STAGE + 4096), (262_144, 65_536)
+    asks = b"".join(b"s" + number(*n) for n in lengths)
+    yield asks + b"F" + number(0, 0) + b"\0" + asks + FRESH + asks + form(one) + asks + poke(0, 0, 0, 65) + asks + poke(0, 0, 0, 8) + asks
+    start, data = opened(one, write(5000, b"new"), grow(4))
+    yield ready + asks + start + asks + data + asks + poke(12, 0, 0, 4097) + asks + poke(12, 0, 0, 16_384) + asks + GIVE_UP + asks
+    # a wrong byte in one root: of slots that positions have, of free ones, of those past the areas
+    def each_wrong(field, kept, *js):
+        """One byte of one root after another changed, with what `s` says, and put back."""
+        return b"".join(poke(field, slot, j, now[j] ^ 1) + SOUND + poke(field, slot, j, now[j]) for slot, now in kept.items() for j in js)
+    none = bytes(32)
+    yield ready + each_wrong(26, {0: roots[0], 1: roots[1], 2: roots[2], 3: none, 7: none, 8: none, 63: none}, 0, 3, 4, 31) + SOUND
+    wrong = each_wrong(27, {0: root(b"fresh" + sectors[1][5:]), 1: root(bytes(4096)), 2: roots[2], 3: none, 4: none, 15: none}, 0, 31)
+    yield ready + program(one, write(4096, b"fresh"), grow(4)) + SOUND + wrong + SOUND + GIVE_UP + wrong + SOUND
+    # wrong at one position: read with proofs of the sector itself and of others, looked up by it and by the bytes', from three contracts
+    for at in range(3):
+        late = roots[at][:31] + bytes([roots[at][31] ^ 1])
+        kept = [late if i == at else hash for i, hash in enumerate(roots)]
+        damaged = ready + poke(26, at, 31, late[31]) + SOUND
+        pairs = [(12_288, join(kept)), (12_288, root(snacks)), (0, bytes(32))]
+        reads = [proved(read(one, 4096 * i + 64, 64)) for i in range(3)] + [read(one, 4096 * at, 7), proved(found(late, 128, 64)), found(roots[at], 0, 7)]
+        yield damaged + b"".join(program(id, *reads) + REACHED + GIVE_UP for id in (one, two, WORD)) + SOUND
+        # closed with its pair and with the bytes': nothing changed, another sector written, equal bytes, the sector itself
+        for place in ((at + 1) % 3, at):
+            for b in (b"peanuts", sectors[place][:7]):
+                after = [write(4096 * place, b), read(one, 4096 * place, 7), found(late, 0, 7)]
+                changed = b + sectors[place][7:]
+                bytes_ = snacks[: 4096 * place] + changed + snacks[4096 * place + 4096 :]
+                pair = 12_288, join([root(changed) if i == place else hash for i, hash in enumerate(kept)])
+                played = damaged + program(one, *after) + SOUND + REACHED
+                again = SOUND + program(one, *reads) + REACHED
+                yield b"".join(played + named(*given) + again + named(*given) for given in (pair, (12_288, root(bytes_)), pairs[0]))
+        # a failure's record, an interrupt; then a cut contract, and a dropped one
+        failed = program(one, write(0, b"x"), grow(9)) + REACHED + GIVE_UP
+        failed += opened(one, *reads)[0] + b"i" + number(DISK, ROOM) + REACHED + GIVE_UP
+        cut = program(one, grow(2), grow(1)) + named(4096, kept[0]) + SOUND + visit(two, bytes(12_288), grow(1), grow(2), grow(3)) + SOUND
+        yield damaged + failed + cut + damaged + drop(one) + SOUND + visit(two, bytes(4096), grow(1)) + SOUND
+    # the root of another sector: the look-up finds the first place that keeps it, and no longer what it was
+    for at, other in ((0, 2), (2, 0), (0, 1)):
+        looked = [proved(found(hash, 0, 64)) for hash in (roots[other], roots[at])]
+        yield ready + keep(26, at, roots[other]) + SOUND + program(WORD, *looked) + GIVE_UP + program(two, *looked[:1]) + REACHED + named(0, none)
+    # of the stage: in the records, committed, and healed by the next instruction that writes there, by growth, by giving up
+    def cut_at(n, *steps):
+        """A program's opening, its data up to the n-th byte, and the rest."""
+        start, data = opened(one, *steps)
+        data = data[41:]
+        return [start] + [b"p" + number(DISK, STAGE, len(data), ROOM, len(b)) + b for b in (data[:n], data[n:])]
+    first, part, rest = cut_at(20, write(4096, b"Nuts"), write(4100, b"!"))
+    half, whole = b"Nuts" + sectors[1][4:], b"Nuts!" + sectors[1][5:]
+    damage = poke(27, 0, 0, root(half)[0] ^ 1)
+    wrong = bytes([root(half)[0] ^ 1]) + root(half)[1:]
+    yield ready + first + part + SOUND + damage + SOUND + REACHED + rest + SOUND + REACHED + agree(sectors[0] + whole + sectors[2]) + SOUND
+    for given in ((12_288, join([roots[0], wrong, roots[2]])), (12_288, root(sectors[0] + half + sectors[2]))):
+        yield ready + program(one, write(4096, b"Nuts")) + damage + REACHED + named(*given) + SOUND + program(WORD, found(wrong, 0, 4)) + REACHED + GIVE_UP
+    # the others stay as they are: a sector that is read, copied from, or not named by the instruction
+    for step in (write(0, b"C"), copy(0, 4096, 9), swap(0, 8192, 9), grow(4), read(one, 4096, 9)):
+        first, part, rest = cut_at(20, write(4096, b"Nuts"), step)
+        yield ready + first + part + damage + rest + SOUND + REACHED + GIVE_UP
+    grown = program(one, grow(4))
+    yield ready + grown + poke(27, 0, 5, 1) + SOUND + REACHED + GIVE_UP + SOUND + grown + SOUND + agree(snacks + bytes(4096)) + SOUND
+    # bytes that change under a root that stays: nothing to agree; and the other way round
+    after = b"Crisps" + sectors[0][6:]
+    for given in ((12_288, join([root(after), *roots[1:]])), (0, none)):
+        unseen = program(one, write(0, b"C")) + SOUND + REACHED + named(*given) + SOUND
+        yield ready + keep(26, 0, root(after)) + SOUND + unseen + program(one, read(one, 0, 6)) + GIVE_UP
+    # what sets a root: each instruction, in one sector and in two, staged and not; freed slots keep theirs and are taken again
+    visits = [[copy(0, 4096, 50)], [copy(4096, 4098, 9)], [swap(0, 8192, 64)], [swap(8192, 0, 4096)], [swap(2, 5, 30)], [swap(4096, 0, 7), copy(8192, 0, 7)]]
+    for steps in visits:
+        more = program(one, write(8192, b"R"), *steps, grow(4), grow(3), grow(4))
+        yield ready + program(one, *steps) + SOUND + REACHED + GIVE_UP + more + SOUND + GIVE_UP
+    cut = visit(one, sectors[0], grow(2), grow(1)) + SOUND + visit(two, bytes(8192), grow(1), grow(2)) + SOUND
+    yield ready + cut + visit(one, sectors[0] + bytes(4096), grow(2)) + SOUND + drop(one) + SOUND + FRESH + SOUND
+    over = program(one, grow(2), grow(3), write(8192, b"over")) + SOUND + agree(snacks[:8192] + b"over".ljust(4096, b"\0")) + SOUND
+    yield ready + over + program(one, grow(2), grow(1), grow(0), grow(1)) + SOUND + agree(bytes(4096)) + SOUND
+    # slots of other sectors: in order, and unsound; two that change places are sound
+    longer = poke(4, 0, 0, 16_384) + poke(5, 0, 3, 5)
+    for pokes in (poke(5, 0, 0, 3), poke(5, 0, 2, 7), poke(5, 0, 0, 1) + poke(5, 0, 1, 0), longer, poke(4, 0, 0, 4096)):
+        yield ready + pokes + SOUND + program(one, proved(read(one, 0, 64))) + REACHED + named(12_288, root(snacks)) + SOUND
+    start, data = opened(one, write(0, b"C"), write(4096, b"N"))
+    for pokes in (poke(13, 0, 0, 2), poke(13, 0, 0, 1) + poke(13, 1, 0, 0), poke(13, 1, 0, 255), poke(13, 2, 0, 3)):
+        yield ready + start + data + pokes + SOUND + REACHED + GIVE_UP + SOUND
+    yield ready + poke(6, 0, 0, 1) + SOUND + poke(6, 0, 0, 0) + poke(13, 0, 0, 2) + poke(27, 0, 0, 9) + SOUND
+    own = program(two, read(two, 0, 5)) + REACHED + GIVE_UP + program(WORD, found(none, 0, 9)) + GIVE_UP
+    yield FRESH + held(3, two, 4, 6) + SOUND + own + keep(26, 4, root(b"\x55" * 4096)) + SOUND + keep(26, 6, root(b"\x55" * 4096)) + SOUND
+    # sectors of other sizes: whole sectors are hashed; another size is another host, and unsound
+    for z, disk, stage in ((8192, 4, 2), (65_536, 4, 1)):
+        host = Sized(z, disk, stage)
+        asked, b = b"s" + number(host.disk, host.stage), bytes(z - 5) + b"salty"
+        ready_ = host.fresh + form(one) + host.visit(one, b, host.grow(1), write(z - 5, b"salty")) + asked
+        wrong = ready_ + poke(26, 0, 7, root(b)[7] ^ 4) + asked
+        wrong += b"".join(host.opened(one, proved(read(one, 4096, 64)), found(root(b), 0, 1))) + host.reached + host.give_up
+        yield wrong + host.visit(one, b, write(9, b"\0")) + asked + host.visit(one, b[:9] + b"x" + b[10:], write(9, b"x")) + asked
+    yield ready + size(8192) + b"s" + number(8 * 8192, 4 * 8192) + SOUND + size(4096) + SOUND + poke(4, 0, 0, 8192) + size(8192) + b"s" + number(8 * 8192, 4 * 8192)
+
 def scripts():
     """Scripts of `calls` that are cut off, that lend too much, or that poke past an array or a width."""
     example = (here.parent / "calls" / "stdin").read_bytes()
     yield from (example[:n] for n in (0, 1, 17, 18, 19, 51, 130, 400, 500, 620, 850, len(example) - 1, len(example)))
     areas = {"p": (262_144, 65_536, 65_536, 65_536), "i": (262_144, 65_536)}
-    areas.update(dict.fromkeys("gar", (262_144, 65_536)))
+    areas.update(dict.fromkeys("gars", (262_144, 65_536)))
     rest = {"p": number(3) + b"abc", "a": number(0) + bytes(32)}
     fresh = b"F" + number(262_144, 65_536) + b"\x55"
     for kind, lengths in areas.items():
@@ -431,10 +558,10 @@ def scripts():
         yield fresh + item(lengths) + item([0] * len(lengths))
         yield from (fresh + item([n + (j == k) for j, n in enumerate(lengths)]) for k in range(len(lengths)))
     any = 2**64 - 1
-    for field in range(27):
-        last_i = {2: 7, 3: 7, 4: 7, 5: 7, 13: 63, 16: 31, 19: 31, 20: 31, 21: 31, 22: 31, 23: 31, 24: 6}.get(field, any)
-        last_j = {3: 31, 5: 63, 19: 15, 21: 3, 22: 3}.get(field, any)
-        most = {2: 1, 6: 1, 11: 1, 23: 1, 3: 255, 5: 255, 13: 255, 16: 255, 19: 255, 24: 65_535}.get(field, any)
+    for field in range(29):
+        last_i = {2: 7, 3: 7, 4: 7, 5: 7, 13: 63, 16: 31, 19: 31, 20: 31, 21: 31, 22: 31, 23: 31, 24: 6, 26: 63, 27: 15}.get(field, any)
+        last_j = {3: 31, 5: 63, 19: 15, 21: 3, 22: 3, 26: 31, 27: 31}.get(field, any)
+        most = {2: 1, 6: 1, 11: 1, 23: 1, 3: 255, 5: 255, 13: 255, 16: 255, 19: 255, 24: 65_535, 26: 255, 27: 255}.get(field, any)
         poke = lambda *ns: b"x" + number(field, *ns)
         good = fresh + b"x" + number(2, 7, 0, 1) + b"x" + number(6, 0, 0, 1) + poke(last_i, last_j, most)
         yield good + b"r" + number(262_144, 65_536)
@@ -472,6 +599,7 @@ def cut_items(fresh):
         "g": b"g" + number(262_144, 65_536),
         "a": b"a" + number(262_144, 65_536, 0) + bytes(32),
         "r": reached,
+        "s": b"s" + number(262_144, 65_536),
         "x": b"x" + number(9, 0, 0, 1),
     }
     fixed = {"o": 81, "p": 41, "k": 73}
@@ -495,7 +623,7 @@ def cut_items(fresh):
     yield from (opened + piece(long[:n], 65_539) for n in (65_536, 65_537, 65_538))
     yield from (opened + piece(long[:9], n) for n in (65_536, 65_537, 65_538, 2**64 - 1))
 
-cases = chosen(generated()) + [("d", b) for f in (depots, short_depots) for b in f()] + [("c", b) for f in (scripts, short_scripts, still_scripts, sized_scripts, checked_scripts) for b in f()]
+cases = chosen(generated()) + [("d", b) for f in (depots, short_depots) for b in f()] + [("c", b) for f in (scripts, short_scripts, still_scripts, sized_scripts, checked_scripts, kept_scripts) for b in f()]
 given = b"".join(kind.encode() + number(len(b)) + b for kind, b in cases)
 here.joinpath("stdin").write_bytes(given)
 lines = subprocess.run([model, "cases"], input=given, capture_output=True, check=True).stdout

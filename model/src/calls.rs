@@ -6,6 +6,7 @@ use crate::depot;
 use crate::head::Reader;
 use crate::host::{self, Host, NONE};
 use crate::tree;
+use crate::unsound;
 
 /// "Four areas stand behind it: disk 262,144 bytes, stage 65,536, input 65,536, output 65,536."
 pub const DISK: usize = 262_144;
@@ -31,6 +32,7 @@ pub enum Item {
     GiveUp { disk: u64, stage: u64 },
     Agree { disk: u64, stage: u64, size: u64, root: [u8; 32] },
     Reached { disk: u64, stage: u64 },
+    Sound { disk: u64, stage: u64 },
     Poke { field: u64, i: u64, j: u64, value: u64 },
     Check { root: [u8; 32], count: u64, first: u64, end: u64, data: u64, tail: Vec<u8> },
 }
@@ -90,6 +92,7 @@ pub fn read_item(reader: &mut Reader) -> Option<Item> {
             root: reader.array().ok()?,
         },
         b'r' => Item::Reached { disk: lent(reader, DISK)?, stage: lent(reader, STAGE)? },
+        b's' => Item::Sound { disk: lent(reader, DISK)?, stage: lent(reader, STAGE)? },
         b'x' => read_poke(reader)?,
         b'k' => read_check(reader)?,
         _ => return None,
@@ -154,6 +157,8 @@ pub fn poke_ranges(field: u64) -> Option<(u64, u64, u128)> {
         23 => (32, 0, 2),
         24 => (7, 0, 65_536),
         25 => (0, 0, NUMBER),
+        26 => (64, 32, 256),
+        27 => (16, 32, 256),
         _ => return None,
     })
 }
@@ -210,6 +215,7 @@ pub fn item_bytes(item: &Item) -> Vec<u8> {
             bytes.extend(root);
         }
         Item::Reached { disk, stage } => numbers(&mut bytes, b'r', &[*disk, *stage]),
+        Item::Sound { disk, stage } => numbers(&mut bytes, b's', &[*disk, *stage]),
         Item::Poke { field, i, j, value } => numbers(&mut bytes, b'x', &[*field, *i, *j, *value]),
         Item::Check { root, count, first, end, data, tail } => {
             bytes.push(b'k');
@@ -240,8 +246,12 @@ impl Player {
     /// Makes the item's call.
     pub fn make(&mut self, item: &Item) -> Answered {
         self.note_events(item);
-        let sector = self.host.sector;
+        let (sector, written) = (self.host.sector, self.host.program.written);
+        let by_bytes = unsound::found(self).map(|_| unsound::worked_out(self, item));
         let answered = self.call(item);
+        if let Some((other, other_after)) = by_bytes {
+            unsound::note(written, item, (&answered, self), (&other, &other_after));
+        }
         coverage::answer(item_name(item), answered.answer);
         match item {
             Item::Fresh { .. } | Item::FreshOfSize { .. } => coverage::sized(self.host.sector, item_name(item), answered.answer),
@@ -252,7 +262,8 @@ impl Player {
         answered
     }
 
-    fn call(&mut self, item: &Item) -> Answered {
+    /// The call, with no counts of its own.
+    pub fn call(&mut self, item: &Item) -> Answered {
         let front = |length: &u64| ..*length as usize;
         match item {
             // "`F` stays and means 4,096"
@@ -286,6 +297,11 @@ impl Player {
                 let (answer, size, root) = self.host.reached(&self.disk[front(disk)], &self.stage[front(stage)]);
                 Answered { answer, tally: size, growth: 0, root: Some(root) }
             }
+            // "answer, sound (0 or 1), 0"
+            Item::Sound { disk, stage } => {
+                let (answer, sound) = self.host.sound(&self.disk[front(disk)], &self.stage[front(stage)]);
+                Answered { answer, tally: sound as u64, ..Answered::default() }
+            }
             Item::Poke { field, i, j, value } => {
                 poke(&mut self.host, *field, *i as usize, *j as usize, *value);
                 only(0)
@@ -318,6 +334,9 @@ impl Player {
         }
         if self.host.disk_length() > DISK as u64 || self.host.stage_length() > STAGE as u64 {
             coverage::event("host in order whose areas are longer than those that stand behind the script");
+        }
+        if let Item::Sound { disk, stage } = item {
+            unsound::note_asked(self, *disk, *stage);
         }
         if !program.open {
             return;
@@ -360,6 +379,9 @@ impl Player {
         let (answer, size_reached, root_reached) = self.host.reached(disk, stage);
         if answer != 0 {
             return;
+        }
+        if unsound::found(self).is_some() {
+            unsound::note_agreement(self, size, root);
         }
         let starting = self.host.starting_pair(disk);
         let unchanged = self.host.running_pair(disk, stage) == starting;
@@ -445,6 +467,7 @@ pub fn item_name(item: &Item) -> &'static str {
         Item::GiveUp { .. } => "give up",
         Item::Agree { .. } => "agree",
         Item::Reached { .. } => "reached",
+        Item::Sound { .. } => "sound",
         Item::Poke { .. } => "poke",
         Item::Check { .. } => "check",
     }
@@ -480,6 +503,8 @@ fn poke(host: &mut Host, field: u64, i: usize, j: usize, value: u64) {
         23 => program.head.instructions[i].proof = value == 1,
         24 => program.prices[i] = value as u16,
         25 => host.sector = value,
+        26 => host.disk_roots[i][j] = value as u8,
+        27 => host.stage_roots[i][j] = value as u8,
         _ => unreachable!(),
     }
 }
@@ -514,6 +539,8 @@ pub fn peek(host: &Host, field: u64, i: usize, j: usize) -> u64 {
         23 => program.head.instructions[i].proof as u64,
         24 => program.prices[i] as u64,
         25 => host.sector,
+        26 => host.disk_roots[i][j] as u64,
+        27 => host.stage_roots[i][j] as u64,
         _ => unreachable!(),
     }
 }
@@ -521,7 +548,7 @@ pub fn peek(host: &Host, field: u64, i: usize, j: usize) -> u64 {
 /// An area's digest is worked out again only when the area's bytes differ from those it was last worked out for.
 #[derive(Default)]
 struct Digests {
-    last: [(Vec<u8>, [u8; 32]); 4],
+    last: [(Vec<u8>, [u8; 32]); 6],
     filled: std::collections::HashMap<(usize, u8), [u8; 32]>,
 }
 
@@ -546,7 +573,8 @@ thread_local! {
     static DIGESTS: std::cell::RefCell<Digests> = Default::default();
 }
 
-/// "After each item it writes: ..."
+/// "After each item it writes: ...". M-105: "Behind the four digests of the areas stand two more: of the 64 kept roots of disk slots
+/// (2,048 bytes) and of the 16 of stage slots (512 bytes)."
 fn report(player: &Player, answered: &Answered, out: &mut Vec<u8>) {
     let mut number = |value: u64| out.extend(value.to_le_bytes());
     number(answered.answer);
@@ -556,7 +584,9 @@ fn report(player: &Player, answered: &Answered, out: &mut Vec<u8>) {
         out.extend(root);
     }
     report_host(&player.host, out);
-    for (i, area) in [&player.disk, &player.stage, &player.input, &player.output].into_iter().enumerate() {
+    let (disk_roots, stage_roots) = (player.host.disk_roots.concat(), player.host.stage_roots.concat());
+    let areas = [&player.disk, &player.stage, &player.input, &player.output, &disk_roots, &stage_roots];
+    for (i, area) in areas.into_iter().enumerate() {
         out.extend(DIGESTS.with(|digests| digests.borrow_mut().digest(i, area)));
     }
 }
@@ -616,6 +646,17 @@ pub fn play_unreported(bytes: &[u8]) {
         };
         player.make(&item);
     }
+}
+
+/// Whether two players have the same host, as a report shows it, and the same areas and kept roots.
+pub fn same(one: &Player, other: &Player) -> bool {
+    let host = |player: &Player| {
+        let mut shown = Vec::new();
+        report_host(&player.host, &mut shown);
+        (shown, player.host.disk_roots, player.host.stage_roots)
+    };
+    let areas = (&one.disk, &one.stage, &one.input, &one.output) == (&other.disk, &other.stage, &other.input, &other.output);
+    areas && host(one) == host(other)
 }
 
 /// The items of a script with where each one's report starts, for showing where two outputs differ.

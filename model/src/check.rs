@@ -5,10 +5,14 @@ use crate::blake2b::{hash, hash32};
 use crate::calls::{self, Item};
 use crate::depot;
 use crate::depot::SECTOR;
+use crate::gen;
 use crate::head::{self, filled, Head, Instruction, Operand};
 use crate::host::{self, Host, NONE};
 use crate::program::Closed;
+use crate::roots;
+use crate::show;
 use crate::tree;
+use crate::unsound;
 
 /// "Prices: Init 7, Memory 1, ReadBase 3, ReadLength 2, WriteBase 5, WriteLength 4, TruncateBase 6."
 const PRICES: [u16; 7] = [7, 1, 3, 2, 5, 4, 6];
@@ -17,7 +21,7 @@ const A: [u8; 32] = [0xA1; 32];
 const B: [u8; 32] = [0xB2; 32];
 
 pub fn run() {
-    let tests: [(&str, fn()); 36] = [
+    let tests: [(&str, fn()); 44] = [
         ("RFC 7693: abc", abc),
         ("RFC 7693: Appendix E self-test", self_test),
         ("hash: lengths refused", hash_lengths),
@@ -54,6 +58,14 @@ pub fn run() {
         ("M-103: sector sizes in scripts", sized_scripts),
         ("M-103: proofs of up to 4,194,304 segments", large_proofs),
         ("M-103: the checker in scripts", checker_in_scripts),
+        ("M-105: roots and proofs from the roots of sectors", joined_roots),
+        ("M-105: what changes kept roots", roots_kept),
+        ("M-105: kept roots of larger sectors", larger_roots_kept),
+        ("M-105: sound and unsound hosts", soundness),
+        ("M-105: what follows from kept roots that are wrong", wrong_roots),
+        ("M-105: a change that no kept root shows", unseen_change),
+        ("M-105: kept roots in scripts", roots_in_scripts),
+        ("M-105: random inputs, by kept roots and by roots worked out", as_worked_out),
     ];
     for (name, test) in tests {
         test();
@@ -813,11 +825,12 @@ fn script() {
     let mut bytes = calls::item_bytes(&fresh);
     bytes.extend(calls::item_bytes(&Item::Form { id: A }));
     let out = calls::play(&bytes);
-    // answer, tally, growth; sector size, disk, stage; 8 places; no program; 4 digests
-    let first = 3 * 8 + 3 * 8 + 8 * 8 + 8 + 4 * 32;
+    // answer, tally, growth; sector size, disk, stage; 8 places; no program; 4 digests of areas, 2 of kept roots
+    let first = 3 * 8 + 3 * 8 + 8 * 8 + 8 + 6 * 32;
     assert_eq!(out.len(), first + first + 32 + 8);
-    assert_eq!(out[first - 128..first - 96], hash32(&[7; 262_144]));
-    assert_eq!(out[first - 32..first], hash32(&[7; 65_536]));
+    let digests = [262_144, 65_536, 65_536, 65_536].map(|length| hash32(&vec![7; length]));
+    assert_eq!(out[first - 192..first - 64], digests.concat());
+    assert_eq!(out[first - 64..first], [hash32(&[0; 2_048]), hash32(&[0; 512])].concat());
     bytes.push(b'?');
     assert_eq!(calls::play(&bytes), out);
     bytes.pop();
@@ -1009,10 +1022,10 @@ fn sized_scripts() {
         let script = [fresh(4_096, 8_192, 4_096), poke(2, 0, 1), poke(4, 0, size)].concat();
         let before = calls::play(&script).len();
         let out = calls::play(&[script, poke(25, 0, sector)].concat());
-        assert_eq!(out.len() - before, 3 * 8 + 3 * 8 + 8 * 8 + 40 + 8 * slots + 8 + 4 * 32, "{sector}");
+        assert_eq!(out.len() - before, 3 * 8 + 3 * 8 + 8 * 8 + 40 + 8 * slots + 8 + 6 * 32, "{sector}");
         assert_eq!(number(&out[before..], 3), sector);
     }
-    assert_eq!(calls::play(&poke(26, 0, 0)), Vec::<u8>::new());
+    assert_eq!(calls::play(&poke(28, 0, 0)), Vec::<u8>::new());
 }
 
 /// "A proof may now cover 4,194,304 segments, and the checker's count limit rises to that."
@@ -1057,7 +1070,7 @@ fn large_proofs() {
 fn checker_in_scripts() {
     let said = |item: &Item| {
         let out = calls::play(&calls::item_bytes(item));
-        assert_eq!(out.len(), 3 * 8 + 3 * 8 + 8 * 8 + 8 + 4 * 32);
+        assert_eq!(out.len(), 3 * 8 + 3 * 8 + 8 * 8 + 8 + 6 * 32);
         out[0]
     };
     let tree = segments(5);
@@ -1082,4 +1095,364 @@ fn checker_in_scripts() {
     assert!(tree::check(&tree::root(&long), 2_049, 0, 2_048, &long[..131_072], &hashes));
     let tail = [&long[..131_072], &hashes].concat();
     assert_eq!(said(&Item::Check { root: tree::root(&long), count: 2_049, first: 0, end: 2_048, data: 131_072, tail }), 0);
+}
+
+// M-105
+
+/// The roots of sectors make the contract's root and the proof of a Read, as all the bytes do.
+fn joined_roots() {
+    for bits in 12..=22 {
+        assert_eq!(tree::zeros_root(1 << bits), tree::root(&vec![0; 1 << bits]));
+    }
+    for (z, most) in [(4_096usize, 64usize), (8_192, 9), (65_536, 5)] {
+        let bytes: Vec<u8> = (0..most * z).map(|i| (i / 7 + i / z) as u8).collect();
+        let all: Vec<tree::Hash> = bytes.chunks(z).map(tree::root).collect();
+        for count in 0..=most {
+            assert_eq!(tree::joined(&all[..count]), tree::root(&bytes[..count * z]));
+        }
+        let in_sector = (z / 64) as u64;
+        for (count, position) in (1..=most.min(9)).chain([most]).flat_map(|count| (0..count).map(move |at| (count, at))) {
+            for (first, end) in
+                [(0, 1), (0, in_sector), (in_sector - 1, in_sector), (3, 9), (in_sector / 2 - 1, in_sector / 2 + 1)]
+            {
+                let before = position as u64 * in_sector;
+                let proof = tree::proof_in(&all[..count], position as u64, &bytes[position * z..][..z], first, end);
+                assert_eq!(proof, tree::proof(&bytes[..count * z], before + first, before + end));
+            }
+        }
+    }
+}
+
+/// The kept roots of disk and stage slots.
+fn kept(bench: &Bench) -> ([tree::Hash; 64], [tree::Hash; 16]) {
+    (bench.host.disk_roots, bench.host.stage_roots)
+}
+
+/// The roots of all slots, worked out.
+fn worked_out(bench: &Bench) -> (Vec<tree::Hash>, Vec<tree::Hash>) {
+    let roots = |area: &[u8]| area.chunks(bench.host.sector as usize).map(tree::root).collect();
+    (roots(&bench.disk), roots(&bench.stage))
+}
+
+fn sound(bench: &Bench) -> (u64, bool) {
+    bench.host.sound(&bench.disk, &bench.stage)
+}
+
+/// "an instruction that writes a sector ... sets the kept root of its stage slot ...; growth sets that of the new stage slot ...; commit
+/// copies the stage slot's kept root ...; Nothing else touches a kept root: slots that are freed, by shrinking, dropping or closing,
+/// keep theirs."
+fn roots_kept() {
+    let mut bench = bench(8, 4, &[A, B]);
+    let mut expected = ([[0; 32]; 64], [[0; 32]; 16]);
+    bench.disk.fill(7);
+    bench.stage.fill(9);
+    assert_eq!((kept(&bench), sound(&bench)), (expected, (0, true)));
+    let zeros = tree::root(&[0; 4096]);
+    // growth, growth, a Write: the slots in turn; the disk's at commit
+    bench.run(A, &grow(&[1, 2]).write(4096, b"snack"));
+    let snack = tree::root(&[&b"snack"[..], &[0; 4091]].concat());
+    expected.1[..2].copy_from_slice(&[zeros, snack]);
+    assert_eq!((kept(&bench), sound(&bench)), (expected, (0, true)));
+    assert_eq!(bench.agree().answer, 0);
+    expected.0[..2].copy_from_slice(&[zeros, snack]);
+    assert_eq!((kept(&bench), sound(&bench)), (expected, (0, true)));
+    // Reads touch none; a failure, an interrupt, a close, forming and dropping neither
+    bench.run(B, &grow(&[9]));
+    bench.give_up();
+    let layout = Layout::default().read(A, 0, 64).proved().read_sector(snack, 0, 64).proved();
+    bench.run_and_commit(B, &layout);
+    assert_eq!(bench.open(B, &layout, BUDGET), 0);
+    assert_eq!(bench.host.interrupt(&bench.disk, &mut bench.output), 0);
+    bench.give_up();
+    assert_eq!((bench.host.form(&[3; 32]), bench.host.drop(&[3; 32])), (0, 0));
+    assert_eq!((kept(&bench), sound(&bench)), (expected, (0, true)));
+    // Swap of two sectors rehashes both, offset 2's in the first slot; Copy its destination alone; equal bytes are rehashed too
+    bench.run(A, &Layout::default().numbers("Swap", &[0, 4096, 5]));
+    expected.1[..2].copy_from_slice(&[zeros, snack]);
+    assert_eq!(bench.host.program.staged[..2], [1, 0]);
+    assert_eq!((kept(&bench), sound(&bench)), (expected, (0, true)));
+    bench.give_up();
+    assert_eq!((kept(&bench), sound(&bench)), (expected, (0, true)));
+    bench.run(A, &Layout::default().numbers("Copy", &[0, 4096, 5]));
+    expected.1[0] = snack;
+    assert_eq!((kept(&bench), sound(&bench)), (expected, (0, true)));
+    bench.give_up();
+    bench.run(A, &Layout::default().write(0, &[0]));
+    expected.1[0] = zeros;
+    assert_eq!((kept(&bench), sound(&bench)), (expected, (0, true)));
+    // shrinking frees the staged slot, which keeps its root until it is taken again, by growth
+    assert_eq!(bench.give_up().answer, 0);
+    bench.run(A, &grow(&[3]).write(8192, b"!").numbers("Truncate", &[8192]));
+    expected.1[0] = tree::root(&[&b"!"[..], &[0; 4095]].concat());
+    assert_eq!((kept(&bench), sound(&bench)), (expected, (0, true)));
+    bench.give_up();
+    bench.run(A, &grow(&[3]));
+    expected.1[0] = zeros;
+    assert_eq!((kept(&bench), sound(&bench)), (expected, (0, true)));
+    // committed: the new slot's; a shorter contract's slots keep theirs, and so do a dropped one's
+    assert_eq!(bench.agree().growth, 4096);
+    expected.0[2] = zeros;
+    assert_eq!((kept(&bench), sound(&bench)), (expected, (0, true)));
+    assert_eq!(bench.run_and_commit(A, &grow(&[2, 1])).growth, -8192);
+    assert_eq!((kept(&bench), bench.slots(0)), (expected, vec![0]));
+    assert_eq!((bench.host.drop(&A), kept(&bench), sound(&bench)), (0, expected, (0, true)));
+    // agreement to another pair, and one to nothing changed, copy none
+    bench.run(B, &grow(&[1]).write(0, b"dropped"));
+    expected.1[0] = tree::root(&bench.stage[..4096]);
+    assert_eq!(bench.host.agree(&mut bench.disk, &bench.stage, 4096, &zeros).answer, 14);
+    assert_eq!((kept(&bench), sound(&bench)), (expected, (0, true)));
+    bench.run(B, &grow(&[1, 0]));
+    expected.1[0] = zeros;
+    assert_eq!(bench.host.agree(&mut bench.disk, &bench.stage, 9, &zeros).answer, 0);
+    assert_eq!((kept(&bench), sound(&bench)), (expected, (0, true)));
+    // a host that is made anew
+    assert!(host::fresh(4096, 4096, 4096)
+        .1
+        .disk_roots
+        .iter()
+        .chain(&host::fresh(1, 1, 1).1.stage_roots)
+        .all(|root| *root == [0; 32]));
+}
+
+/// A root is of a whole sector of the host's size.
+fn larger_roots_kept() {
+    for z in [8_192, 65_536, 1_048_576] {
+        let mut bench = bench_of(z, 3, 3, &[A]);
+        let layout =
+            grow_of(z, &[1, 2]).write(z - 3, b"end").numbers("Copy", &[2 * z - 3, z - 3, 3]).numbers("Swap", &[0, 2 * z - 3, 3]);
+        bench.run_and_commit(A, &layout);
+        let (disk, stage) = worked_out(&bench);
+        assert_eq!((&bench.host.disk_roots[..2], &bench.host.stage_roots[..2]), (&disk[..2], &stage[..2]));
+        assert_eq!(bench.host.starting_pair(&bench.disk), (0, [0; 32]));
+        bench.run(A, &Layout::default().read(A, z, 64).proved());
+        assert_eq!(bench.records()[0].3, tree::root(&bench.disk[..2 * z as usize]));
+        assert_eq!(sound(&bench), (0, true));
+    }
+}
+
+/// "1, 2 (disk and stage), never 4; else 0 and whether the host is sound, everything worked out afresh." "Other slots are not looked at."
+fn soundness() {
+    assert_eq!(host::fresh(4096, 0, 0).1.sound(&[], &[]), (1, false));
+    let mut bench = bench(4, 3, &[A, B]);
+    bench.run_and_commit(A, &grow(&[1, 2]).write(0, b"a"));
+    bench.run_and_commit(B, &grow(&[1]).write(9, b"b"));
+    bench.run_and_commit(A, &grow(&[1]));
+    assert_eq!((bench.slots(0), bench.slots(1)), (vec![0], vec![2]));
+    // no program open: 0; other lengths: 2
+    let asked = |bench: &Bench, disk: usize, stage: usize| bench.host.sound(&bench.disk[..disk], &bench.stage[..stage]);
+    assert_eq!(asked(&bench, 16_384, 12_288), (0, true));
+    for (disk, stage) in [(16_383, 12_288), (12_288, 12_288), (16_384, 8_192), (0, 12_288), (16_384, 0)] {
+        assert_eq!(asked(&bench, disk, stage), (2, false));
+    }
+    let damaged = |bench: &Bench, damage: &dyn Fn(&mut Bench)| {
+        let mut other = Bench {
+            host: bench.host.clone(),
+            disk: bench.disk.clone(),
+            stage: bench.stage.clone(),
+            input: bench.input.clone(),
+            output: bench.output.clone(),
+        };
+        damage(&mut other);
+        sound(&other)
+    };
+    for j in 0..32 {
+        assert_eq!(damaged(&bench, &|b| b.host.disk_roots[0][j] ^= 1), (0, false));
+        assert_eq!(damaged(&bench, &|b| b.host.disk_roots[2][j] ^= 128), (0, false));
+        // slots that no position has: free, cut off, of the stage, past the disk
+        for slot in [1, 3, 4, 63] {
+            assert_eq!(damaged(&bench, &|b| b.host.disk_roots[slot][j] ^= 1), (0, true));
+        }
+        assert!((0..16).all(|slot| damaged(&bench, &|b| b.host.stage_roots[slot][j] ^= 1) == (0, true)));
+    }
+    // bytes of the disk: the first and the last of a sector that a position has, and others
+    for (at, answer) in [(0, false), (4095, false), (4096, true), (8191, true), (8192, false), (12_287, false), (12_288, true)] {
+        assert_eq!(damaged(&bench, &|b| b.disk[at] ^= 1), (0, answer));
+    }
+    // a program: its staged positions too, which no disk slot stands for
+    bench.run(A, &Layout::default().write(5, b"staged").numbers("Truncate", &[8192]));
+    assert_eq!((bench.host.program.staged[..3].to_vec(), sound(&bench)), (vec![0, 1, NONE], (0, true)));
+    for (slot, answer) in [(0, false), (1, false), (2, true), (3, true), (15, true)] {
+        assert_eq!(damaged(&bench, &|b| b.host.stage_roots[slot][31] ^= 1), (0, answer));
+    }
+    for (at, answer) in [(0, false), (4095, false), (4096, false), (8191, false), (8192, true), (12_287, true)] {
+        assert_eq!(damaged(&bench, &|b| b.stage[at] ^= 1), (0, answer));
+    }
+    // the disk's sector under a stage copy is looked at
+    assert_eq!(damaged(&bench, &|b| b.host.disk_roots[0][0] ^= 1), (0, false));
+    // in order, with sectors in other slots: unsound; two that are exchanged are another contract and sound with it
+    assert_eq!(damaged(&bench, &|b| b.host.places[0].slots[0] = 3), (0, false));
+    assert_eq!(damaged(&bench, &|b| (b.host.places[0].slots[0], b.host.places[1].slots[0]) = (2, 0)), (0, true));
+    assert_eq!(damaged(&bench, &|b| b.host.program.staged[..2].swap(0, 1)), (0, true));
+    assert_eq!(damaged(&bench, &|b| b.host.program.staged[1] = 2), (0, false));
+    // 1 first, whatever the roots are
+    for damage in [|b: &mut Bench| b.host.disk_sectors = 65, |b: &mut Bench| b.host.program.ran = 9] {
+        assert_eq!(damaged(&bench, &|b| damage(b)), (1, false));
+        assert_eq!(damaged(&bench, &|b| (damage(b), b.stage.clear()).1), (1, false));
+    }
+    assert_eq!((sound(&bench), bench.give_up().answer, sound(&bench)), ((0, true), 0, (0, true)));
+}
+
+/// "For any areas, results are those that follow from the kept roots": the root of a contract, the look-up of ReadSector, and in the proof
+/// of a Read the roots of all other sectors. A Write heals what it stages, a commit the disk.
+fn wrong_roots() {
+    let mut bench = bench(8, 4, &[A, B]);
+    bench.run_and_commit(A, &grow(&[1, 2, 3]).write(0, b"one").write(4096, b"two").write(8192, b"three"));
+    let right = bench.host.disk_roots;
+    let wrong = [0x77; 32];
+    bench.host.disk_roots[1] = wrong;
+    let joined = tree::joined(&[right[0], wrong, right[2]]);
+    assert_eq!((sound(&bench), bench.host.in_order()), ((0, false), true));
+    // reading: the record's root, the proofs, the look-up
+    let layout = Layout::default().read(A, 64, 64).proved().read(A, 4096 + 64, 64).proved().read(A, 4096, 3);
+    let layout = layout.read_sector(wrong, 0, 64).proved().read_sector(right[0], 0, 3).read_sector(right[1], 0, 3);
+    let records = bench.run(A, &layout);
+    assert_eq!(records.iter().map(|record| record.0).collect::<Vec<u64>>(), [0, 0, 0, 0, 0, 25]);
+    assert!(records.iter().all(|record| (record.2, record.3) == (12_288, joined)));
+    // outside the sector that is read: kept; inside it: from its bytes, so that its proof gives the right root for its sector
+    let sector = |position: usize| bench.disk[position * 4096..][..4096].to_vec();
+    assert_eq!(records[0].4, [tree::proof(&sector(0), 1, 2).concat(), wrong.to_vec(), right[2].to_vec()].concat());
+    assert_eq!(records[1].4, [right[0].to_vec(), tree::proof(&sector(1), 1, 2).concat(), right[2].to_vec()].concat());
+    assert!(tree::check(&joined, 192, 1, 2, &records[0].5, &records[0].4));
+    assert!(!tree::check(&joined, 192, 65, 66, &records[1].5, &records[1].4));
+    assert!(tree::check(&tree::joined(&right[..3]), 192, 65, 66, &records[1].5, &records[1].4));
+    assert_eq!((&records[2].5[..], &records[3].5[..3], &records[4].5[..]), (&b"two"[..], &b"two"[..], &b"one"[..]));
+    assert!(tree::check(&right[1], 64, 0, 1, &records[3].5, &records[3].4));
+    assert_eq!(bench.host.reached(&bench.disk, &bench.stage), (0, 12_288, joined));
+    bench.give_up();
+    // another contract reads it: its committed roots
+    let records = bench.run(B, &Layout::default().read(A, 0, 64).proved());
+    assert!(tree::check(&joined, 192, 0, 1, &records[0].5, &records[0].4));
+    // nothing changed: by kept roots
+    assert_eq!(bench.host.agree(&mut bench.disk, &bench.stage, 1, &[1; 32]).answer, 0);
+    // agreement to the bytes' pair is to another pair; a failure's record shows the kept one
+    let layout = Layout::default().write(0, b"One");
+    bench.run(A, &layout);
+    let by_bytes = tree::root(&[&bench.stage[..4096], &bench.disk[4096..12_288]].concat());
+    assert_eq!(bench.host.agree(&mut bench.disk, &bench.stage, 12_288, &by_bytes).answer, 14);
+    bench.open(A, &layout, BUDGET);
+    assert_eq!(bench.host.interrupt(&bench.disk, &mut bench.output), 0);
+    assert_eq!(bench.records(), [(20, 0, 12_288, joined, vec![], vec![])]);
+    bench.give_up();
+    bench.run_and_commit(A, &layout);
+    assert_eq!(bench.host.disk_roots[..3], [tree::root(&bench.disk[..4096]), wrong, right[2]]);
+    assert_eq!(sound(&bench), (0, false));
+    // equal bytes: the stage's root is the right one, so that the root is another than at the start, and is committed
+    bench.run(A, &Layout::default().write(4096, b"two"));
+    assert_eq!(bench.records()[0].3, tree::root(&bench.disk[..12_288]));
+    assert_eq!((bench.host.disk_roots[1], sound(&bench)), (wrong, (0, false)));
+    assert_eq!((bench.agree().answer, bench.host.disk_roots[1], sound(&bench)), (0, right[1], (0, true)));
+    // of the stage: seen in the records, committed, and healed by the next Write to that sector
+    for heals in [false, true] {
+        let layout = Layout::default().write(4096, b"Two").write(4096, b"TWO");
+        bench.open(A, &layout, BUDGET);
+        assert_eq!(bench.piece(&layout.data[..19]), 0);
+        bench.host.stage_roots[0] = wrong;
+        assert_eq!(sound(&bench), (0, false));
+        let one = bench.host.disk_roots[0];
+        let (size, root) = bench.host.running_pair(&bench.disk, &bench.stage);
+        assert_eq!((size, root), (12_288, tree::joined(&[one, wrong, right[2]])));
+        if heals {
+            assert_eq!(bench.piece(&layout.data[19..]), 0);
+            assert_eq!(sound(&bench), (0, true));
+            assert_eq!((bench.agree().answer, sound(&bench)), (0, (0, true)));
+        } else {
+            bench.host.program.head.count = 1;
+            assert_eq!(bench.agree().answer, 0);
+            assert_eq!((bench.host.disk_roots[1], sound(&bench), &bench.disk[4096..4099]), (wrong, (0, false), &b"Two"[..]));
+            bench.host.disk_roots[1] = tree::root(&bench.disk[4096..8192]);
+        }
+    }
+}
+
+/// "changed bytes under an unchanged kept root close with 0 and no commit. That is what follows from kept roots."
+fn unseen_change() {
+    let mut bench = bench(8, 4, &[A]);
+    bench.run_and_commit(A, &grow(&[1]).write(0, b"old"));
+    let after = [&b"new"[..], &[0; 4093]].concat();
+    bench.host.disk_roots[0] = tree::root(&after);
+    let records = bench.run(A, &Layout::default().write(0, b"new"));
+    assert_eq!((records[0].3, &bench.stage[..3]), (tree::root(&after), &b"new"[..]));
+    let closed = bench.host.agree(&mut bench.disk, &bench.stage, 7, &[7; 32]);
+    assert_eq!(closed, Closed { answer: 0, tally: bench_tally(&records), growth: 0 });
+    assert_eq!((&bench.disk[..3], sound(&bench)), (&b"old"[..], (0, false)));
+}
+
+/// `s`, pokes 26 and 27, and the digests of kept roots.
+fn roots_in_scripts() {
+    let fresh = calls::item_bytes(&Item::Fresh { disk: 8192, stage: 4096, fill: 7 });
+    let ask = |disk, stage| calls::item_bytes(&Item::Sound { disk, stage });
+    let poke = |field, i, j, value| calls::item_bytes(&Item::Poke { field, i, j, value });
+    let length = 3 * 8 + 3 * 8 + 8 * 8 + 8 + 6 * 32;
+    let last = |script: &[u8]| {
+        let out = calls::play(script);
+        let report = out[out.len() - length..].to_vec();
+        let first: Vec<u64> = report[..24].chunks(8).map(|n| u64::from_le_bytes(n.try_into().unwrap())).collect();
+        (first, report[length - 64..length - 32].to_vec(), report[length - 32..].to_vec())
+    };
+    let digests = |disk: &[u8], stage: &[u8]| (hash32(disk).to_vec(), hash32(stage).to_vec());
+    let (none, no_stage) = digests(&[0; 2_048], &[0; 512]);
+    assert_eq!(last(&ask(0, 0)), (vec![1, 0, 0], none.clone(), no_stage.clone()));
+    assert_eq!(last(&[&fresh[..], &ask(8192, 4096)].concat()), (vec![0, 1, 0], none.clone(), no_stage.clone()));
+    assert_eq!(last(&[&fresh[..], &ask(8192, 4095)].concat()).0, [2, 0, 0]);
+    assert_eq!(last(&[&fresh[..], &ask(4096, 4096)].concat()).0, [2, 0, 0]);
+    // a byte of one root, the first and the last
+    for (field, i, j, at) in
+        [(26, 0, 0, 0), (26, 63, 31, 2_047), (26, 1, 2, 34), (27, 0, 0, 0), (27, 15, 31, 511), (27, 2, 1, 65)]
+    {
+        let mut roots = (vec![0; 2_048], vec![0; 512]);
+        if field == 26 {
+            roots.0[at] = 255;
+        } else {
+            roots.1[at] = 255;
+        }
+        let (disk, stage) = digests(&roots.0, &roots.1);
+        assert_eq!(last(&[&fresh[..], &poke(field, i, j, 255)].concat()), (vec![0, 0, 0], disk, stage));
+        // no position has the slot; `F` makes them zeros again
+        assert_eq!(last(&[&fresh[..], &poke(field, i, j, 255), &ask(8192, 4096)].concat()).0, [0, 1, 0]);
+        assert_eq!(
+            last(&[&fresh[..], &poke(field, i, j, 255), &fresh].concat()),
+            (vec![0, 0, 0], none.clone(), no_stage.clone())
+        );
+    }
+    for malformed in [
+        poke(26, 64, 0, 0),
+        poke(26, 0, 32, 0),
+        poke(26, 0, 0, 256),
+        poke(27, 16, 0, 0),
+        poke(27, 0, 32, 0),
+        poke(27, 0, 0, 256),
+        ask(262_145, 0),
+        ask(0, 65_537),
+    ] {
+        assert_eq!(calls::play(&[&fresh[..], &malformed, &fresh].concat()).len(), length);
+    }
+}
+
+/// "for a sound host with areas lent back as left they are 01's, and any calls leave it sound": random programs and scripts, each call made
+/// by kept roots and by roots that are worked out, as long as the host is sound.
+fn as_worked_out() {
+    let (mut compared, mut unsound) = (0, 0);
+    for number in 0..3_000 {
+        let input = gen::input(105, number);
+        if !input.for_calls {
+            assert_eq!(depot::play(&input.bytes), roots::worked_out(|| depot::play(&input.bytes)), "input {number}");
+            continue;
+        }
+        let (mut player, mut other) = (calls::new_player(), calls::new_player());
+        let mut reader = head::Reader { rest: &input.bytes };
+        while let Some(item) = calls::read_item(&mut reader) {
+            if unsound::found(&player).is_some() {
+                player.call(&item);
+                other = player.clone();
+                unsound += 1;
+                continue;
+            }
+            assert_eq!(player.call(&item), roots::worked_out(|| other.call(&item)), "input {number}, {}", show::item_text(&item));
+            assert!(calls::same(&player, &other), "input {number}, {}", show::item_text(&item));
+            let poked = matches!(item, Item::Poke { .. });
+            assert!(poked || unsound::found(&player).is_none(), "input {number}: made unsound by {}", show::item_text(&item));
+            compared += 1;
+        }
+    }
+    assert!(compared > 20_000 && unsound > 2_000, "{compared} calls compared, {unsound} on unsound hosts");
 }

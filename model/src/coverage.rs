@@ -1,11 +1,12 @@
 //! Counts of what occurred while the model ran: answers by call, record numbers by instruction, and other events.
 
-use std::cell::RefCell;
+use std::cell::{Cell, RefCell};
 use std::collections::BTreeMap;
 
 type Counts<Key> = RefCell<BTreeMap<Key, u64>>;
 
 thread_local! {
+    static OFF: Cell<bool> = const { Cell::new(false) };
     static ANSWERS: Counts<(&'static str, u64)> = Counts::default();
     static RECORDS: Counts<(&'static str, u64)> = Counts::default();
     static EVENTS: Counts<&'static str> = Counts::default();
@@ -14,30 +15,44 @@ thread_local! {
     static SIZED: Counts<(u64, &'static str, u64)> = Counts::default();
 }
 
+/// What a function gives, with nothing counted.
+pub fn uncounted<Given>(function: impl FnOnce() -> Given) -> Given {
+    OFF.set(true);
+    let given = function();
+    OFF.set(false);
+    given
+}
+
+fn count<Key: Ord>(counts: &'static std::thread::LocalKey<Counts<Key>>, key: Key) {
+    if !OFF.get() {
+        counts.with(|counts| *counts.borrow_mut().entry(key).or_insert(0) += 1);
+    }
+}
+
 pub fn answer(call: &'static str, number: u64) {
-    ANSWERS.with(|counts| *counts.borrow_mut().entry((call, number)).or_insert(0) += 1);
+    count(&ANSWERS, (call, number));
 }
 
 pub fn record(instruction: &'static str, number: u64) {
-    RECORDS.with(|counts| *counts.borrow_mut().entry((instruction, number)).or_insert(0) += 1);
+    count(&RECORDS, (instruction, number));
 }
 
 pub fn event(name: &'static str) {
-    EVENTS.with(|counts| *counts.borrow_mut().entry(name).or_insert(0) += 1);
+    count(&EVENTS, name);
 }
 
 /// A call of this name, or an instruction, had this answer or record number on a host of this sector size.
 pub fn sized(sector: u64, name: &'static str, number: u64) {
-    SIZED.with(|counts| *counts.borrow_mut().entry((sector, name, number)).or_insert(0) += 1);
+    count(&SIZED, (sector, name, number));
 }
 
 /// A call met a host of which this condition of order does not hold.
 pub fn disorder(condition: &'static str) {
-    DISORDERS.with(|counts| *counts.borrow_mut().entry(condition).or_insert(0) += 1);
+    count(&DISORDERS, condition);
 }
 
 /// The answers that each call can give.
-const ANSWERS_POSSIBLE: [(&str, &[u64]); 14] = [
+const ANSWERS_POSSIBLE: [(&str, &[u64]); 15] = [
     ("fresh", &[0, 2]),
     ("fresh of a size", &[0, 2]),
     ("form", &[0, 1, 3, 5, 6, 8, 15]),
@@ -48,6 +63,7 @@ const ANSWERS_POSSIBLE: [(&str, &[u64]); 14] = [
     ("give up", &[0, 1, 2, 4]),
     ("agree", &[0, 1, 2, 4, 13, 14]),
     ("reached", &[0, 1, 2, 4]),
+    ("sound", &[0, 1, 2]),
     ("poke", &[0]),
     ("check", &[0, 1]),
     ("(malformed item)", &[0]),
@@ -65,7 +81,7 @@ const RECORDS_POSSIBLE: [(&str, &[u64]); 7] = [
     ("(unknown)", &[20, 21]),
 ];
 
-const EVENTS_POSSIBLE: [&str; 73] = [
+const EVENTS_POSSIBLE: [&str; 96] = [
     "Read of the parent",
     "Read of another contract",
     "ReadSector found in another contract",
@@ -139,6 +155,29 @@ const EVENTS_POSSIBLE: [&str; 73] = [
     "k no: hash bytes left over",
     "k no: another root",
     "k no: right but for a tail above 131,072 bytes",
+    "s 2, no program open",
+    "s 2, a program open",
+    "s yes, no program open",
+    "s yes, a program open, none staged",
+    "s yes, a program open, sectors staged",
+    "s yes, a root written over in a slot that no position has",
+    "s no, a disk slot, no program open",
+    "s no, a disk slot, a program open",
+    "s no, a stage slot",
+    "unsound: another root in a record",
+    "unsound: another proof",
+    "unsound: ReadSector finds what the bytes do not have",
+    "unsound: ReadSector does not find what the bytes have",
+    "unsound: ReadSector finds another sector",
+    "unsound: interrupt, another root",
+    "unsound: another root reached",
+    "unsound: agreement, bytes changed and no kept root (0, nothing committed)",
+    "unsound: agreement, kept roots changed and no byte",
+    "unsound: agreement to the bytes' pair (14)",
+    "made sound by a piece",
+    "made sound by an agreement",
+    "made sound by giving up",
+    "made sound by dropping",
 ];
 
 const DISORDERS_POSSIBLE: [&str; 24] = [
@@ -233,7 +272,7 @@ fn print_sized(counts: &BTreeMap<(u64, &'static str, u64), u64>) {
         "     others: calls done {}, refused {}; instructions run {}, failed {}",
         others[0], others[1], others[2], others[3]
     );
-    let on_hosts = ["fresh of a size", "form", "drop", "open", "piece", "interrupt", "give up", "agree", "reached"];
+    let on_hosts = ["fresh of a size", "form", "drop", "open", "piece", "interrupt", "give up", "agree", "reached", "sound"];
     for sector in SIZES {
         let calls = ANSWERS_POSSIBLE.iter().filter(|(call, _)| on_hosts.contains(call));
         let missing: Vec<String> = calls

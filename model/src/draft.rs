@@ -17,8 +17,10 @@ pub struct Scene {
     pub most_sectors: u64,
     pub stage_sectors: u64,
     pub others: Vec<([u8; 32], u64)>,
-    /// The roots of all committed sectors.
+    /// The kept roots of all committed sectors, and the roots of their bytes where those are others.
     pub roots: Vec<[u8; 32]>,
+    /// The position in the parent whose kept root is not its sector's, the first one.
+    pub unsound: Option<u64>,
 }
 
 /// One instruction: name, inputs, whether a proof is asked.
@@ -51,9 +53,15 @@ pub fn scene(host: &Host, disk: &[u8], contract: [u8; 32]) -> Scene {
     let other_sectors: u64 = held.iter().filter(|&&p| Some(p) != parent).map(|&p| host.places[p].size / sector).sum();
     let seen = host.disk_length() <= disk.len() as u64;
     let mut roots = Vec::new();
+    let mut unsound = None;
     for &place in held.iter().filter(|_| seen) {
-        for position in 0..host.places[place].size / sector {
-            roots.push(tree::root(host.committed_sector(disk, place, position)));
+        for (position, kept) in host.committed_roots(place).into_iter().enumerate() {
+            let root = tree::root(host.committed_sector(disk, place, position as u64));
+            roots.push(kept);
+            if kept != root {
+                roots.push(root);
+                unsound = unsound.or(Some(position as u64).filter(|_| Some(place) == parent));
+            }
         }
     }
     let parent_seen = parent.filter(|_| seen);
@@ -61,12 +69,13 @@ pub fn scene(host: &Host, disk: &[u8], contract: [u8; 32]) -> Scene {
         sector,
         contract,
         read_only,
-        bytes: parent_seen.map_or(vec![], |p| host.committed_bytes(disk, p)),
+        bytes: parent_seen.map_or(vec![], |p| host.committed_sectors(disk, p).concat()),
         size: parent_seen.map_or(0, |p| host.places[p].size),
         most_sectors: host.disk_sectors.saturating_sub(other_sectors),
         stage_sectors: host.stage_sectors,
         others: held.iter().filter(|&&p| Some(p) != parent).map(|&p| (host.places[p].id, host.places[p].size)).collect(),
         roots,
+        unsound,
     }
 }
 
@@ -189,6 +198,41 @@ pub fn still_program(random: &mut Random, scene: &Scene) -> (Head, Vec<u8>) {
     if scene.size > 0 && random.chance(150) {
         let at = random.below(scene.size);
         step("Write", &[at], Some(&[scene.bytes[at as usize] ^ 1]));
+    }
+    lay_out(random, scene.contract, &steps)
+}
+
+/// A program that writes these bytes at an offset, and nothing else.
+pub fn writing_program(random: &mut Random, scene: &Scene, offset: u64, bytes: &[u8]) -> (Head, Vec<u8>) {
+    let inputs = vec![offset.to_le_bytes().to_vec(), [&(bytes.len() as u64).to_le_bytes()[..], bytes].concat()];
+    lay_out(random, scene.contract, &[Step { name: filled(b"Write"), inputs, proof: false }])
+}
+
+/// A program without a fault for a parent one of whose kept roots is not its sector's: sectors are looked up by kept roots and by those of
+/// the bytes, read with and without proofs, written to, and read again; often the sector in question.
+pub fn unsound_program(random: &mut Random, scene: &Scene) -> (Head, Vec<u8>) {
+    let at = scene.unsound.unwrap_or(0);
+    let positions = scene.size / scene.sector;
+    let number = |n: u64| n.to_le_bytes().to_vec();
+    let mut steps = Vec::new();
+    for _ in 0..random.within(1, 6) {
+        let position = if random.chance(600) { at } else { random.below(positions.max(1)) };
+        let inner = random.below(scene.sector / 64 - 2) * 64;
+        let (offset, proof) = (position * scene.sector + inner, random.chance(600));
+        let kind = random.weighted(&[30, 30, 20, 8, 8, 4]);
+        let (name, inputs) = match kind {
+            0 => ("Read", vec![scene.contract.to_vec(), number(offset), number(64)]),
+            1 if !scene.roots.is_empty() => ("ReadSector", vec![random.pick(&scene.roots).to_vec(), number(inner), number(128)]),
+            3 => ("Copy", vec![number(offset), number(random.below(positions.max(1)) * scene.sector), number(64)]),
+            4 => ("Swap", vec![number(offset), number(random.below(positions.max(1)) * scene.sector), number(64)]),
+            5 => ("Truncate", vec![number(scene.size)]),
+            _ => {
+                let equal = scene.bytes[offset as usize..offset as usize + 64].to_vec();
+                let other = contents(random, 64);
+                ("Write", vec![number(offset), [number(64), random.pick(&[equal, other])].concat()])
+            }
+        };
+        steps.push(Step { name: filled(name.as_bytes()), inputs, proof: proof && name.starts_with("Read") });
     }
     lay_out(random, scene.contract, &steps)
 }

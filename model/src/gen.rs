@@ -6,6 +6,7 @@ use crate::draft;
 use crate::head;
 use crate::host::{self, Host, LEAST_SECTOR, MOST_SECTOR, NONE};
 use crate::random::{seeded, Random};
+use crate::roots;
 use crate::tree;
 
 /// An input with the program that it is for.
@@ -204,11 +205,14 @@ struct Script<'a> {
     bytes: Vec<u8>,
     player: Player,
     pokes: bool,
+    /// Whether kept roots are written over (M-105).
+    wrong_roots: bool,
 }
 
 fn script(random: &mut Random) -> Vec<u8> {
     let pokes = random.chance(350);
-    let mut script = Script { random, bytes: vec![], player: calls::new_player(), pokes };
+    let wrong_roots = random.chance(150);
+    let mut script = Script { random, bytes: vec![], player: calls::new_player(), pokes, wrong_roots };
     if script.random.chance(10) {
         script.noise();
     }
@@ -226,6 +230,12 @@ fn script(random: &mut Random) -> Vec<u8> {
         script.hold_some();
         script.fill_some();
         for _ in 0..script.random.within(2, 6) {
+            if wrong_roots && script.random.chance(400) {
+                script.write_over_roots();
+            }
+            if wrong_roots && script.random.chance(60) {
+                script.write_what_is_kept();
+            }
             script.program();
             script.between_programs();
         }
@@ -253,7 +263,7 @@ fn damage_script(random: &mut Random, bytes: &mut Vec<u8>) {
 /// An item with a length above the area's, an index out of range, or a value that does not fit.
 fn malformed_item(random: &mut Random) -> Vec<u8> {
     let poke = |field, i, j, value| Item::Poke { field, i, j, value };
-    let item = match random.below(18) {
+    let item = match random.below(21) {
         0 => Item::Piece { disk: 262_145, stage: 0, input: 0, output: 0, piece: vec![] },
         1 => Item::Piece { disk: 0, stage: 65_537, input: 0, output: 0, piece: vec![] },
         2 => Item::Piece { disk: 0, stage: 0, input: 65_537, output: 0, piece: vec![] },
@@ -262,7 +272,7 @@ fn malformed_item(random: &mut Random) -> Vec<u8> {
         5 => Item::GiveUp { disk: 4096, stage: 65_537 },
         6 => Item::Agree { disk: 262_145, stage: 4096, size: 0, root: [0; 32] },
         7 => Item::Reached { disk: 4096, stage: 1 << 63 },
-        8 => poke(26, 0, 0, 0),
+        8 => poke(28, 0, 0, 0),
         9 => poke(24, 7, 0, 0),
         10 => poke(24, 0, 0, 65_536),
         11 => poke(5, 8, 0, 0),
@@ -271,7 +281,10 @@ fn malformed_item(random: &mut Random) -> Vec<u8> {
         14 => poke(random.pick(&[2, 6, 11, 23]), 0, 0, 2),
         15 => Item::Check { root: [0; 32], count: 1, first: 0, end: 1, data: 65, tail: vec![0; 64] },
         16 => Item::Check { root: [0; 32], count: 1, first: 0, end: 1, data: u64::MAX, tail: vec![0; 64] },
-        _ => poke(random.pick(&[3, 16, 19]), 0, 0, 256),
+        17 => poke(random.pick(&[26, 26, 27]), random.pick(&[64, 64, 16]), 0, 0),
+        18 => poke(random.pick(&[26, 27]), 0, 32, 0),
+        19 => random.pick(&[Item::Sound { disk: 262_145, stage: 4096 }, Item::Sound { disk: 4096, stage: 65_537 }]),
+        _ => poke(random.pick(&[3, 16, 19, 26, 27]), 0, 0, 256),
     };
     calls::item_bytes(&item)
 }
@@ -476,6 +489,11 @@ impl Script<'_> {
         (answered.tally, answered.root.unwrap())
     }
 
+    fn sound(&mut self, wrong_of_1000: u64) {
+        let [disk, stage, ..] = self.lengths(wrong_of_1000);
+        self.push(Item::Sound { disk, stage });
+    }
+
     fn give_up(&mut self) {
         let [disk, stage, ..] = self.lengths(40);
         self.push(Item::GiveUp { disk, stage });
@@ -502,9 +520,19 @@ impl Script<'_> {
         self.push(Item::Agree { disk, stage, size, root });
     }
 
+    /// Agreement to the pair that the bytes make, whatever roots are kept.
+    fn agree_by_bytes(&mut self) {
+        let [disk, stage, ..] = self.right_lengths();
+        let Player { host, disk: disk_area, stage: stage_area, .. } = &self.player;
+        if host.program.open && fits(host) {
+            let (size, root) = roots::worked_out(|| host.running_pair(disk_area, stage_area));
+            self.push(Item::Agree { disk, stage, size, root });
+        }
+    }
+
     /// A call that does not belong where it stands.
     fn noise(&mut self) {
-        match self.random.below(9) {
+        match self.random.below(10) {
             0 | 1 => {
                 let id = some_id(self.random);
                 self.push(Item::Form { id });
@@ -534,6 +562,7 @@ impl Script<'_> {
                 let [disk, stage, ..] = self.lengths(700);
                 self.push(Item::GiveUp { disk, stage });
             }
+            8 => self.sound(500),
             _ => {
                 let [disk, stage, ..] = self.lengths(800);
                 self.push(Item::Agree { disk, stage, size: 0, root: [0; 32] });
@@ -550,6 +579,12 @@ impl Script<'_> {
         }
         if self.random.chance(25) {
             self.check();
+        }
+        if self.random.chance(25) {
+            self.sound(100);
+        }
+        if self.wrong_roots && self.player.host.program.open && self.random.chance(200) {
+            self.write_over_roots();
         }
     }
 
@@ -594,7 +629,14 @@ impl Script<'_> {
         let contract = self.contract();
         let scene = draft::scene(&self.player.host, &self.player.disk, contract);
         let still = !scene.read_only && self.random.chance(80);
-        let (head, data) = if still { draft::still_program(self.random, &scene) } else { draft::program(self.random, &scene) };
+        let known = self.wrong_roots && scene.size > 0 && self.random.chance(500);
+        let (head, data) = if known {
+            draft::unsound_program(self.random, &scene)
+        } else if still {
+            draft::still_program(self.random, &scene)
+        } else {
+            draft::program(self.random, &scene)
+        };
         let head_bytes = draft::head_bytes(self.random, &head);
         if self.open(head_bytes, &data).answer != 0 && self.random.chance(850) {
             return;
@@ -615,6 +657,9 @@ impl Script<'_> {
         }
         self.sometimes();
         self.close();
+        if self.random.chance(if self.wrong_roots { 300 } else { 20 }) {
+            self.sound(20);
+        }
     }
 
     fn open(&mut self, head_bytes: Vec<u8>, data: &[u8]) -> Answered {
@@ -672,6 +717,7 @@ impl Script<'_> {
             return;
         }
         match self.random.weighted(&[80, 8, 7, 5]) {
+            0 if self.wrong_roots && self.random.chance(250) => self.agree_by_bytes(),
             0 => self.agree(0),
             1 => self.agree(1000),
             2 => self.give_up(),
@@ -725,6 +771,83 @@ impl Script<'_> {
         if self.random.chance(if usable { 300 } else { 930 }) {
             for item in put_back.into_iter().rev() {
                 self.push(item);
+            }
+        }
+    }
+
+    /// Writes over a byte of a kept root, or all of it, of a slot that a position has or of another one; asks whether the host is sound;
+    /// now and then puts back what stood there, and asks again.
+    fn write_over_roots(&mut self) {
+        let host = &self.player.host;
+        if !host.in_order() || !fits(host) {
+            return;
+        }
+        let positions = |size: u64| (size / host.sector) as usize;
+        let held = host.places.iter().filter(|place| place.held);
+        let used: Vec<u8> = held.flat_map(|place| place.slots[..positions(place.size)].to_vec()).collect();
+        let staged: Vec<u8> = host.program.staged.iter().copied().filter(|&slot| host.program.open && slot != NONE).collect();
+        let random = &mut *self.random;
+        let of_stage = random.chance(if !staged.is_empty() { 600 } else { 100 });
+        let slots = if of_stage { &staged } else { &used };
+        let most = if of_stage { 16 } else { 64 };
+        let slot = if slots.is_empty() || random.chance(150) { random.below(most) } else { random.pick(slots) as u64 };
+        let (field, kept) = if of_stage { (27, host.stage_roots[slot as usize]) } else { (26, host.disk_roots[slot as usize]) };
+        let root = self.another_root(kept, &used);
+        self.keep(field, slot, root);
+        self.sound(60);
+        if self.random.chance(150) {
+            self.keep(field, slot, kept);
+            self.sound(0);
+        }
+    }
+
+    /// Pokes that make this the kept root of a slot, of disk (26) or stage (27).
+    fn keep(&mut self, field: u64, slot: u64, root: [u8; 32]) {
+        let kept = |host: &Host, j: usize| calls::peek(host, field, slot as usize, j);
+        for j in (0..32).filter(|&j| kept(&self.player.host, j) != root[j] as u64).collect::<Vec<usize>>() {
+            self.push(Item::Poke { field, i: slot, j: j as u64, value: root[j] as u64 });
+        }
+    }
+
+    /// Keeps the root of what the next program writes beside a sector of its parent, so that its bytes change and no kept root does.
+    fn write_what_is_kept(&mut self) {
+        let host = &self.player.host;
+        if !host.in_order() || !fits(host) || host.program.open {
+            return;
+        }
+        let filled: Vec<usize> = (0..8).filter(|&p| host.places[p].held && host.places[p].size > 0).collect();
+        if filled.is_empty() {
+            return;
+        }
+        let place = self.random.pick(&filled);
+        let scene = draft::scene(host, &self.player.disk, host.places[place].id);
+        let position = self.random.below(host.places[place].size / host.sector);
+        let slot = host.places[place].slots[position as usize];
+        let mut sector = host::sector(&self.player.disk, host.sector, slot).to_vec();
+        let (from, fill) = (self.random.below(host.sector - 64) as usize, self.random.next() as u8);
+        sector[from..from + 64].fill(fill);
+        self.keep(26, slot as u64, tree::root(&sector));
+        let (head, data) = draft::writing_program(self.random, &scene, position * scene.sector + from as u64, &[fill; 64]);
+        if self.open(head::encoded(&head), &data).answer == 0 {
+            self.send(&data);
+            self.close();
+        }
+        self.sound(0);
+    }
+
+    /// Another root than the kept one, or the same: a byte that differs, mostly; now and then the root of another sector or of zeros, or
+    /// zeros.
+    fn another_root(&mut self, kept: [u8; 32], used: &[u8]) -> [u8; 32] {
+        let (host, random) = (&self.player.host, &mut *self.random);
+        match random.weighted(&[80, 14, 3, 3]) {
+            1 if !used.is_empty() => host.disk_roots[random.pick(used) as usize],
+            2 => tree::zeros_root(host.sector),
+            3 => [0; 32],
+            _ => {
+                let mut root = kept;
+                let j = if random.chance(500) { 31 } else { random.below(32) as usize };
+                root[j] = random.pick(&[root[j] ^ 1, root[j] ^ 0x80, 0, 255]);
+                root
             }
         }
     }
@@ -787,9 +910,10 @@ impl Script<'_> {
         if !self.player.host.in_order() {
             return self.refused_call();
         }
-        match self.random.below(4) {
+        match self.random.below(5) {
             0 => drop(self.piece(&[], 0)),
             1 => self.noise(),
+            2 => self.sound(40),
             _ => drop(self.reached()),
         }
     }
@@ -797,12 +921,13 @@ impl Script<'_> {
     /// Any call: the host is not in order, so it is refused.
     fn refused_call(&mut self) {
         let [disk, stage, ..] = self.right_lengths();
-        match self.random.below(8) {
+        match self.random.below(9) {
             0 => drop(self.push(Item::Agree { disk, stage, size: 0, root: [0; 32] })),
             1 => drop(self.push(Item::GiveUp { disk, stage })),
             2 => drop(self.piece(&[1, 2, 3], 0)),
             3 => self.interrupt(),
             4 => drop(self.reached()),
+            5 => self.sound(40),
             _ => self.noise(),
         }
     }
@@ -827,7 +952,7 @@ impl Script<'_> {
         let host = self.player.host.clone();
         let program = &host.program;
         let random = &mut *self.random;
-        let field = if program.open { random.below(26) } else { random.pick(&[0, 1, 2, 2, 3, 3, 4, 4, 5, 5, 6, 25]) };
+        let field = if program.open { random.below(28) } else { random.pick(&[0, 1, 2, 2, 3, 3, 4, 4, 5, 5, 6, 25, 26, 27]) };
         let anywhere = random.chance(150);
         let i = match field {
             2..=5 => random.below(if anywhere { 8 } else { 3 }),
@@ -835,6 +960,8 @@ impl Script<'_> {
             16 => random.pick(&[0, 8, 31]),
             19..=23 => random.below(if anywhere { 32 } else { program.head.count.clamp(1, 32) }),
             24 => random.below(7),
+            26 => random.below(if anywhere { 64 } else { slots_used(&host).min(64) }),
+            27 => random.below(if anywhere { 16 } else { 4 }),
             _ => 0,
         };
         let j = match field {
@@ -842,6 +969,7 @@ impl Script<'_> {
             5 => random.below(4),
             19 => random.below(16),
             21 | 22 => random.below(4),
+            26 | 27 => random.below(32),
             _ => 0,
         };
         if field == 3 && random.chance(500) {
@@ -921,6 +1049,7 @@ fn poke_value(random: &mut Random, host: &Host, field: u64, now: u64) -> u64 {
         21 => vec![0, 8, now.wrapping_add(1), declared, declared.wrapping_add(1), u64::MAX],
         22 => vec![0, 8, 32, now.wrapping_add(1), declared, u64::MAX],
         24 => vec![0, 1, 65_535],
+        26 | 27 => vec![0, 255, now ^ 1, now ^ 0x80],
         25 => vec![0, 1, z / 2, z * 2, z * 4, z + 1, LEAST_SECTOR, MOST_SECTOR, some_bad_size(random)],
         _ => vec![0],
     };

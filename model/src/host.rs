@@ -1,6 +1,7 @@
 //! "Host, areas, numbers": the host's record, fresh, form, drop, and whether it is in order.
 
 use crate::head::{self, Head};
+use crate::tree;
 
 /// M-103: "any power of two from 4,096 to 4,194,304"
 pub const LEAST_SECTOR: u64 = 4_096;
@@ -49,6 +50,10 @@ pub struct Host {
     /// "At most 8 contracts"
     pub places: [Place; 8],
     pub program: Program,
+    /// M-105: "Keep a root beside each sector, disk and stage": "a root for each of the 64 disk slots and each of the 16 stage slots",
+    /// those of slots that no position has among them.
+    pub disk_roots: [tree::Hash; MOST_DISK as usize],
+    pub stage_roots: [tree::Hash; MOST_STAGE as usize],
 }
 
 /// "A fresh place, a dropped place and a closed program are all zeros again" (decision 18).
@@ -72,13 +77,22 @@ pub fn closed_program() -> Program {
 }
 
 /// "A fresh host holds no contract and no open program." "Making a host with bad lengths answers 2 and a host with no slots"; M-103: "any
-/// power of two from 4,096 to 4,194,304, else 2". A host that was refused has sector size 0, as it has no slots.
+/// power of two from 4,096 to 4,194,304, else 2". A host that was refused has sector size 0, as it has no slots. M-105: kept roots are
+/// "zeros when made".
 pub fn fresh(sector: u64, disk_length: u64, stage_length: u64) -> (u64, Host) {
     let good =
         size_taken(sector) && whole_sectors(sector, disk_length, MOST_DISK) && whole_sectors(sector, stage_length, MOST_STAGE);
     let (sector, disk_sectors, stage_sectors) =
         if good { (sector, disk_length / sector, stage_length / sector) } else { (0, 0, 0) };
-    let host = Host { sector, disk_sectors, stage_sectors, places: [EMPTY_PLACE; 8], program: closed_program() };
+    let host = Host {
+        sector,
+        disk_sectors,
+        stage_sectors,
+        places: [EMPTY_PLACE; 8],
+        program: closed_program(),
+        disk_roots: [[0; 32]; 64],
+        stage_roots: [[0; 32]; 16],
+    };
     (if good { 0 } else { 2 }, host)
 }
 
@@ -296,11 +310,10 @@ impl Host {
         sector(disk, self.sector, self.places[place].slots[position as usize])
     }
 
-    /// All bytes of a contract as committed.
-    pub fn committed_bytes(&self, disk: &[u8], place: usize) -> Vec<u8> {
+    /// The sectors of a contract as committed, by position.
+    pub fn committed_sectors<'a>(&self, disk: &'a [u8], place: usize) -> Vec<&'a [u8]> {
         let positions = self.places[place].size / self.sector;
-        let sectors: Vec<&[u8]> = (0..positions).map(|position| self.committed_sector(disk, place, position)).collect();
-        sectors.concat()
+        (0..positions).map(|position| self.committed_sector(disk, place, position)).collect()
     }
 
     /// "The parent is read from the stage where it has a copy, else from the disk".
@@ -311,11 +324,10 @@ impl Host {
         }
     }
 
-    /// All bytes of the parent as the program sees them; none in read-only mode.
-    pub fn running_bytes(&self, disk: &[u8], stage: &[u8]) -> Vec<u8> {
+    /// The sectors of the parent as the program sees it, by position; none in read-only mode.
+    pub fn running_sectors<'a>(&self, disk: &'a [u8], stage: &'a [u8]) -> Vec<&'a [u8]> {
         let positions = self.program.running / self.sector;
-        let sectors: Vec<&[u8]> = (0..positions).map(|position| self.running_sector(disk, stage, position)).collect();
-        sectors.concat()
+        (0..positions).map(|position| self.running_sector(disk, stage, position)).collect()
     }
 }
 

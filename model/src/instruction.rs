@@ -3,6 +3,7 @@
 use crate::coverage;
 use crate::head::{filled, Instruction};
 use crate::host::*;
+use crate::roots;
 use crate::tree;
 
 /// "Read (contract, offset, length); ReadSector (root, offset, length); Write (offset, data); Copy (destination, source, size);
@@ -49,9 +50,10 @@ struct Shown {
     output: Vec<u8>,
 }
 
-/// Bytes to be read, and the tree that a proof of them walks.
-struct Source {
-    bytes: Vec<u8>,
+/// Sectors to be read, and their kept roots, which a proof of one of them walks: those of a contract, or the one that was looked up.
+struct Source<'a> {
+    sectors: Vec<&'a [u8]>,
+    roots: Vec<tree::Hash>,
 }
 
 fn next(host: &Host) -> Instruction {
@@ -123,8 +125,9 @@ fn inputs(name: Name, instruction: &Instruction, input: &[u8]) -> Result<Inputs,
 }
 
 /// 25: "contract or sector root not found". What a Read or ReadSector reads: the parent as it runs, "ReadSector, and Read of
-/// another contract, see committed sectors only; a root is found at the first match by contract place, then position."
-fn source(host: &Host, disk: &[u8], stage: &[u8], inputs: &Inputs) -> Result<Option<Source>, u64> {
+/// another contract, see committed sectors only; a root is found at the first match by contract place, then position." M-105: the
+/// look-up of ReadSector "follows from kept roots".
+fn source<'a>(host: &Host, disk: &'a [u8], stage: &'a [u8], inputs: &Inputs) -> Result<Option<Source<'a>>, u64> {
     match inputs {
         Inputs::Read { contract, .. } => {
             let place = host.find(contract).ok_or(25u64)?;
@@ -133,16 +136,19 @@ fn source(host: &Host, disk: &[u8], stage: &[u8], inputs: &Inputs) -> Result<Opt
             if !of_parent && padded(contract) {
                 coverage::event("padded id held: read by another program");
             }
-            let bytes = if of_parent { host.running_bytes(disk, stage) } else { host.committed_bytes(disk, place) };
-            Ok(Some(Source { bytes }))
+            Ok(Some(if of_parent {
+                Source { sectors: host.running_sectors(disk, stage), roots: host.running_roots() }
+            } else {
+                Source { sectors: host.committed_sectors(disk, place), roots: host.committed_roots(place) }
+            }))
         }
         Inputs::ReadSector { root, .. } => {
             for place in (0..8).filter(|&p| host.places[p].held) {
                 for position in 0..host.places[place].size / host.sector {
-                    let sector = host.committed_sector(disk, place, position);
-                    if tree::root(sector) == *root {
+                    if host.root_looked_up(disk, place, position) == *root {
                         note_sector_found(host, place, position);
-                        return Ok(Some(Source { bytes: sector.to_vec() }));
+                        let sector = host.committed_sector(disk, place, position);
+                        return Ok(Some(Source { sectors: vec![sector], roots: vec![*root] }));
                     }
                 }
             }
@@ -177,7 +183,7 @@ fn number_26(host: &Host, inputs: &Inputs, source: &Option<Source>) -> bool {
     let (z, running) = (host.sector, host.program.running);
     match inputs {
         Inputs::Read { offset, length, .. } | Inputs::ReadSector { offset, length, .. } => {
-            bad_span(z, *offset, *length, source.as_ref().unwrap().bytes.len() as u64)
+            bad_span(z, *offset, *length, source.as_ref().unwrap().sectors.len() as u64 * z)
         }
         Inputs::Write { offset, data } => bad_span(z, *offset, data.len() as u64, running),
         Inputs::Copy { destination, source, size } => {
@@ -247,16 +253,27 @@ fn number_41(host: &Host, inputs: &Inputs) -> bool {
 }
 
 /// Output bytes, and the proof if it is asked.
-fn shown(sector: u64, cost: u64, proof_asked: bool, inputs: &Inputs, source: Option<Source>) -> Shown {
+fn shown(z: u64, cost: u64, proof_asked: bool, inputs: &Inputs, source: Option<Source>) -> Shown {
     match (inputs, source) {
         (Inputs::Read { offset, length, .. } | Inputs::ReadSector { offset, length, .. }, Some(source)) => {
-            let end = offset + length;
-            let proof = if proof_asked { tree::proof(&source.bytes, offset / 64, end / 64) } else { vec![] };
-            note_proof(proof_asked, sector, &source, proof.len());
-            Shown { cost, proof, output: source.bytes[*offset as usize..end as usize].to_vec() }
+            let (position, from, end) = (offset / z, offset % z, offset % z + length);
+            let proof = if proof_asked { proof(&source, position, from / 64, end / 64) } else { vec![] };
+            note_proof(proof_asked, &source, proof.len());
+            Shown { cost, proof, output: source.sectors[position as usize][from as usize..end as usize].to_vec() }
         }
         _ => Shown { cost, proof: vec![], output: vec![] },
     }
+}
+
+/// "in the proof of a Read the roots of all sectors outside the range. Hashes inside the sector that is read are worked out from its bytes,
+/// and so is the whole proof of a ReadSector": that of the only sector.
+fn proof(source: &Source, position: u64, first: u64, end: u64) -> Vec<tree::Hash> {
+    let sector = source.sectors[position as usize];
+    if roots::are_worked_out() {
+        let before = position * sector.len() as u64 / 64;
+        return tree::proof(&source.sectors.concat(), before + first, before + end);
+    }
+    tree::proof_in(&source.roots, position, sector, first, end)
 }
 
 /// "Checks, first match wins"
@@ -379,8 +396,10 @@ fn write_span(host: &mut Host, disk: &[u8], stage: &mut [u8], offset: u64, bytes
     sector_mut(stage, host.sector, slot)[from..from + bytes.len()].copy_from_slice(bytes);
 }
 
-/// "The disk is untouched until commit."
+/// "The disk is untouched until commit." M-105: "an instruction that writes a sector (Write, Copy, Swap, also with equal bytes) sets the
+/// kept root of its stage slot to the root of the sector's bytes after the instruction".
 fn effect(host: &mut Host, disk: &[u8], stage: &mut [u8], inputs: &Inputs) {
+    let written = written_positions(host, inputs);
     match inputs {
         Inputs::Read { .. } | Inputs::ReadSector { .. } => {}
         Inputs::Write { offset, data } => write_span(host, disk, stage, *offset, data),
@@ -396,16 +415,21 @@ fn effect(host: &mut Host, disk: &[u8], stage: &mut [u8], inputs: &Inputs) {
             write_span(host, disk, stage, *second, &first_bytes);
             write_span(host, disk, stage, *first, &second_bytes);
         }
-        Inputs::Truncate { size } => resize(host, stage, *size),
+        Inputs::Truncate { size } => return resize(host, stage, *size),
+    }
+    for position in written {
+        roots::rehash(host, stage, position);
     }
 }
 
-/// "Growth stages zeros. Shrinking frees the dropped position's stage copy at once."
+/// "Growth stages zeros. Shrinking frees the dropped position's stage copy at once." M-105: "growth sets that of the new stage slot to the
+/// root of a sector of zeros".
 fn resize(host: &mut Host, stage: &mut [u8], size: u64) {
     let running = host.program.running;
     if size > running {
         let slot = lowest_free_stage_slot(host);
         sector_mut(stage, host.sector, slot).fill(0);
+        host.stage_roots[slot as usize] = tree::zeros_root(host.sector);
         host.program.staged[(running / host.sector) as usize] = slot;
     }
     if size < running {
@@ -414,9 +438,9 @@ fn resize(host: &mut Host, stage: &mut [u8], size: u64) {
     host.program.running = size;
 }
 
-fn note_proof(asked: bool, sector: u64, source: &Source, hashes: usize) {
+fn note_proof(asked: bool, source: &Source, hashes: usize) {
     if asked {
-        coverage::event(match (source.bytes.len() as u64 / sector, hashes) {
+        coverage::event(match (source.sectors.len(), hashes) {
             (1, 0) => "proof of all of one sector, no hashes",
             (1, _) => "proof in one sector",
             (2 | 4 | 8 | 16 | 32 | 64, _) => "proof in 2, 4, 8, 16, 32 or 64 sectors",

@@ -15,8 +15,10 @@ mod memo;
 mod mixes;
 mod program;
 mod random;
+mod roots;
 mod show;
 mod tree;
+mod unsound;
 
 use std::io::{Read, Write};
 

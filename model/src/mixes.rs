@@ -2,6 +2,7 @@
 //! name, from the same input and with the same line for an answer.
 
 use crate::blake2b::hash32;
+use crate::coverage;
 use crate::depot::SECTOR;
 use crate::head::Reader;
 use crate::host::{self, Host};
@@ -30,6 +31,7 @@ struct Offer {
 
 struct Visit<'a> {
     times: u64,
+    empty: u64,
     head: &'a [u8],
     data: &'a [u8],
 }
@@ -51,9 +53,25 @@ fn counted<'a>(reader: &mut Reader<'a>, most: u64) -> Option<&'a [u8]> {
 
 fn next<'a>(reader: &mut Reader<'a>) -> Option<Visit<'a>> {
     let times = reader.number().ok()?;
+    let empty = reader.number().ok()?;
     let head = counted(reader, MOST_HEAD)?;
     let data = counted(reader, MOST_DATA)?;
-    Some(Visit { times, head, data })
+    Some(Visit { times, empty, head, data })
+}
+
+/// Opens under the head, gives so many empty pieces as long as they are accepted, gives up. Where that is refused, the visit is too.
+fn idle(host: &mut Host, areas: &mut Areas, offer: &Offer, visit: &Visit) {
+    if visit.empty == 0 {
+        return;
+    }
+    host.open(host::MOST_OUTPUT, offer.budget, offer.prices, visit.head);
+    let input = &mut areas.input[..host.program.head.declared as usize];
+    for _ in 0..visit.empty {
+        if host.piece(&areas.disk, &mut areas.stage, input, &mut areas.output, &[]) != 0 {
+            break;
+        }
+    }
+    host.give_up(&areas.disk, &areas.stage);
 }
 
 /// Opens under the head, gives the data in one piece, agrees to the pair reached, or gives up after a failure. A refusal shows no records.
@@ -90,6 +108,7 @@ fn all(reader: &mut Reader, areas: &mut Areas, id: &[u8; 32], offer: &Offer, vis
     done(host.form(id))?;
     while let Some(visit) = next(reader) {
         for _ in 0..visit.times {
+            idle(&mut host, areas, offer, &visit);
             once(&mut host, areas, offer, &visit)?;
             *visits += 1;
         }
@@ -116,7 +135,8 @@ pub fn play(bytes: &[u8]) -> String {
         written: 0,
     };
     let mut visits = 0;
-    let refusal = match all(&mut reader, &mut areas, &id, &offer, &mut visits) {
+    // counting would be measured too
+    let refusal = match coverage::uncounted(|| all(&mut reader, &mut areas, &id, &offer, &mut visits)) {
         Ok(()) => String::new(),
         Err(number) => format!(" refused {number}"),
     };

@@ -57,7 +57,7 @@ impl Host {
     }
 
     /// "a call that lends them must lend the same lengths"
-    fn lent_as_made(&self, disk: &[u8], stage: &[u8]) -> bool {
+    pub fn lent_as_made(&self, disk: &[u8], stage: &[u8]) -> bool {
         disk.len() as u64 == self.disk_length() && stage.len() as u64 == self.stage_length()
     }
 
@@ -115,14 +115,14 @@ impl Host {
     /// The starting pair: the parent's committed size and root. "Read-only mode shows size 0 and root zeros."
     pub fn starting_pair(&self, disk: &[u8]) -> (u64, tree::Hash) {
         match self.parent() {
-            Some(place) => (self.places[place].size, tree::root(&self.committed_bytes(disk, place))),
+            Some(place) => (self.places[place].size, self.committed_contract_root(disk, place)),
             None => (0, [0; 32]),
         }
     }
 
     /// The pair of the parent as the program sees it; (0, zeros) in read-only mode.
     pub fn running_pair(&self, disk: &[u8], stage: &[u8]) -> (u64, tree::Hash) {
-        (self.program.running, tree::root(&self.running_bytes(disk, stage)))
+        (self.program.running, self.running_contract_root(disk, stage))
     }
 
     /// Decision 14: size and root that a program has reached, the starting pair after a failure. Checks 1, 2, 4.
@@ -194,7 +194,8 @@ impl Host {
     }
 
     /// "Commit: positions past the final size free their slots; kept positions keep theirs; new ones, ascending, take the lowest
-    /// free; staged sectors are copied there."
+    /// free; staged sectors are copied there." M-105: "commit copies the stage slot's kept root to that of the disk slot which the staged
+    /// sector is copied to (no hashing)".
     fn commit(&mut self, place: usize, disk: &mut [u8], stage: &[u8]) {
         let before = self.places[place].size / self.sector;
         let after = self.program.running / self.sector;
@@ -212,6 +213,7 @@ impl Host {
             if staged != NONE {
                 let slot = self.places[place].slots[position];
                 sector_mut(disk, self.sector, slot).copy_from_slice(sector(stage, self.sector, staged));
+                self.disk_roots[slot as usize] = self.stage_roots[staged as usize];
             }
         }
     }

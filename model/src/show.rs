@@ -62,6 +62,7 @@ pub fn item_text(item: &Item) -> String {
         Item::GiveUp { disk, stage } => format!("give up lent {disk}, {stage}"),
         Item::Agree { disk, stage, size, root } => format!("agree lent {disk}, {stage}; size {size}, root {}", hex(root)),
         Item::Reached { disk, stage } => format!("reached lent {disk}, {stage}"),
+        Item::Sound { disk, stage } => format!("sound lent {disk}, {stage}"),
         Item::Poke { field, i, j, value } => format!("poke field {field}, i {i}, j {j}, value {value}"),
         Item::Check { root, count, first, end, data, tail } => {
             let (bytes, hashes) = tail.split_at(*data as usize);
@@ -112,7 +113,7 @@ pub fn report_lines(bytes: &[u8], with_root: bool) -> Vec<String> {
 }
 
 fn fill_report_lines(reader: &mut Reader, with_root: bool, lines: &mut Vec<String>) -> Result<(), u64> {
-    for name in ["answer", "tally or size", "growth"] {
+    for name in ["answer", "tally, size or sound", "growth"] {
         lines.push(format!("{name} {}", reader.number()? as i64));
     }
     if with_root {
@@ -141,6 +142,9 @@ fn fill_report_lines(reader: &mut Reader, with_root: bool, lines: &mut Vec<Strin
     }
     for name in ["disk", "stage", "input", "output"] {
         lines.push(format!("{name} area {}", hex(reader.bytes(32)?)));
+    }
+    for name in ["disk", "stage"] {
+        lines.push(format!("kept roots of {name} slots {}", hex(reader.bytes(32)?)));
     }
     Ok(())
 }

@@ -58,6 +58,30 @@ pub fn root(bytes: &[u8]) -> Hash {
     part_root(bytes)
 }
 
+/// The root of a contract from the roots of its sectors. Each sector is as many segments, a power of two, so the left part is whole
+/// sectors too: as many as "the largest power of two below the count" of sectors.
+pub fn joined(roots: &[Hash]) -> Hash {
+    match roots {
+        [] => [0; 32],
+        [root] => *root,
+        _ => {
+            let (left, right) = roots.split_at(left_part(roots.len() as u64) as usize);
+            node(&joined(left), &joined(right))
+        }
+    }
+}
+
+/// "The root of a sector of zeros is worked out by doubling: one leaf and one node a level."
+pub fn zeros_root(sector: u64) -> Hash {
+    let mut root = leaf(&[0; SEGMENT]);
+    let mut length = SEGMENT as u64;
+    while length < sector {
+        root = node(&root, &root);
+        length *= 2;
+    }
+    root
+}
+
 /// "Proof: walk the tree from the top; outside the range give the part's root, wholly inside nothing, else left then right."
 /// The range is of segments, first to end (not with it).
 pub fn proof(bytes: &[u8], first: u64, end: u64) -> Vec<Hash> {
@@ -76,6 +100,28 @@ fn walk(bytes: &[u8], at: u64, first: u64, end: u64, hashes: &mut Vec<Hash>) {
         let (left, right) = bytes.split_at(part as usize * SEGMENT);
         walk(left, at, first, end, hashes);
         walk(right, at + part, first, end, hashes);
+    }
+}
+
+/// The same of segments of one sector of a contract, first to end within it, from the roots of the contract's sectors and the bytes of
+/// that one: a part that has none of its segments gives the root that its sectors' roots make.
+pub fn proof_in(roots: &[Hash], position: u64, sector: &[u8], first: u64, end: u64) -> Vec<Hash> {
+    let mut hashes = Vec::new();
+    walk_sectors(roots, 0, position, &mut hashes, &|hashes| walk(sector, 0, first, end, hashes));
+    hashes
+}
+
+fn walk_sectors(roots: &[Hash], at: u64, position: u64, hashes: &mut Vec<Hash>, inside: &dyn Fn(&mut Vec<Hash>)) {
+    let count = roots.len() as u64;
+    if at + count <= position || position < at {
+        hashes.push(joined(roots));
+    } else if count == 1 {
+        inside(hashes);
+    } else {
+        let part = left_part(count);
+        let (left, right) = roots.split_at(part as usize);
+        walk_sectors(left, at, position, hashes, inside);
+        walk_sectors(right, at + part, position, hashes, inside);
     }
 }
 

@@ -1,8 +1,9 @@
 // Visits to one contract, each done as often as the input says: what bench/run measures. A visit opens a program under a head, gives it its
-// data in one piece, and agrees to the pair that it reached, or gives up after a failure. Standard input holds the contract's id (32 bytes), the
-// budget and the seven prices (8 bytes each; a price above 65,535 counts as 65,535), and then visits: how often (8 bytes), the head and the
-// data, each after its length (8 bytes). One line is written: how many visits were done, the number of the first refusal if there was
-// one, and the digests of the disk and of the records of the last visit.
+// data in one piece, and agrees to the pair that it reached, or gives up after a failure. Where the input asks for empty pieces, a program under
+// the same head is opened first, given so many of them, and given up. Standard input holds the contract's id (32 bytes), the
+// budget and the seven prices (8 bytes each; a price above 65,535 counts as 65,535), and then visits: how often, how many empty pieces ahead
+// of each (8 bytes each), the head and the data, each after its length (8 bytes). One line is written: how many visits were done, the
+// number of the first refusal if there was one, and the digests of the disk and of the records of the last visit.
 ghost use Prim.Native.Nat.{_+_, _≤_};
 ghost use lib.ListN.{length};
 use host::Host;
@@ -84,6 +85,9 @@ fn next(course: Course, front: &[u8; 96], disk: &mut [u8], output: &mut [u8]) ->
     let Number::Is(times) = number() else {
         return stopped(course);
     };
+    let Number::Is(empty) = number() else {
+        return stopped(course);
+    };
     let mut head = io::buffer();
     let Number::Is(n) = counted(&mut head) else {
         return stopped(course);
@@ -100,6 +104,7 @@ fn next(course: Course, front: &[u8; 96], disk: &mut [u8], output: &mut [u8]) ->
         course,
         front,
         times,
+        empty,
         &head[0..h],
         &bytes[0..b],
         disk,
@@ -156,6 +161,7 @@ fn repeated(
     start: Course,
     front: &[u8; 96],
     times: u64,
+    empty: u64,
     head: &[u8],
     bytes: &[u8],
     disk: &mut [u8],
@@ -166,14 +172,97 @@ fn repeated(
     let mut course = start;
     let mut left = fewer(start.on, times);
     while 0 < left {
-        course = visit(course, front, head, bytes, disk, stage, input, output);
+        course = visit(
+            course,
+            front,
+            empty,
+            head,
+            bytes,
+            disk,
+            stage,
+            input,
+            output,
+        );
         left = fewer(course.on, left - 1);
     }
     course
 }
 
+// A program that is opened, given so many empty pieces, and given up; where it is refused, the visit is too.
+fn idle(
+    host: Host,
+    front: &[u8; 96],
+    empty: u64,
+    head: &[u8],
+    disk: &mut [u8],
+    stage: &mut [u8],
+    input: &mut [u8],
+    output: &mut [u8],
+) -> Host {
+    if empty == 0 {
+        return host;
+    }
+    let prices = prices_of(front);
+    let budget = area::load(front, 32);
+    let opened = opening::open(host, head, budget, prices, output.len() as u64);
+    let waiting = waited(opened.host, empty, &*disk, stage, input, output);
+    let done = closing::close(waiting, disk, &*stage, false, 0, [0u8; 32]);
+    done.host
+}
+
+// So many empty pieces, as long as they are accepted.
+fn waited(
+    start: Host,
+    empty: u64,
+    disk: &[u8],
+    stage: &mut [u8],
+    input: &mut [u8],
+    output: &mut [u8],
+) -> Host {
+    let program = start.program;
+    let terms = program.terms;
+    let head = terms.head;
+    let n = within(head.length, input.len());
+    let mut host = start;
+    let mut left = empty;
+    while 0 < left {
+        let taken = taking::piece(host, disk, stage, &mut input[0..n], output, b"");
+        host = taken.host;
+        left = fewer(taken.number == 0, left - 1);
+    }
+    host
+}
+
+// The empty pieces, and then the visit itself.
 fn visit(
     course: Course,
+    front: &[u8; 96],
+    empty: u64,
+    head: &[u8],
+    bytes: &[u8],
+    disk: &mut [u8],
+    stage: &mut [u8],
+    input: &mut [u8],
+    output: &mut [u8],
+) -> Course {
+    let start = course.host;
+    let host = idle(start, front, empty, head, disk, stage, input, output);
+    played(
+        host,
+        course.visits,
+        front,
+        head,
+        bytes,
+        disk,
+        stage,
+        input,
+        output,
+    )
+}
+
+fn played(
+    host: Host,
+    visits: u64,
     front: &[u8; 96],
     head: &[u8],
     bytes: &[u8],
@@ -182,7 +271,6 @@ fn visit(
     input: &mut [u8],
     output: &mut [u8],
 ) -> Course {
-    let host = course.host;
     let prices = prices_of(front);
     let budget = area::load(front, 32);
     let done = single::begin(
@@ -200,7 +288,7 @@ fn visit(
     Course {
         on: done.number == 0,
         number: done.number,
-        visits: more(course.visits, done.number),
+        visits: more(visits, done.number),
         written: done.written,
         host: after,
     }

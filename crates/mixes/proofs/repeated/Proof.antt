@@ -7,11 +7,11 @@ use Rattle.mixes.proofs.repeated.Statement.{statement}
 use Rattle.mixes.proofs.repeated.Tie as tie
 
 abbrev Inv-loop : tie.InvT-loop
-Inv-loop front times head bytes disk₀ stage₀ input₀ output₀ course₀ left₀ disk stage input output course left =
+Inv-loop front times empty head bytes disk₀ stage₀ input₀ output₀ course₀ left₀ disk stage input output course left =
     (length disk ≡ length disk₀) × (length stage ≡ length stage₀) × (length input ≡ length input₀) × (length output ≡ length output₀)
 
 abbrev μ-loop : tie.MeasureT-loop
-μ-loop front times head bytes disk₀ stage₀ input₀ output₀ course₀ left₀ disk stage input output course left =
+μ-loop front times empty head bytes disk₀ stage₀ input₀ output₀ course₀ left₀ disk stage input output course left =
     left
 
 fewer-requires : tie.Need-fewer-requires Inv-loop μ-loop
