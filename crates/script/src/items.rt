@@ -58,6 +58,7 @@ pub fn make(
         b'g' => give_up(item, host, disk, &*stage),
         b'a' => agree(item, host, disk, &*stage),
         b'r' => reached(item, host, &*disk, &*stage),
+        b's' => sound(item, host, &*disk, &*stage),
         b'x' => poke(item, host),
         b'k' => check(item, host),
         _ => malformed(host),
@@ -366,6 +367,28 @@ fn reached<'a>(item: &[u8], host: Host, disk: &'a [u8], stage: &'a [u8]) -> Made
         root,
         host,
     }
+}
+
+// Lent lengths of disk and stage: whether the host is sound, as a number.
+fn sound(item: &[u8], host: Host, disk: &[u8], stage: &[u8]) -> Made {
+    if item.len() < 17 {
+        return malformed(host);
+    }
+    let d = area::load(item, 1);
+    let s = area::load(item, 9);
+    if (disk.len() as u64) < d {
+        return malformed(host);
+    }
+    if (stage.len() as u64) < s {
+        return malformed(host);
+    }
+    let sectors = d as usize;
+    let copies = s as usize;
+    let asked = sounding::sound(host, &disk[0..sectors], &stage[0..copies]);
+    if asked.sound {
+        return answered(asked.number, 1, 0, host);
+    }
+    answered(asked.number, 0, 0, host)
 }
 
 // ---- the checker

@@ -12,7 +12,7 @@ pub fn fixed(kind: u8) -> usize
         b'f' | b'd' => 32,
         b'o' => 80,
         b'p' => 40,
-        b'i' | b'g' | b'r' => 16,
+        b'i' | b'g' | b'r' | b's' => 16,
         b'a' => 56,
         b'x' => 32,
         b'k' => 72,
