@@ -19,6 +19,7 @@ pub fn worked_out<Answer>(call: impl FnOnce() -> Answer) -> Answer {
     answer
 }
 
+/// Whether roots are worked out just now.
 pub fn are_worked_out() -> bool {
     WORKED_OUT.get()
 }
