@@ -276,8 +276,10 @@ module _ (disk : List ℕ) (h : Host) (stage : List ℕ) (sound : Declared h) (o
       parent = ap (pairOf z (sector 32 afterRoots [])) parent-is ∙ own-pair;
       sectors = ap (sectorsOf z after) parent-is ∙ own-sectors;
       others = λ other ne. (other-place other ne, (other-sectors other ne, other-pair other ne));
-      slots = λ n out. (filling-outside z stage staged (f .slots) n 0 (size / z) disk (λ j lo hi e q. out j (omega arith) e (slot-is j (omega arith) ∙ q)),
-      filling-outside 32 (h .stageroots) staged (f .slots) n 0 (size / z) (h .diskroots) (λ j lo hi e q. out j (omega arith) e (slot-is j (omega arith) ∙ q)));
+      slots = λ n out. (
+        filling-outside z stage staged (f .slots) n 0 (size / z) disk (λ j lo hi e q. out j (omega arith) e (slot-is j (omega arith) ∙ q)),
+        filling-outside 32 (h .stageroots) staged (f .slots) n 0 (size / z) (h .diskroots) (λ j lo hi e q. out j (omega arith) e (slot-is j (omega arith) ∙ q)),
+      );
       stage = refl;
       long = filling-length z stage staged (f .slots) 0 (size / z) disk;
       tally = refl;
@@ -326,8 +328,10 @@ module _ (disk : List ℕ) (h : Host) (stage : List ℕ) (sound : Declared h) (o
       record {
         parent = ap₂ (λ (r : List ℕ) (ps : List Place). pairOf z (sector 32 r []) (whose (h .program .terms .head .contract) ps)) same-roots same-places ∙ nobody-pair e;
         sectors = ap₂ (λ (d : List ℕ) (ps : List Place). sectorsOf z d (whose (h .program .terms .head .contract) ps)) same-disk same-places ∙ nobody-sectors e;
-        others = λ other ne. (ap (whose other) same-places,
-        (ap (λ (d : List ℕ). sectorsOf z d (whose other (h .places))) same-disk, ap (λ (r : List ℕ). pairOf z (sector 32 r []) (whose other (h .places))) same-roots));
+        others = λ other ne. (
+          ap (whose other) same-places,
+          (ap (λ (d : List ℕ). sectorsOf z d (whose other (h .places))) same-disk, ap (λ (r : List ℕ). pairOf z (sector 32 r []) (whose other (h .places))) same-roots),
+        );
         slots = λ n out. (ap (λ (d : List ℕ). part d (n * z) z) same-disk, ap (λ (r : List ℕ). part r (n * 32) 32) same-roots);
         stage = refl;
         long = ap length same-disk;

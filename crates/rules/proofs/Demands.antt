@@ -57,7 +57,6 @@ demands = record {
     ids = same-eq;
     equals = same-bytes;
     roots = found;
-
   };
   three = record { cut = cut; alike = alike };
   ids = short-ids;

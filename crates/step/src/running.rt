@@ -71,16 +71,7 @@ pub fn succeed<'a>(
         input,
         args.from as usize,
     );
-    rehashing::rehash(
-        sector,
-        op,
-        staged,
-        &*stage,
-        size,
-        first,
-        second,
-        stageroots,
-    );
+    rehashing::rehash(sector, op, staged, &*stage, size, first, second, stageroots);
     let after = advanced(progress, plan, staged);
     let root = pairs::running_root(z, diskroots, &*stageroots, parent, after);
     let at = progress.written as usize;

@@ -16,7 +16,7 @@ use Rattle.host.specs.Order.{inOrder}
 use Rattle.host.specs.Calls.{freshed}
 use Rattle.sia.specs.Decode.{decode}
 use Rattle.rules.specs.View.{areasRight}
-use Rattle.rules.specs.Calls.{begun, openedHead, opened, Pieced, pieced, accepted, inputRight, outputRight, piece}
+use Rattle.rules.specs.Calls.{begun, openedHead, opened, Pieced, pieced, accepted, inputRight, outputRight, pieceBy, piece}
 use Rattle.rules.proofs.Opening.{opens}
 use Rattle.single.specs.Single as Says
 use Rattle.single.specs.Single.{Ran, ran, idsIn, formedInTurn, ended, shown, given, run}
@@ -40,7 +40,7 @@ module _ (disk : List ℕ) (h : Host) (stage input output : List ℕ) where
 
   piece-long : (b c : List ℕ) → h .program .terms .head .length < length b → h .program .terms .head .length < length c
       → piece disk h stage input output b ≡ piece disk h stage input output c
-  unfolding piece
+  unfolding pieceBy
   piece-long b c f g =
       ap (λ (x : Pieced).
       pick (not (inOrder h)) (pieced 1 0 h stage input output)
