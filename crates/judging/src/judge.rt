@@ -8,12 +8,11 @@ use host::Terms;
 use inputs::Args;
 use inputs::above;
 use pricing::cost;
-use pricing::free_copies;
 use pricing::new_size;
 use pricing::output_count;
 use pricing::proof_count;
 use pricing::record_above;
-use pricing::wanted;
+use pricing::too_few;
 use sia::Op;
 ghost use mathlib.Core.Path.{_≡_};
 ghost use mathlib.Core.Bool.{true};
@@ -73,8 +72,7 @@ fn fitted(
     requires { ⌜ (asked ≡ true → Ranged z seen (args .first) (args .len)) ⌝ }
     ensures { λ r. ⌜ r ≡ Says.fitted z (setting sectors copies places terms [] []) p asked (sectorsOf seen) op (numbers args) cost ⌝ }
 {
-    let staged = p.staged;
-    if free_copies(copies, staged) < wanted(z, p, op, args) {
+    if too_few(z, copies, p, op, args) {
         return Weighed::refused(40);
     }
     let head = terms.head;

@@ -7,7 +7,7 @@ ghost use mathlib.Core.Path.{_≡_};
 ghost use mathlib.Core.Bool.{true};
 ghost use Prim.Native.Nat.{_≤_};
 ghost use lib.ListN.{getD};
-ghost use lib.Dec.{eqb};
+ghost use lib.Dec.{ltb, eqb};
 ghost use Rattle.area.specs.Pick.{pick};
 ghost use Rattle.area.specs.Slots.{Size};
 ghost use Rattle.sia.specs.declared.Op.the-variants.{Swap, Truncate};
@@ -29,7 +29,7 @@ fn free_at(staged: [u8; 64], x: u64) -> u64
 }
 
 // How many stage slots no position has.
-pub fn free_copies(copies: u64, staged: [u8; 64]) -> u64
+fn free_copies(copies: u64, staged: [u8; 64]) -> u64
     ensures { λ r. ⌜ r ≡ count (unused staged) 0 copies ⌝ }
 {
     let mut free: u64 = 0;
@@ -81,7 +81,7 @@ fn wanted_size(z: u64, p: Progress, args: Args) -> u64
 }
 
 // 40: how many stage slots an instruction needs.
-pub fn wanted(z: u64, p: Progress, op: Op, args: Args) -> u64
+fn wanted(z: u64, p: Progress, op: Op, args: Args) -> u64
     requires { ⌜ Size z ⌝ }
     ensures { λ r. ⌜ r ≡ Says.wanted z p op (numbers args) ⌝ }
 {
@@ -95,6 +95,19 @@ pub fn wanted(z: u64, p: Progress, op: Op, args: Args) -> u64
         Op::Truncate => wanted_size(z, p, args),
         Op::Unknown => 0,
     }
+}
+
+// 40: whether an instruction needs more stage slots than are free. For one that needs none they are not counted.
+pub fn too_few(z: u64, copies: u64, p: Progress, op: Op, args: Args) -> bool
+    requires { ⌜ Size z ⌝ }
+    ensures { λ r. ⌜ r ≡ ltb (count (unused (p .staged)) 0 copies) (Says.wanted z p op (numbers args)) ⌝ }
+{
+    let want = wanted(z, p, op, args);
+    if want == 0 {
+        return false;
+    }
+    let staged = p.staged;
+    free_copies(copies, staged) < want
 }
 
 // 41: the parent's size after the instruction.

@@ -6,7 +6,7 @@ use Prim.Native.Nat.{ℕ, _+_, _*_, _≤_}
 use native.Mathlib.Nat.{mul-le-mul}
 use native.Mathlib.Omega.{arith}
 use lib.Dec.{ltb}
-use borrow.Author.Tests.{ltb-false, lt-ltb, le-ltb}
+use borrow.Author.Tests.{ltb-false}
 use Rattle.area.proofs.Laws.Pick.{yes, no}
 use Rattle.host.specs.Places.{others}
 use Rattle.rules.specs.View.{freeCopies, setting}
@@ -21,14 +21,14 @@ use Rattle.judging.proofs.judge.fitted.Tie as tie
 -- ---- what the calls gave, in the definitions' words
 
 -- 40
-abbrev start-1 : tie.After-wanted → tie.Start
-start-1 c = c .before .before .before
+abbrev start-1 : tie.After-too-few → tie.Start
+start-1 c = c .before
 
-slots : (c : tie.After-wanted) → let a = start-1 c .args in
+slots : (c : tie.After-too-few) → let a = start-1 c .args in
     ltb (freeCopies (setting (a .sectors) (a .copies) (a .places) (a .terms) [] []) (a .p)) (wanted (a .z) (a .p) (a .op) (numbers (a .args)))
-    ≡ ltb (c .before .free-copies .result) (c .wanted .result)
+    ≡ c .too-few .result
 unfolding freeCopies
-slots c = ap₂ ltb (sym (c .before .free-copies .ensures)) (sym (c .wanted .ensures))
+slots c = sym (c .too-few .ensures)
 
 -- 41
 abbrev start-2 : tie.After-sizes-fit → tie.Start
@@ -67,18 +67,15 @@ short c u =
 
 -- ---- the needs
 
-free-copies-requires : tie.Need-free-copies-requires
-free-copies-requires c κs = search needs
-
-wanted-requires : tie.Need-wanted-requires
-wanted-requires c κs = search needs
+too-few-requires : tie.Need-too-few-requires
+too-few-requires c κs = search needs
 
 refused-requires : tie.Need-refused-requires
 refused-requires c κs = search needs
 
 returns : tie.Need-returns
 unfolding fitted
-returns c = yes _ _ _ (slots (c .before .before) ∙ lt-ltb _ _ (c .before .if1 .taken)) (c .refused .ensures)
+returns c = yes _ _ _ (slots (c .before .before) ∙ c .before .if1 .taken) (c .refused .ensures)
 
 new-size-requires : tie.Need-new-size-requires
 new-size-requires c κs = search needs
@@ -99,7 +96,7 @@ unfolding fitted
 returns-2 c =
     let at-sizes-fit = c .before .before in
     let at-if1 = at-sizes-fit .before .before .before .before in
-    no _ _ _ (slots (at-if1 .before) ∙ le-ltb _ _ (at-if1 .if1 .left))
+    no _ _ _ (slots (at-if1 .before) ∙ at-if1 .if1 .left)
     (yes _ _ _ (disk at-sizes-fit ∙ c .before .if2 .taken) (c .refused2 .ensures))
 
 proof-count-requires : tie.Need-proof-count-requires
@@ -121,7 +118,7 @@ returns-3 c =
     let at-if2 = at-record-above .before .before .before in
     let at-sizes-fit = at-if2 .before in
     let at-if1 = at-sizes-fit .before .before .before .before in
-    no _ _ _ (slots (at-if1 .before) ∙ le-ltb _ _ (at-if1 .if1 .left))
+    no _ _ _ (slots (at-if1 .before) ∙ at-if1 .if1 .left)
     (no _ _ _ (disk at-sizes-fit ∙ at-if2 .if2 .left) (yes _ _ _ (room at-record-above ∙ c .before .if3 .taken) (c .refused3 .ensures)))
 
 mul-count : tie.Need-mul-count
@@ -141,7 +138,7 @@ returns-4 c =
     let at-if2 = at-proof-count .before in
     let at-sizes-fit = at-if2 .before in
     let at-if1 = at-sizes-fit .before .before .before .before in
-    no _ _ _ (slots (at-if1 .before) ∙ le-ltb _ _ (at-if1 .if1 .left))
+    no _ _ _ (slots (at-if1 .before) ∙ at-if1 .if1 .left)
     (no _ _ _ (disk at-sizes-fit ∙ at-if2 .if2 .left)
     (no _ _ _ (room (c .before) ∙ c .if3 .left)
     (λ i. record {
@@ -156,5 +153,5 @@ pub fitted-spec : {M : Type 1} → statement M
 fitted-spec =
     tie.close
     (tie.spec
-    free-copies-requires wanted-requires refused-requires returns new-size-requires mul-sizes-fit sizes-fit-requires refused-requires-2 returns-2
+    too-few-requires refused-requires returns new-size-requires mul-sizes-fit sizes-fit-requires refused-requires-2 returns-2
     proof-count-requires output-count-requires record-above-requires refused-requires-3 returns-3 mul-count add-count add-count-2 returns-4)
