@@ -88,8 +88,7 @@ pub fn step<'a>(
         (turn progress (now (stage .entry)) (now (output .entry)) (now (stageroots .entry))) ⌝ }
 {
     let head = terms.head;
-    let list = head.instructions;
-    let i = list[progress.ran as usize];
+    let i = head.instructions[progress.ran as usize];
     taken(
         z,
         sectors,

@@ -20,8 +20,7 @@ fn ready(terms: Terms, k: u64, progress: Progress) -> bool
     if head.count <= progress.ran {
         return false;
     }
-    let list = head.instructions;
-    let i = list[progress.ran as usize];
+    let i = head.instructions[progress.ran as usize];
     inputs::need(head.length, i) <= k
 }
 

@@ -12,14 +12,14 @@ use borrow.Author.Needs.{needs}
 use Rattle.step.proofs.taking.step.Statement.{statement}
 use Rattle.step.proofs.taking.step.Tie as tie
 
-abbrev at-start : tie.After-list → tie.Start
-at-start c = c .before .before .before .before .before .before .before .before
+abbrev at-start : tie.After-head → tie.Start
+at-start c = c .before .before .before .before .before .before .before
 
 mul-i : tie.Need-mul-i
 mul-i c = let below = ran-below _ _ _ _ (at-start c .pre) in omega arith
 
-array-copy-out-i : tie.Need-array-copy-out-i
-array-copy-out-i c = ran-below _ _ _ _ (at-start c .pre)
+element-copy-out-i : tie.Need-element-copy-out-i
+element-copy-out-i c = ran-below _ _ _ _ (at-start c .pre)
 
 taken-requires : tie.Need-taken-requires
 taken-requires c κs = search needs
@@ -47,4 +47,4 @@ returns c =
 
 pub step-spec : {M : Type 1} → statement M
 step-spec =
-    tie.close (tie.spec mul-i array-copy-out-i taken-requires same-length same-length-2 same-length-3 returns)
+    tie.close (tie.spec mul-i element-copy-out-i taken-requires same-length same-length-2 same-length-3 returns)

@@ -26,8 +26,8 @@ returns-2 c = no _ _ _ (both-not-right _ _ (le-ltb _ _ (c .if2 .taken))) refl
 mul-i : tie.Need-mul-i
 mul-i c = search needs
 
-array-copy-out-i : tie.Need-array-copy-out-i
-array-copy-out-i c = search needs
+element-copy-out-i : tie.Need-element-copy-out-i
+element-copy-out-i c = search needs
 
 need-requires : tie.Need-need-requires
 need-requires c κs = search needs
@@ -35,10 +35,15 @@ need-requires c κs = search needs
 returns-3 : tie.Need-returns-3
 unfolding readyWith going
 returns-3 c =
-    let a = c .before .before .before .before .before .before .before .before .args in
-    let below = c .before .before .before .if2 .left in
-    yes _ _ _ (both-join _ _ (ap not (c .before .before .before .before .before .before .before .if1 .left)) (lt-ltb _ _ below))
-    (ap (λ (n : ℕ). leb n (a .k)) (c .need .ensures ∙ ap (need (a .terms .head .length)) (entry (a .terms .head .instructions) (a .progress .ran) _ noInstruction (omega (arith, known-terms (a .terms) _ (c .before .before .before .before .before .before .before .before .good .0) .1, c .before .before .before .before .before .before .before .before .pre)))))
+    let test = c .before .before in
+    let s = c .before .before .before .before .before .before in
+    let a = s .args in
+    let below = test .if2 .left in
+    let long = known-terms (a .terms) _ (s .good .0) .1 in
+    yes _ _ _ (both-join _ _ (ap not (c .before .before .before .before .before .if1 .left)) (lt-ltb _ _ below))
+    (ap (λ (n : ℕ). leb n (a .k))
+    (c .need .ensures ∙ ap (need (a .terms .head .length))
+    (entry (a .terms .head .instructions) (a .progress .ran) _ noInstruction (omega (arith, long, s .pre)))))
 
 pub ready-spec : {M : Type 1} → statement M
-ready-spec = tie.close (tie.spec returns returns-2 mul-i array-copy-out-i need-requires returns-3)
+ready-spec = tie.close (tie.spec returns returns-2 mul-i element-copy-out-i need-requires returns-3)
