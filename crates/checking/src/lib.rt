@@ -90,10 +90,10 @@ pub fn check(
     if bytes.len() != 64 * (end - first) {
         return false;
     }
-    if hashes.len() != 32 * walks::count(0, count, 64, first, end) {
+    if hashes.len() != 32 * walks::count(count, first, end) {
         return false;
     }
-    let built = rebuild(bytes, hashes, 0, count, 64, first, end, 0);
+    let built = rebuild(bytes, hashes, 0, count, walks::depth(count), first, end, 0);
     let rebuilt = built.root;
     agrees(root, &rebuilt)
 }

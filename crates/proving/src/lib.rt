@@ -19,11 +19,11 @@ pub fn prove(bytes: &[u8], first: usize, end: usize, out: &mut [u8]) -> Counted
         return Counted::refused();
     }
     let segments = bytes.len() / 64;
-    let count = walks::count(0, segments, 64, first, end);
+    let count = walks::count(segments, first, end);
     if out.len() / 32 < count {
         return Counted::refused();
     }
-    hashes::write(bytes, false, 0, segments, 64, first, end, out, 0);
+    hashes::write(bytes, false, segments, first, end, out, 0);
     Counted {
         answer: Answer::Done,
         count,

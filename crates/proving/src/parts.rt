@@ -14,9 +14,9 @@ pub fn count(roots: &[u8], at: usize, part: &[u8], first: usize, end: usize) -> 
     ensures { λ r. ⌜ length (proofIn (now (roots .entry)) at (now (part .entry)) first end) ≡ 32 * r ⌝ }
 {
     let parts = roots.len() / 32;
-    let left = walks::count(0, parts, 64, at, parts);
-    let own = walks::count(0, part.len() / 64, 64, first, end);
-    let right = walks::count(0, parts, 64, 0, at + 1);
+    let left = walks::count(parts, at, parts);
+    let own = walks::count(part.len() / 64, first, end);
+    let right = walks::count(parts, 0, at + 1);
     left + own + right
 }
 
@@ -27,7 +27,7 @@ pub fn write(roots: &[u8], at: usize, part: &[u8], first: usize, end: usize, out
     ensures { λ _. ⌜ now (out .exit) ≡ put (now (out .entry)) 0 (proofIn (now (roots .entry)) at (now (part .entry)) first end) ⌝ }
 {
     let parts = roots.len() / 32;
-    let own = hashes::write(roots, true, 0, parts, 64, at, parts, out, 0);
-    let right = hashes::write(part, false, 0, part.len() / 64, 64, first, end, out, own);
-    hashes::write(roots, true, 0, parts, 64, 0, at + 1, out, right);
+    let own = hashes::write(roots, true, parts, at, parts, out, 0);
+    let right = hashes::write(part, false, part.len() / 64, first, end, out, own);
+    hashes::write(roots, true, parts, 0, at + 1, out, right);
 }

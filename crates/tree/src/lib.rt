@@ -75,7 +75,7 @@ pub fn count(segments: usize, first: usize, end: usize) -> Counted
     ensures { λ r. ⌜ countGiven r ≡ counted segments first end ⌝ }
 {
     if asked::ranged(segments, first, end) {
-        let count = walks::count(0, segments, 64, first, end);
+        let count = walks::count(segments, first, end);
         return Counted {
             answer: Answer::Done,
             count,

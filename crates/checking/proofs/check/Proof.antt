@@ -14,6 +14,8 @@ use Rattle.area.proofs.Laws.Pick.{yes, no, both-join, both-not-left, both-not-r
 use Rattle.tree.specs.Walk.{hashes, count}
 use Rattle.tree.specs.Checker.{limit, rebuild, verdict}
 use Rattle.tree.proofs.Laws.Counts.{hashes-few}
+use Rattle.tree.proofs.Laws.Levels.{walked-deep, room-deep}
+use Rattle.tree.proofs.Laws.Built.{built-deep}
 use Rattle.tree.proofs.Laws.Answered.{ranged-tells, from-top}
 use Rattle.checking.proofs.check.Statement.{statement}
 use Rattle.checking.proofs.check.Tie as tie
@@ -50,9 +52,10 @@ returns-4 c =
     (yes _ _ _ (sym (c .before .before .ranged .ensures) ∙ not-false _ (c .before .if3 .left)) (no _ _ _ (ne-eqb _ _ (c .if4 .taken)) refl))
 
 count-requires : tie.Need-count-requires
-count-requires c κs = from-top _ (omega arith) (omega arith)
+count-requires c κs = omega arith
 
 mul-if5 : tie.Need-mul-if5
+unfolding count
 mul-if5 c =
     let a = c .before .before .before .before .before .before .before .before .before .args in
     omega (arith, c .count .ensures, hashes-few 64 0 (a .count) (a .first) (a .end) (omega arith) (omega arith))
@@ -66,12 +69,17 @@ returns-5 c =
     (yes _ _ _ (sym (c .before .before .before .before .ranged .ensures) ∙ not-false _ (c .before .before .before .if3 .left))
     (yes _ _ _ (eq-eqb _ _ (c .before .before .if4 .left)) (no _ _ _ (ne-eqb _ _ other) refl)))
 
+depth-requires : tie.Need-depth-requires
+depth-requires c κs = search needs
+
 rebuild-requires : tie.Need-rebuild-requires
+unfolding count
 rebuild-requires c κs =
+    let holds = c .depth .ensures in
     record {
-      walked = from-top _ (omega arith) (omega arith);
-      given = omega (arith, c .before .before .if4 .left);
-      enough = omega (arith, c .if5 .left, c .before .count .ensures);
+      walked = walked-deep (from-top _ (omega arith) (omega arith)) holds;
+      given = omega (arith, c .before .before .before .if4 .left);
+      enough = room-deep _ _ _ _ _ _ _ holds (omega (arith, c .before .if5 .left, c .before .before .count .ensures));
     }
 
 slice-aggregate-agrees : tie.Need-slice-aggregate-agrees
@@ -83,15 +91,17 @@ agrees-requires c κs = search needs
 returns-6 : tie.Need-returns-6
 unfolding verdict count rebuild
 returns-6 c =
-    let same-count = c .before .before .before .before .before in
+    let deep = c .before .before .before .before in
+    let same-count = deep .before .before in
     let a = same-count .before .before .before .before .before .before .before .before .before .args in
     let used : length (a .hashes .now) ≡ 32 * hashes 64 0 (a .count) (a .first) (a .end) =
-    omega (arith, c .before .before .before .before .if5 .left, same-count .count .ensures) in
+    omega (arith, deep .before .if5 .left, same-count .count .ensures) in
+    let built = built-deep _ _ _ _ _ _ _ _ (deep .depth .ensures) (c .before .before .before .rebuild .ensures) in
     yes _ _ _ (limited _ (same-count .before .before .before .before .before .if1 .left) (same-count .before .before .before .before .if2 .left))
     (yes _ _ _ (sym (same-count .before .before .before .ranged .ensures) ∙ not-false _ (same-count .before .before .if3 .left))
     (yes _ _ _ (eq-eqb _ _ (same-count .before .if4 .left))
     (yes _ _ _ (eq-eqb _ _ used)
-    (c .agrees .ensures ∙ ap (λ (l : List ℕ). same (a .root .now) l) (c .before .before .before .rebuild .ensures .1)))))
+    (c .agrees .ensures ∙ ap (λ (l : List ℕ). same (a .root .now) l) (built .1)))))
 
 pub check-spec : {M : Type 1} → statement M
 check-spec =
@@ -107,6 +117,7 @@ check-spec =
     count-requires
     mul-if5
     returns-5
+    depth-requires
     rebuild-requires
     slice-aggregate-agrees
     agrees-requires

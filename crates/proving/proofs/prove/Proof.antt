@@ -4,6 +4,7 @@ use mathlib.Core.Path.{sym, _∙_}
 use native.Mathlib.Omega.{arith}
 use borrow.Author.Needs.{needs}
 use borrow.Author.Tests.{not-true, not-false}
+use Rattle.tree.specs.Walk.{count}
 use Rattle.tree.specs.Answers.{proved}
 use Rattle.tree.proofs.Laws.Leaves.{segments-cover}
 use Rattle.tree.proofs.Laws.Answered.{provable-tells, from-top, proof-long, proof-put, not-asked, no-room, all-laid}
@@ -23,13 +24,13 @@ returns c = not-asked _ _ _ (sym (c .before .before .provable .ensures) ∙ not-
 count-requires : tie.Need-count-requires
 count-requires c κs =
     let p = provable-tells _ _ _ (sym (c .before .provable .ensures) ∙ not-false _ (c .if1 .left)) in
-    from-top _ (omega arith) (omega arith)
+    omega arith
 
 refused-requires-2 : tie.Need-refused-requires-2
 refused-requires-2 c κs = search needs
 
 returns-2 : tie.Need-returns-2
-unfolding proved
+unfolding proved count
 returns-2 c =
     let p = provable-tells _ _ _ (sym (c .before .before .before .before .provable .ensures) ∙ not-false _ (c .before .before .before .if1 .left)) in
     let a = c .before .before .before .before .before .before .before .args in
@@ -37,6 +38,7 @@ returns-2 c =
     no-room _ _ _ (omega (arith, long, c .before .before .count .ensures, c .before .if2 .taken)) (c .refused2 .ensures)
 
 write-requires : tie.Need-write-requires
+unfolding count
 write-requires c κs =
     let p = provable-tells _ _ _ (sym (c .before .before .before .before .provable .ensures) ∙ not-false _ (c .before .before .before .if1 .left)) in
     record {
@@ -49,7 +51,7 @@ same-length : tie.Need-same-length
 same-length c = search needs
 
 returns-3 : tie.Need-returns-3
-unfolding proved
+unfolding proved count
 returns-3 c =
     let a = c .before .before .before .before .before .before .before .before .before .before .args in
     let t = sym (c .before .before .before .before .before .before .before .provable .ensures) ∙ not-false _ (c .before .before .before .before .before .before .if1 .left) in

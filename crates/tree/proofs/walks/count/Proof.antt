@@ -1,0 +1,17 @@
+-- `walks::count` meets its contract: the hashes from the least depth that holds the leaves are those from depth 64. Assumes nothing.
+use native.Mathlib.Omega.{arith}
+use borrow.Author.Needs.{needs}
+use Rattle.tree.proofs.Laws.Counts.{count-deep}
+use Rattle.tree.proofs.Laws.Levels.{walked-deep}
+use Rattle.tree.proofs.Laws.Answered.{from-top}
+use Rattle.tree.proofs.walks.count.Statement.{statement}
+use Rattle.tree.proofs.walks.count.Tie as tie
+
+hashes-requires : tie.Need-hashes-requires
+hashes-requires c κs = walked-deep (from-top _ (c .before .pre) (omega arith)) (c .depth .ensures)
+
+returns : tie.Need-returns
+returns c = count-deep _ _ _ _ (c .before .depth .ensures) (c .hashes .ensures)
+
+pub count-spec : {M : Type 1} → statement M
+count-spec = tie.close (tie.spec (λ c κs. search needs) hashes-requires returns)
