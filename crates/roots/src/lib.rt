@@ -1,10 +1,11 @@
 // Roots and proofs of what is seen, from the roots kept beside its sectors. Only the sector that a range is in is hashed, for its proof.
 // These are inner functions: what they require, their callers prove.
 ghost use mathlib.Core.Path.{_≡_};
-ghost use Prim.Native.Nat.{_*_, _≤_};
+ghost use Prim.Native.Nat.{_*_, _≤_, _<_};
 ghost use lib.ListN.{length, take};
 ghost use Rattle.area.specs.Area.{put};
 ghost use Rattle.sia.specs.Encode.{joined};
+ghost use Rattle.rules.specs.View.{spotOf};
 ghost use Rattle.rules.specs.Roots.{keptRoot, contractRoot, rangeProof};
 ghost use Rattle.view.specs.Seen.{spotsOf, Lies, Known, Ranged};
 use view::Seen;
@@ -28,7 +29,22 @@ fn kept_roots<'a>(diskroots: &'a [u8], stageroots: &'a [u8], seen: Seen) -> [u8;
     roots
 }
 
-// The root of all that is seen; of nothing it is 32 zero bytes.
+// The root kept beside the first sector that is seen.
+fn first_root<'a>(diskroots: &'a [u8], stageroots: &'a [u8], seen: Seen) -> [u8; 32]
+    requires { ⌜ Known (now diskroots) (now stageroots) seen ⌝ }
+    requires { ⌜ 0 < seen .count ⌝ }
+    ensures { λ r. ⌜ r ≡ keptRoot (now (diskroots .entry)) (now (stageroots .entry)) (spotOf (seen .slots) (seen .staged) 0) ⌝ }
+{
+    let slots = seen.slots;
+    let staged = seen.staged;
+    let spot = view::spot_of(slots, staged, 0);
+    let kept = view::kept_root(diskroots, stageroots, spot);
+    let mut root = [0u8; 32];
+    area::copy_between(kept, 0, &mut root, 0, 32);
+    root
+}
+
+// The root of all that is seen; of nothing it is 32 zero bytes, and one sector's is its own.
 pub fn contract_root<'a>(diskroots: &'a [u8], stageroots: &'a [u8], seen: Seen) -> [u8; 32]
     requires { ⌜ Known (now diskroots) (now stageroots) seen ⌝ }
     ensures { λ r. ⌜ r ≡ contractRoot (keptRoot (now (diskroots .entry)) (now (stageroots .entry))) (spotsOf seen) ⌝ }
@@ -36,6 +52,9 @@ pub fn contract_root<'a>(diskroots: &'a [u8], stageroots: &'a [u8], seen: Seen) 
     let count = seen.count;
     if count == 0 {
         return [0u8; 32];
+    }
+    if count == 1 {
+        return first_root(diskroots, stageroots, seen);
     }
     let roots = kept_roots(diskroots, stageroots, seen);
     let rooted = tree::join(&roots[..32 * count]);

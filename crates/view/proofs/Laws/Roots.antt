@@ -1,25 +1,25 @@
 -- Roots of sectors, and the root and proofs of all that is seen, from the roots kept beside its sectors. Assumes nothing.
 use mathlib.Core.Path.{_≡_, refl, sym, ap, _∙_}
 use mathlib.Core.Bool.{true}
-use mathlib.Core.List.{List, [], _∷_}
+use mathlib.Core.List.{List, [], _∷_, append-nil}
 use Prim.Native.Nat.{ℕ, _+_, _*_, _/_, _%_, _^_, _≤_, _<_}
 use native.Mathlib.Nat.{mul-comm}
 use native.Mathlib.Omega.{arith}
 use lib.ListN.{length, getD}
-use Rattle.area.specs.Area.{zeros}
+use Rattle.area.specs.Area.{tab, zeros}
 use Rattle.area.specs.Slots.{Size}
 use Rattle.area.proofs.Laws.Tab.{length-tab, getD-tab}
 use Rattle.sia.specs.Encode.{joined}
 use Rattle.tree.specs.Tree.{root, join}
 use Rattle.tree.specs.Walk.{proof, proofIn}
-use Rattle.tree.proofs.Promise.{proofs}
+use Rattle.tree.proofs.Promise.{roots, proofs}
 use Rattle.rules.specs.View.{sector, spotOf}
 use Rattle.rules.specs.Roots.{sectorRoot, keptRoot, contractRoot, rangeProof}
 use Rattle.rules.proofs.Laws.Pieces.{length-pieces}
 use Rattle.rules.specs.declared.Spot.{Spot}
 use Rattle.view.specs.Seen.{spotsOf, lies, Known, Ranged}
 use Rattle.view.specs.declared.Seen.{Seen}
-use Rattle.view.proofs.Laws.Sectors.{sector-long}
+use Rattle.view.proofs.Laws.Sectors.{sector-long, seen-lies}
 
 -- ---- of a sector
 
@@ -92,6 +92,16 @@ module _ (diskroots stageroots : List ℕ) (v : Seen) (k : Known diskroots stage
       ∙ length-pieces (lies 32 diskroots stageroots) (keptRoot diskroots stageroots) 32 (kept-long diskroots stageroots) _ (k .spots)
       ∙ mul-comm (length (spotsOf v)) 32
       ∙ ap (λ (n : ℕ). 32 * n) (seen-count v)
+
+  -- the root of one sector is the root kept beside it
+  pub seen-alone : v .count ≡ 1
+      → keptRoot diskroots stageroots (spotOf (v .slots) (v .staged) 0) ≡ contractRoot (keptRoot diskroots stageroots) (spotsOf v)
+  unfolding spotsOf contractRoot joined tab
+  seen-alone e =
+      let f = keptRoot diskroots stageroots in
+      let first = spotOf (v .slots) (v .staged) 0 in
+      let long = kept-long diskroots stageroots first (seen-lies 32 diskroots stageroots v 0 (k .spots) (omega (arith, e)) refl) in
+      sym (ap (λ (n : ℕ). contractRoot f (tab 0 n (spotOf (v .slots) (v .staged)))) e ∙ ap join (append-nil (f first)) ∙ roots .one (f first) long)
 
   -- of one sector no root is looked at
   pub seen-one : (z : ℕ) (disk stage : List ℕ) (at n : ℕ) {b : List ℕ} → v .count ≡ 1 → at / z < v .count
