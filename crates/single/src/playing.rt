@@ -41,6 +41,18 @@ fn shown(number: u64, written: u64) -> u64
     written
 }
 
+// What a close leaves of a program that has written so many bytes of records.
+fn closed(done: Closing, written: u64) -> Outcome
+    ensures { λ r. ⌜ r ≡ record { number = done .number; written = Says.shown (done .number) written; host = done .host } ⌝ }
+{
+    let host = done.host;
+    Outcome {
+        number: done.number,
+        written: shown(done.number, written),
+        host,
+    }
+}
+
 // As much of a length as an area has.
 pub fn least(length: u64, room: usize) -> usize
     ensures { λ r. ⌜ r ≡ min length room ⌝ }
@@ -68,19 +80,13 @@ fn give(
     let head = terms.head;
     let n = least(head.length, input.len());
     let taken = taking::piece(host, &*disk, stage, &mut input[0..n], output, bytes);
-    let after = taken.host;
     if taken.number != 0 {
-        return refused(taken.number, after);
+        return refused(taken.number, taken.host);
     }
-    let running = after.program;
+    let running = taken.host.program;
     let progress = running.progress;
-    let done = finish(after, disk, &*stage);
-    let closed = done.host;
-    Outcome {
-        number: done.number,
-        written: shown(done.number, progress.written),
-        host: closed,
-    }
+    let done = finish(taken.host, disk, &*stage);
+    closed(done, progress.written)
 }
 
 // Opens a head, with the output area's length as output length, and plays it.
@@ -99,9 +105,8 @@ pub fn begin(
         begun host prices budget (now (head .entry)) (now (bytes .entry)) (now (disk .entry)) (now (stage .entry)) (now (input .entry)) (now (output .entry)) ⌝ }
 {
     let opened = opening::open(host, head, budget, prices, output.len() as u64);
-    let after = opened.host;
     if opened.number != 0 {
-        return refused(opened.number, after);
+        return refused(opened.number, opened.host);
     }
-    give(after, bytes, disk, stage, input, output)
+    give(opened.host, bytes, disk, stage, input, output)
 }

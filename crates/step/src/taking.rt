@@ -2,7 +2,6 @@
 ghost use mathlib.Core.Path.{_≡_};
 ghost use Rattle.rules.specs.View.{setting, turn};
 ghost use Rattle.rules.specs.Inputs.{inputsOf};
-ghost use Rattle.rules.specs.Run as Says;
 ghost use Rattle.rules.specs.Run.{stepped};
 ghost use Rattle.step.specs.Asks.{Steps};
 use crate::pairs;
@@ -13,7 +12,7 @@ use host::Terms;
 use sia::Instruction;
 
 // One instruction.
-fn taken<'a>(
+pub fn step<'a>(
     z: u64,
     sectors: u64,
     copies: u64,
@@ -60,45 +59,6 @@ fn taken<'a>(
         input,
         planned,
         i.proof,
-        progress,
-        stageroots,
-        stage,
-        output,
-    )
-}
-
-// The instruction whose turn it is.
-pub fn step<'a>(
-    z: u64,
-    sectors: u64,
-    copies: u64,
-    places: [Place; 8],
-    terms: Terms,
-    diskroots: &'a [u8],
-    disk: &'a [u8],
-    input: &[u8],
-    progress: Progress,
-    stageroots: &mut [u8],
-    stage: &mut [u8],
-    output: &mut [u8],
-) -> Progress
-    requires { ⌜ Steps z (setting sectors copies places terms (now disk) (now diskroots)) (turn progress (now stage) (now output) (now stageroots)) (now input) ⌝ }
-    ensures { λ r. ⌜ turn r (now (stage .exit)) (now (output .exit)) (now (stageroots .exit)) ≡
-        Says.step z (setting sectors copies places terms (now (disk .entry)) (now (diskroots .entry))) (now (input .entry))
-        (turn progress (now (stage .entry)) (now (output .entry)) (now (stageroots .entry))) ⌝ }
-{
-    let head = terms.head;
-    let i = head.instructions[progress.ran as usize];
-    taken(
-        z,
-        sectors,
-        copies,
-        places,
-        terms,
-        diskroots,
-        disk,
-        input,
-        i,
         progress,
         stageroots,
         stage,

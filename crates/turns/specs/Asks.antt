@@ -1,19 +1,12 @@
 -- What functions ask of their callers. z is the sector size. Assumes nothing.
 use mathlib.Core.Path.{_≡_}
-use mathlib.Core.Bool.{Bool, true}
+use mathlib.Core.Bool.{true}
 use mathlib.Core.List.{List}
 use Prim.Native.Nat.{ℕ, _*_}
-use lib.ListN.{length, getD}
-use lib.Dec.{leb}
-use Rattle.area.specs.Pick.{both}
+use lib.ListN.{length}
 use Rattle.host.specs.Order.{inOrder}
-use Rattle.sia.specs.Empty.{noInstruction}
 use Rattle.rules.specs.View.{kept, Setting, Turn, areasRight}
-use Rattle.rules.specs.Inputs.{need}
-use Rattle.rules.specs.Run.{going}
 use Rattle.rules.specs.Facts.{Solid, Good}
-use Rattle.host.specs.declared.Terms.{Terms}
-use Rattle.host.specs.declared.Progress.{Progress}
 use Rattle.host.specs.declared.Host.{Host}
 
 -- a host in order with an open program, and its areas as stated
@@ -32,7 +25,3 @@ pub record Runs (z : ℕ) (s : Setting) (t : Turn) (a : List ℕ) : Type 0 where
   pub way : s .way ≡ kept
   pub diskroots : length (s .roots) ≡ 2048
   pub stageroots : length (t .roots) ≡ 512
-
--- rules' `ready`, of terms and progress alone
-unfoldable pub readyWith : Terms → ℕ → Progress → Bool
-readyWith terms k p = both (going terms p) (leb (need (terms .head .length) (getD (terms .head .instructions) (p .ran) noInstruction)) k)

@@ -21,10 +21,7 @@ pub fn going(program: Program) -> bool
     ensures { λ r. ⌜ r ≡ Says.going (program .terms) (program .progress) ⌝ }
 {
     let progress = program.progress;
-    if progress.failed {
-        return false;
-    }
     let terms = program.terms;
     let head = terms.head;
-    progress.ran < head.count
+    running::goes_on(head.count, progress)
 }

@@ -1,27 +1,32 @@
 // Instructions in turn, while their need has come.
 ghost use mathlib.Core.Path.{_≡_};
-ghost use Prim.Native.Nat.{_≤_};
+ghost use mathlib.Core.Bool.{not};
+ghost use lib.Dec.{leb, ltb};
+ghost use Rattle.area.specs.Pick.{both};
 ghost use Rattle.rules.specs.View.{setting, turn};
+ghost use Rattle.rules.specs.Inputs.{need};
 ghost use Rattle.rules.specs.Run as Says;
-ghost use Rattle.turns.specs.Asks.{Runs, readyWith};
+ghost use Rattle.turns.specs.Asks.{Runs};
 use host::Place;
 use host::Progress;
 use host::Terms;
+use sia::Instruction;
 
-// Whether the instruction whose turn it is has its need, with k bytes come.
-fn ready(terms: Terms, k: u64, progress: Progress) -> bool
-    requires { ⌜ terms .head .count ≤ 32 ⌝ }
-    ensures { λ r. ⌜ r ≡ readyWith terms k progress ⌝ }
+// Whether a program of so many instructions has neither ended nor failed.
+pub fn goes_on(count: u64, progress: Progress) -> bool
+    ensures { λ r. ⌜ r ≡ both (not (progress .failed)) (ltb (progress .ran) count) ⌝ }
 {
     if progress.failed {
         return false;
     }
-    let head = terms.head;
-    if head.count <= progress.ran {
-        return false;
-    }
-    let i = head.instructions[progress.ran as usize];
-    inputs::need(head.length, i) <= k
+    progress.ran < count
+}
+
+// Whether the need of an instruction has come, with k bytes.
+fn ready(declared: u64, i: Instruction, k: u64) -> bool
+    ensures { λ r. ⌜ r ≡ leb (need declared i) k ⌝ }
+{
+    inputs::need(declared, i) <= k
 }
 
 // At most as many as the head has.
@@ -45,8 +50,13 @@ pub fn run<'a>(
         Says.run z (setting sectors copies places terms (now (disk .entry)) (now (diskroots .entry))) (now (input .entry)) k
         (turn start (now (stage .entry)) (now (output .entry)) (now (stageroots .entry))) ⌝ }
 {
+    let head = terms.head;
     let mut progress = start;
-    while ready(terms, k, progress) {
+    while goes_on(head.count, progress) {
+        let i = head.instructions[progress.ran as usize];
+        if !ready(head.length, i, k) {
+            return progress;
+        }
         progress = step::step(
             z,
             sectors,
@@ -56,6 +66,7 @@ pub fn run<'a>(
             diskroots,
             disk,
             input,
+            i,
             progress,
             stageroots,
             stage,

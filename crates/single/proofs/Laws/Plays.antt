@@ -64,16 +64,20 @@ module _ (h : Host) (bytes disk stage input output : List ℕ) {r : Answer} {st 
       ∙ halts (λ (x : Pieced). x .number) (λ (x : Pieced). ran (x .number) 0 (x .host) disk (x .stage) (x .input ++ drop (h .program .terms .head .length) input) (x .output)) _
       (p ∙ ap (λ (x : List ℕ). piece disk h stage x output bytes) l) w
 
-  pub given-closed : {c : Closing} {left : List ℕ} {n : ℕ} → r .number ≡ 0 → closeLeaves c left ≡ ended disk (r .host) st → n ≡ shown (c .number) (r .host .program .progress .written)
-      → ran (c .number) n (c .host) left st (inp ++ rest) out ≡ given h bytes disk stage input output
+  pub given-closed : {c : Closing} {left : List ℕ} {o : Outcome} → r .number ≡ 0 → closeLeaves c left ≡ ended disk (r .host) st
+      → o ≡ record { number = c .number; written = shown (c .number) (r .host .program .progress .written); host = c .host }
+      → leaves o left st (inp ++ rest) out ≡ given h bytes disk stage input output
   unfolding given
-  given-closed {c} {left} {n} w e q =
+  given-closed {c} {left} {o} w e q =
+      let written = r .host .program .progress .written in
       goes (λ (x : Pieced). x .number) _
       (λ (x : Pieced). let d = ended disk (x .host) (x .stage) in
-      ran (d .number) (shown (d .number) (x .host .program .progress .written)) (d .host) (d .disk) (x .stage) (x .input ++ drop (h .program .terms .head .length) input) (x .output))
+      ran (d .number) (shown (d .number) (x .host .program .progress .written)) (d .host) (d .disk) (x .stage)
+      (x .input ++ drop (h .program .terms .head .length) input) (x .output))
       (p ∙ ap (λ (x : List ℕ). piece disk h stage x output bytes) l) w
-      (ap₂ (λ (x : List ℕ) (m : ℕ). ran (c .number) m (c .host) left st (inp ++ x) out) b q
-      ∙ ap (λ (d : Closed). ran (d .number) (shown (d .number) (r .host .program .progress .written)) (d .host) (d .disk) st (inp ++ drop (h .program .terms .head .length) input) out) e)
+      (ap₂ (λ (x : Outcome) (y : List ℕ). leaves x left st (inp ++ y) out) q b
+      ∙ ap (λ (d : Closed). ran (d .number) (shown (d .number) written) (d .host) (d .disk) st
+      (inp ++ drop (h .program .terms .head .length) input) out) e)
 
 -- ---- opening
 

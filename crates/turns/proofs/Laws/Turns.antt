@@ -1,29 +1,63 @@
 -- Instructions in turn, one at a time: what a turn keeps, and how a run goes on or ends. Assumes nothing.
-use mathlib.Core.Path.{_≡_, refl, sym, _∙_, subst}
+use mathlib.Core.Path.{_≡_, sym, ap, _∙_, subst}
 use mathlib.Core.Bool.{true, false}
 use mathlib.Core.List.{List}
 use Prim.Native.Nat.{ℕ, zero, suc, _≤_, _<_}
 use native.Mathlib.Omega.{arith}
-use borrow.Author.Tests.{leb-true}
-use Rattle.area.proofs.Laws.Pick.{both-left, both-right, never}
+use lib.ListN.{length, getD}
+use lib.Dec.{leb}
+use borrow.Author.Tests.{leb-true, ltb-true}
+use Rattle.area.proofs.Laws.Pick.{both-join, both-left, both-right, both-not-left, both-not-right, never}
 use Rattle.sia.specs.Encode.{within}
+use Rattle.sia.specs.Empty.{noInstruction}
 use Rattle.host.specs.Order.{termsInOrder}
 use Rattle.rules.specs.View.{Setting, Turn}
-use Rattle.rules.specs.Inputs.{inputsOf}
-use Rattle.rules.specs.Run.{current, step, ready, runs, run}
+use Rattle.rules.specs.Inputs.{need, inputsOf}
+use Rattle.rules.specs.Run.{stepped, current, step, going, ready, runs, run}
 use Rattle.rules.proofs.Laws.Areas.{stepped-alike}
 use Rattle.rules.proofs.Laws.Kept.{stepped-good}
 use Rattle.rules.proofs.Laws.Steps.{runs-go, runs-stop, left, ready-going, step-left, none-left, runs-enough, left-most}
 use Rattle.step.specs.Asks.{Steps}
-use Rattle.turns.specs.Asks.{Runs, readyWith}
+use Rattle.step.proofs.Laws.Known.{entry}
+use Rattle.turns.specs.Asks.{Runs}
+use Rattle.sia.specs.declared.Instruction.{Instruction}
 
-pub ready-with : (s : Setting) (k : ℕ) (t : Turn) → readyWith (s .terms) k (t .progress) ≡ ready s k t
-unfolding readyWith ready current
-ready-with s k t = refl
+-- the instruction whose turn it is, by any default
+pub turn-is : (s : Setting) (t : Turn) (d : Instruction) → t .progress .ran < length (s .terms .head .instructions)
+    → getD (s .terms .head .instructions) (t .progress .ran) d ≡ current s t
+unfolding current
+turn-is s t d h = entry (s .terms .head .instructions) (t .progress .ran) d noInstruction h
 
-pub few-instructions : (z : ℕ) (s : Setting) (t : Turn) (a : List ℕ) → Runs z s t a → s .terms .head .count ≤ 32
+-- and one step of the run
+pub steps-turn : (z : ℕ) (s : Setting) (a : List ℕ) (t : Turn) {i : Instruction} {u : Turn} → i ≡ current s t
+    → u ≡ stepped z s i (inputsOf i a) t → u ≡ step z s a t
+unfolding step
+steps-turn z s a t e h = h ∙ ap (λ (j : Instruction). stepped z s j (inputsOf j a) t) e
+
+-- whether it is ready: the program goes on, and its need has come
+module _ (s : Setting) (k : ℕ) (t : Turn) where
+  pub goes : {i : Instruction} → i ≡ current s t → going (s .terms) (t .progress) ≡ true → leb (need (s .terms .head .length) i) k ≡ true
+      → ready s k t ≡ true
+  unfolding ready
+  goes e g h = both-join _ _ g (ap (λ (j : Instruction). leb (need (s .terms .head .length) j) k) (sym e) ∙ h)
+
+  pub waits : {i : Instruction} → i ≡ current s t → leb (need (s .terms .head .length) i) k ≡ false → ready s k t ≡ false
+  unfolding ready
+  waits e h = both-not-right _ _ (ap (λ (j : Instruction). leb (need (s .terms .head .length) j) k) (sym e) ∙ h)
+
+  pub ends : going (s .terms) (t .progress) ≡ false → ready s k t ≡ false
+  unfolding ready
+  ends g = both-not-left _ _ g
+
+few-instructions : (z : ℕ) (s : Setting) (t : Turn) (a : List ℕ) → Runs z s t a → s .terms .head .count ≤ 32
 unfolding termsInOrder within
 few-instructions z s t a r = leb-true _ _ (both-left _ _ (both-left _ _ (both-right _ _ (r .good .terms))))
+
+pub few-ran : (z : ℕ) (s : Setting) (t : Turn) (a : List ℕ) → Runs z s t a → going (s .terms) (t .progress) ≡ true → t .progress .ran < 32
+unfolding going
+few-ran z s t a r g =
+    let below : t .progress .ran < s .terms .head .count = ltb-true _ _ (both-right _ _ g) in
+    omega (arith, few-instructions z s t a r)
 
 module _ (z : ℕ) (s : Setting) (a : List ℕ) (k : ℕ) where
   -- a turn that is ready is the run's first
