@@ -117,21 +117,22 @@ pub fn fill(a: &mut [u8], at: usize, n: usize, b: u8)
     }
 }
 
-// Whether two byte strings are the same, all bytes of both. It takes any two.
+// Whether two byte strings are the same, all bytes of both. It takes any two. No byte ends the loop, so that many can be compared at once.
 pub fn same(a: &[u8], b: &[u8]) -> bool
     ensures { λ r. ⌜ r ≡ Says.same (now (a .entry)) (now (b .entry)) ⌝ }
 {
     if a.len() != b.len() {
         return false;
     }
+    let mut all = true;
     let mut i = 0;
     while i < a.len() {
         if a[i] != b[i] {
-            return false;
+            all = false;
         }
         i += 1;
     }
-    true
+    all
 }
 
 // The number that the 8 bytes of b from `at` on are.

@@ -4,7 +4,7 @@ use crate::Place;
 ghost use mathlib.Core.Path.{_≡_};
 ghost use mathlib.Core.List.{_++_};
 ghost use Prim.Native.Nat.{_+_, _/_, _≤_, _<_, min};
-ghost use lib.ListN.{take};
+ghost use lib.ListN.{length, take};
 ghost use lib.Seq.{slice};
 ghost use lib.Dec.{ltb, eqb};
 ghost use Rattle.sia.specs.Encode.{every};
@@ -36,26 +36,24 @@ pub fn sectors(z: u64, size: u64) -> usize
     64
 }
 
-// The slots of a place, behind those that are listed.
-fn with_slots(z: u64, s: Slots, p: Place) -> Slots
+// The slots of a place, laid behind the first `count` items; how many items are listed then.
+fn with_slots(z: u64, count: usize, p: Place, items: &mut [u8]) -> usize
     requires { ⌜ 0 < z ⌝ }
-    requires { ⌜ s .count ≤ 448 ⌝ }
-    ensures { λ r. ⌜ (listed r ≡ listed s ++ committed z p) × (r .count ≤ s .count + 64) ⌝ }
+    requires { ⌜ count + 64 ≤ length (now items) ⌝ }
+    ensures { λ r. ⌜ (take r (now (items .exit)) ≡ take count (now (items .entry)) ++ committed z p) × (r ≤ count + 64)
+        × (length (now (items .exit)) ≡ length (now (items .entry))) ⌝ }
 {
     if !p.held {
-        return s;
+        return count;
     }
-    let mut items = s.items;
-    let mut count = s.count;
     let slots = p.slots;
     let end = sectors(z, p.size);
     let mut i: usize = 0;
     while i < end {
-        items[count] = slots[i];
-        count += 1;
+        items[count + i] = slots[i];
         i += 1;
     }
-    Slots { count, items }
+    count + end
 }
 
 // The slots of all committed positions, place by place.
@@ -63,15 +61,15 @@ pub fn slots_taken(z: u64, places: [Place; 8]) -> Slots
     requires { ⌜ 0 < z ⌝ }
     ensures { λ r. ⌜ (listed r ≡ taken z places) × (r .count ≤ 512) ⌝ }
 {
-    let items = [0u8; 512];
-    let mut s = Slots { count: 0, items };
+    let mut items = [0u8; 512];
+    let mut count: usize = 0;
     let mut k: usize = 0;
     while k < Host::PLACES {
         let p = places[k];
-        s = with_slots(z, s, p);
+        count = with_slots(z, count, p, &mut items);
         k += 1;
     }
-    s
+    Slots { count, items }
 }
 
 // Whether x is among the items from `from` to `end`.

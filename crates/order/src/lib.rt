@@ -83,16 +83,20 @@ fn has_twin(places: [Place; 8], from: usize, p: Place) -> bool
     false
 }
 
+// Whether no two places hold contracts under one id. A place that holds none has no twin.
 fn no_twins(places: [Place; 8]) -> bool
     ensures { λ r. ⌜ r ≡ apart twins places ⌝ }
 {
     let mut i: usize = 0;
     while i < 8 {
         let p = places[i];
-        if has_twin(places, i + 1, p) {
+        i += 1;
+        if !p.held {
+            continue;
+        }
+        if has_twin(places, i, p) {
             return false;
         }
-        i += 1;
     }
     true
 }

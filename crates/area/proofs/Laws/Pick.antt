@@ -51,6 +51,11 @@ unfolding pick
 both-not-right true b q = q
 both-not-right false b q = refl
 
+pub both-last : (a b : Bool) → b ≡ true → both a b ≡ a
+unfolding pick
+both-last true b q = q
+both-last false b q = refl
+
 pub either-join : (a b : Bool) → a ≡ false → b ≡ false → either a b ≡ false
 either-join a b p q = skips a true b p ∙ q
 

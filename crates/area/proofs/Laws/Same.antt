@@ -10,7 +10,7 @@ use lib.Dec.{eqb}
 use borrow.Author.Tests.{eqb-true, eq-eqb, ne-eqb}
 use Rattle.area.specs.Pick.{both}
 use Rattle.area.specs.Area.{same}
-use Rattle.area.proofs.Laws.Pick.{picks, skips, both-join, both-left, both-right, never}
+use Rattle.area.proofs.Laws.Pick.{picks, skips, both-join, both-left, both-right, both-not-left, both-not-right, never}
 
 pub same-refl : (a : List ℕ) → same a a ≡ true
 unfolding same
@@ -48,13 +48,17 @@ begins : (a b : List ℕ) (i : ℕ) → i < length a → i < length b
 unfolding same
 begins a b i g h = rw (drop-cons a i 0 g, drop-cons b i 0 h)
 
-pub same-further : (a b : List ℕ) (i : ℕ) → i < length a → i < length b → getD a i 0 ≡ getD b i 0
-    → same (drop i a) (drop i b) ≡ same (drop (i + 1) a) (drop (i + 1) b)
-same-further a b i g h e =
-    begins a b i g h ∙ picks _ _ _ (eq-eqb _ _ e) ∙ ap (λ (n : ℕ). same (drop n a) (drop n b)) (sym (add-one i))
+-- two equal bytes: what was compared stays as it is; two others: it is not the same, and neither is the whole
+pub same-further : (a b : List ℕ) (i : ℕ) (all next : Bool) → i < length a → i < length b → getD a i 0 ≡ getD b i 0 → next ≡ all
+    → same a b ≡ both all (same (drop i a) (drop i b)) → same a b ≡ both next (same (drop (i + 1) a) (drop (i + 1) b))
+same-further a b i all next g h e n so =
+    so ∙ ap (both all) (begins a b i g h ∙ picks _ _ _ (eq-eqb _ _ e) ∙ ap (λ (k : ℕ). same (drop k a) (drop k b)) (sym (add-one i)))
+    ∙ ap (λ (t : Bool). both t (same (drop (i + 1) a) (drop (i + 1) b))) (sym n)
 
-pub same-not : (a b : List ℕ) (i : ℕ) → i < length a → i < length b → (getD a i 0 ≡ getD b i 0 → ⊥) → same (drop i a) (drop i b) ≡ false
-same-not a b i g h n = begins a b i g h ∙ skips _ _ _ (ne-eqb _ _ n)
+pub same-not : (a b : List ℕ) (i : ℕ) (all next : Bool) → i < length a → i < length b → (getD a i 0 ≡ getD b i 0 → ⊥) → next ≡ false
+    → same a b ≡ both all (same (drop i a) (drop i b)) → same a b ≡ both next (same (drop (i + 1) a) (drop (i + 1) b))
+same-not a b i all next g h e n so =
+    so ∙ both-not-right all _ (begins a b i g h ∙ skips _ _ _ (ne-eqb _ _ e)) ∙ sym (both-not-left next _ n)
 
 pub same-end : (a b : List ℕ) (i : ℕ) → length a ≤ i → length b ≤ i → same (drop i a) (drop i b) ≡ true
 unfolding same

@@ -1,35 +1,33 @@
--- `area::same` meets its contract. The loop's invariant: the answer is that of what is left to compare. Assumes nothing.
+-- `area::same` meets its contract. The loop's invariant: the answer is that of what was compared and of what is left. Assumes nothing.
 use mathlib.Core.Path.{_≡_, refl, sym, _∙_}
+use mathlib.Core.Logic.{⊎-elim}
 use Prim.Native.Nat.{_-_, _≤_}
 use native.Mathlib.Omega.{arith}
 use lib.ListN.{length, drop}
+use Rattle.area.specs.Pick.{both}
 use Rattle.area.specs.Area.{same}
+use Rattle.area.proofs.Laws.Pick.{yes, both-last}
 use Rattle.area.proofs.Laws.Same.{same-lengths, same-further, same-not, same-end}
 use Rattle.area.proofs.same.Statement.{statement}
 use Rattle.area.proofs.same.Tie as tie
 
 abbrev Inv-loop : tie.InvT-loop
-Inv-loop a b i₀ i = (i ≤ length a) × (length a ≡ length b) × (same a b ≡ same (drop i a) (drop i b))
+Inv-loop a b all₀ i₀ all i = (i ≤ length a) × (length a ≡ length b) × (same a b ≡ both all (same (drop i a) (drop i b)))
 
 abbrev μ-loop : tie.MeasureT-loop
-μ-loop a b i₀ i = length a - i
+μ-loop a b all₀ i₀ all i = length a - i
 
 returns : tie.Need-returns Inv-loop μ-loop
 returns c = same-lengths _ _ (c .if1 .taken)
 
 loop-holds : tie.Need-loop-holds Inv-loop μ-loop
-loop-holds c = (omega arith, c .if1 .left, refl)
+loop-holds c = (omega arith, c .if1 .left, yes _ _ _ refl refl)
 
 shared-slice-read-if2 : tie.Need-shared-slice-read-if2 Inv-loop μ-loop
 shared-slice-read-if2 c = omega arith
 
 shared-slice-read-if2-2 : tie.Need-shared-slice-read-if2-2 Inv-loop μ-loop
 shared-slice-read-if2-2 c = omega arith
-
-returns-2 : tie.Need-returns-2 Inv-loop μ-loop
-returns-2 c =
-    let l = c .before .before .before .before .loop in
-    sym (l .inv .2 ∙ same-not _ _ (l .i) (omega arith) (omega arith) (c .if2 .taken))
 
 add-i : tie.Need-add-i Inv-loop μ-loop
 add-i c = omega arith
@@ -39,13 +37,18 @@ loop-less c = omega arith
 
 loop-again : tie.Need-loop-again Inv-loop μ-loop
 loop-again c =
-    let l = c .before .before .before .before .loop in
-    (omega arith, l .inv .1, l .inv .2 ∙ same-further _ _ (l .i) (omega arith) (omega arith) (c .if2 .left))
+    let at-loop = c .before .before .before .before in
+    let l = at-loop .loop in (
+      omega arith,
+      l .inv .1,
+      ⊎-elim (λ w. same-not _ _ (l .i) _ _ (omega arith) (omega arith) (w .0 .taken) (w .1) (l .inv .2))
+          (λ w. same-further _ _ (l .i) _ _ (omega arith) (omega arith) (w .0 .left) (w .1) (l .inv .2)) (c .if2 .came),
+    )
 
-returns-3 : tie.Need-returns-3 Inv-loop μ-loop
-returns-3 c =
+returns-2 : tie.Need-returns-2 Inv-loop μ-loop
+returns-2 c =
     let l = c .before .loop in
-    sym (l .inv .2 ∙ same-end _ _ (l .i) (omega arith) (omega arith))
+    sym (l .inv .2 ∙ both-last (l .all) _ (same-end _ _ (l .i) (omega arith) (omega arith)))
 
 pub same-spec : {M : Type 1} → statement M
 same-spec =
@@ -57,8 +60,7 @@ same-spec =
     loop-holds
     shared-slice-read-if2
     shared-slice-read-if2-2
-    returns-2
     add-i
     loop-less
     loop-again
-    returns-3)
+    returns-2)

@@ -14,10 +14,10 @@ use Rattle.host.specs.declared.Place.{Place}
 use Rattle.host.proofs.Laws.Slices.{take-min}
 
 -- one entry more behind what is listed
-pub grown : (items l base : List ℕ) (count i : ℕ) {m n : ℕ} → length items ≡ m → length l ≡ n → count < m → i < n
-    → take count items ≡ base ++ take i l → take (count + 1) (set items count (getD l i 0)) ≡ base ++ take (i + 1) l
-grown items l base count i em en hc hi q =
-    rw (add-one count, add-one i, take-suc-set items count (getD l i 0) (omega arith), take-suc l i 0 (omega arith))
+pub grown : (items l base : List ℕ) (count i k : ℕ) {m n : ℕ} → length items ≡ m → length l ≡ n → count < m → i < n → k ≡ count + 1
+    → take count items ≡ base ++ take i l → take k (set items count (getD l i 0)) ≡ base ++ take (i + 1) l
+grown items l base count i k em en hc hi e q =
+    rw (e, add-one count, add-one i, take-suc-set items count (getD l i 0) (omega arith), take-suc l i 0 (omega arith))
     (ap (λ (x : List ℕ). x ++ (getD l i 0 ∷ [])) q ∙ append-assoc base (take i l) (getD l i 0 ∷ []))
 
 -- a place that is not held adds none

@@ -1,16 +1,27 @@
 -- `order::no_twins` meets its contract. The loop's invariant: the answer is that of the places that are left to look at.
 -- Assumes nothing.
-use mathlib.Core.Path.{_≡_, sym, ap, _∙_}
+use mathlib.Core.Path.{_≡_, refl, sym, ap, _∙_}
+use mathlib.Core.Bool.{false}
+use mathlib.Core.List.{List, [], _∷_}
 use Prim.Native.Nat.{_-_}
 use native.Mathlib.Omega.{arith}
 use lib.Seq.{slice}
-use Rattle.host.specs.Lists.{apart}
+use borrow.Author.Tests.{not-true}
+use Rattle.area.proofs.Laws.Pick.{both-not-left, either-join}
+use Rattle.host.specs.Lists.{some, apart}
 use Rattle.host.specs.Order.{twins}
+use Rattle.host.specs.declared.Place.{Place}
 use Rattle.host.proofs.Laws.Slices.{slice-all, apart-stops, apart-further, apart-done}
 use Rattle.host.proofs.Laws.Places.{blank}
 use borrow.Author.Needs.{needs}
 use Rattle.order.proofs.no_twins.Statement.{statement}
 use Rattle.order.proofs.no_twins.Tie as tie
+
+-- a place that holds no contract has no twin
+no-twin : (p : Place) (l : List Place) → p .held ≡ false → some (twins p) l ≡ false
+unfolding some twins
+no-twin p [] e = refl
+no-twin p (q ∷ l) e = either-join _ _ (both-not-left _ _ e) (no-twin p l e)
 
 abbrev Inv-loop : tie.InvT-loop
 Inv-loop places i₀ i = apart twins places ≡ apart twins (slice i 8 places)
@@ -21,35 +32,32 @@ abbrev μ-loop : tie.MeasureT-loop
 loop-holds : tie.Need-loop-holds Inv-loop μ-loop
 loop-holds c = ap (apart twins) (sym (slice-all (c .args .t1) (c .good .0 .1 .0 .1)))
 
-mul-p : tie.Need-mul-p Inv-loop μ-loop
-mul-p c = search needs
-
-array-copy-out-p : tie.Need-array-copy-out-p Inv-loop μ-loop
-array-copy-out-p c = search needs
-
-add-has-twin : tie.Need-add-has-twin Inv-loop μ-loop
-add-has-twin c = search needs
-
-has-twin-requires : tie.Need-has-twin-requires Inv-loop μ-loop
-has-twin-requires c κs = tt
+loop-again : tie.Need-loop-again Inv-loop μ-loop
+loop-again c =
+    let test = c .before .before .before in
+    let l = test .before .loop in
+    let s = test .before .before in
+    l .inv
+    ∙ apart-further twins (s .args .t1) (l .i) 8 blank (s .good .0 .1 .0 .1) (omega (arith, test .loop-test .taken)) (omega arith)
+    (no-twin _ _ (not-true _ (c .if1 .taken)))
 
 returns : tie.Need-returns Inv-loop μ-loop
 returns c =
-    let l = c .before .before .before .before .loop in
-    let s = c .before .before .before .before .before in
-    apart-stops twins (s .args .t1) (l .i) 8 blank (s .good .0 .1 .0 .1) (omega arith) (omega arith) (sym (c .before .has-twin .ensures) ∙ c .if1 .taken) ∙ sym (l .inv)
+    let test = c .before .before .before .before .before in
+    let l = test .before .loop in
+    let s = test .before .before in
+    apart-stops twins (s .args .t1) (l .i) 8 blank (s .good .0 .1 .0 .1) (omega (arith, test .loop-test .taken)) (omega arith)
+    (sym (c .before .has-twin .ensures) ∙ c .if2 .taken)
+    ∙ sym (l .inv)
 
-add-i : tie.Need-add-i Inv-loop μ-loop
-add-i c = search needs
-
-loop-less : tie.Need-loop-less Inv-loop μ-loop
-loop-less c = search needs
-
-loop-again : tie.Need-loop-again Inv-loop μ-loop
-loop-again c =
-    let l = c .before .before .before .before .loop in
-    let s = c .before .before .before .before .before in
-    l .inv ∙ apart-further twins (s .args .t1) (l .i) 8 blank (s .good .0 .1 .0 .1) (omega arith) (omega arith) (sym (c .before .has-twin .ensures) ∙ c .if1 .left)
+loop-again-2 : tie.Need-loop-again-2 Inv-loop μ-loop
+loop-again-2 c =
+    let test = c .before .before .before .before .before in
+    let l = test .before .loop in
+    let s = test .before .before in
+    l .inv
+    ∙ apart-further twins (s .args .t1) (l .i) 8 blank (s .good .0 .1 .0 .1) (omega (arith, test .loop-test .taken)) (omega arith)
+    (sym (c .before .has-twin .ensures) ∙ c .if2 .left)
 
 returns-2 : tie.Need-returns-2 Inv-loop μ-loop
 returns-2 c =
@@ -63,12 +71,13 @@ no-twins-spec =
     Inv-loop
     μ-loop
     loop-holds
-    mul-p
-    array-copy-out-p
-    add-has-twin
-    has-twin-requires
-    returns
-    add-i
-    loop-less
+    (λ c. search needs)
+    (λ c. search needs)
+    (λ c. search needs)
+    (λ c. search needs)
     loop-again
+    (λ c κs. tt)
+    returns
+    (λ c. search needs)
+    loop-again-2
     returns-2)

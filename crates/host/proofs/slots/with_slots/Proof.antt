@@ -1,71 +1,62 @@
 -- `host::slots::with_slots` meets its contract. The loop's invariant: behind what was listed stand the first i slots of the place.
 -- Assumes nothing.
-use mathlib.Core.Path.{_≡_, sym, _∙_}
+use mathlib.Core.Path.{_≡_, refl, sym, ap, _∙_}
 use mathlib.Core.List.{_++_, append-nil}
-use Prim.Native.Nat.{_+_, _-_, _≤_}
+use Prim.Native.Nat.{ℕ, _+_, _-_, _≤_}
 use native.Mathlib.Omega.{arith}
 use lib.ListN.{length, take, length-set}
 use borrow.Author.Tests.{not-true, not-false}
-use Rattle.host.specs.Listed.{listed}
 use Rattle.host.proofs.Laws.Slots.{grown, no-slots, its-slots}
-use Rattle.host.proofs.Laws.Lengths.{placed, listing}
+use Rattle.host.proofs.Laws.Lengths.{placed}
 use borrow.Author.Needs.{needs}
 use Rattle.host.proofs.slots.with_slots.Statement.{statement}
 use Rattle.host.proofs.slots.with_slots.Tie as tie
 
 abbrev Inv-loop : tie.InvT-loop
-Inv-loop z items₀ count₀ slots end i₀ items count i =
-    (i ≤ end) × (count ≡ count₀ + i) × (length items ≡ 512) × (take count items ≡ take count₀ items₀ ++ take i slots)
+Inv-loop z count items₀ slots end i₀ items i =
+    (i ≤ end) × (length items ≡ length items₀) × (take (count + i) items ≡ take count items₀ ++ take i slots)
 
 abbrev μ-loop : tie.MeasureT-loop
-μ-loop z items₀ count₀ slots end i₀ items count i = end - i
+μ-loop z count items₀ slots end i₀ items i = end - i
 
 returns : tie.Need-returns Inv-loop μ-loop
-returns c = (no-slots _ _ _ (not-true _ (c .if1 .taken)), omega arith)
-
-sectors-requires : tie.Need-sectors-requires Inv-loop μ-loop
-sectors-requires c κs = search needs
+returns c = (no-slots _ _ _ (not-true _ (c .if1 .taken)), omega arith, refl)
 
 loop-holds : tie.Need-loop-holds Inv-loop μ-loop
 loop-holds c =
     let s = c .before .before .before .before .before in
-    (omega arith, omega arith, listing (s .args .s) _ (s .good .1 .0), sym (append-nil _))
-
-array-read-items : tie.Need-array-read-items Inv-loop μ-loop
-array-read-items c = search needs
-
-array-write-items : tie.Need-array-write-items Inv-loop μ-loop
-array-write-items c = search needs
-
-add-count : tie.Need-add-count Inv-loop μ-loop
-add-count c = search needs
-
-add-i : tie.Need-add-i Inv-loop μ-loop
-add-i c = search needs
-
-loop-less : tie.Need-loop-less Inv-loop μ-loop
-loop-less c = search needs
+    let none : s .args .count + 0 ≡ s .args .count = omega arith in (
+      omega arith,
+      refl,
+      ap (λ (n : ℕ). take n (s .args .items .now)) none ∙ sym (append-nil _),
+    )
 
 loop-again : tie.Need-loop-again Inv-loop μ-loop
 loop-again c =
-    let at-sectors = c .before .before in
-    let s = at-sectors .before .before .before .before .before in (
+    let at-loop = c .before in
+    let l = at-loop .loop in
+    let sectors = at-loop .before in
+    let s = sectors .before .before .before .before .before in (
       omega arith,
-      omega (arith, c .before .loop .inv .1),
-      simp length-set (c .before .loop .inv .2),
-      grown (c .before .loop .items) (s .args .p .slots) (listed (s .args .s)) (c .before .loop .count) (c .before .loop .i) (c .before .loop .inv .2) (placed (s .args .p) _ (s .good .1 .1 .0))
-          (omega (arith, c .before .loop .inv .1)) (omega (arith, at-sectors .sectors .ensures .1)) (c .before .loop .inv .3),
+      simp length-set (l .inv .1),
+      grown (l .items) (s .args .p .slots) (take (s .args .count) (s .args .items .now)) (s .args .count + l .i) (l .i) (s .args .count + (l .i + 1)) (l .inv .1) (placed (s .args .p) _ (s .good .1 .1 .0))
+          (omega (arith, sectors .sectors .ensures .1)) (omega (arith, sectors .sectors .ensures .1)) (omega arith) (l .inv .2),
     )
 
 returns-2 : tie.Need-returns-2 Inv-loop μ-loop
 returns-2 c =
-    let at-sectors = c .before .before in
-    let at-if1 = at-sectors .before .before .before in
-    let s = at-if1 .before .before in (
-      c .before .loop .inv .3
-          ∙ its-slots _ (s .args .p) (listed (s .args .s)) (c .before .loop .i) 64 (not-false _ (at-if1 .if1 .left)) (placed (s .args .p) _ (s .good .1 .1 .0))
-          (omega (arith, at-sectors .sectors .ensures .0)),
-      omega (arith, c .before .loop .inv .1, at-sectors .sectors .ensures .1),
+    let at-loop = c .before in
+    let l = at-loop .loop in
+    let sectors = at-loop .before in
+    let test = sectors .before .before in
+    let s = test .before .before .before in
+    let all : l .i ≡ sectors .sectors .result = omega arith in (
+      ap (λ (n : ℕ). take (s .args .count + n) (l .items)) (sym all)
+          ∙ l .inv .2
+          ∙ its-slots _ (s .args .p) (take (s .args .count) (s .args .items .now)) (l .i) 64 (not-false _ (test .if1 .left)) (placed (s .args .p) _ (s .good .1 .1 .0))
+          (all ∙ sectors .sectors .ensures .0),
+      omega (arith, sectors .sectors .ensures .1),
+      l .inv .1,
     )
 
 pub with-slots-spec : {M : Type 1} → statement M
@@ -75,12 +66,14 @@ with-slots-spec =
     Inv-loop
     μ-loop
     returns
-    sectors-requires
+    (λ c κs. search needs)
     loop-holds
-    array-read-items
-    array-write-items
-    add-count
-    add-i
-    loop-less
+    (λ c. search needs)
+    (λ c. search needs)
+    (λ c. search needs)
+    (λ c. search needs)
+    (λ c. search needs)
     loop-again
+    (λ c. search needs)
+    (λ c. c .before .loop .inv .1)
     returns-2)
