@@ -7,7 +7,7 @@ ghost use Rattle.sia.specs.Names.{readOnly};
 ghost use Rattle.host.specs.Empty as Empty;
 ghost use Rattle.host.specs.Places.{whose};
 ghost use Rattle.rules.specs.Calls as Says;
-ghost use Rattle.rules.specs.Calls.{roomRight, begun, opened};
+ghost use Rattle.rules.specs.Calls.{roomRight, opened};
 use host::Host;
 use host::Place;
 use host::Prices;
@@ -15,7 +15,6 @@ use host::Program;
 use host::Progress;
 use host::Terms;
 use rules::Answer;
-use sia::Head;
 
 fn room_right(room: u64) -> bool
     ensures { λ r. ⌜ r ≡ roomRight room ⌝ }
@@ -49,29 +48,6 @@ fn started(tally: u64, size: u64) -> Progress
         size,
         failed: false,
         staged,
-    }
-}
-
-// The program as it is opened.
-fn begin(host: Host, head: Head, budget: u64, prices: Prices, room: u64) -> Program
-    ensures { λ r. ⌜ r ≡ begun host head budget prices room ⌝ }
-{
-    let places = host.places;
-    let id = head.contract;
-    let parent = host::place_of(places, id);
-    let terms = Terms {
-        head,
-        prices,
-        budget,
-        room,
-    };
-    let start = wide(prices.init);
-    let progress = started(start, parent.size);
-    Program {
-        active: true,
-        terms,
-        came: 0,
-        progress,
     }
 }
 
@@ -119,8 +95,21 @@ pub fn open(host: Host, bytes: &[u8], budget: u64, prices: Prices, room: u64) ->
     if budget < start {
         return refused(11, host);
     }
+    let parent = host::place_of(places, id);
+    let progress = started(start, parent.size);
+    let terms = Terms {
+        head,
+        prices,
+        budget,
+        room,
+    };
+    let program = Program {
+        active: true,
+        terms,
+        came: 0,
+        progress,
+    };
     let mut after = host;
-    let program = begin(host, head, budget, prices, room);
     after.program = program;
     Answer {
         number: 0,
