@@ -73,7 +73,17 @@ module _ (z : ℕ) (s : Setting) (a : List ℕ) (k : ℕ) where
     pub kept : Runs z s t a
 
   pub steps : (t : Turn) → Runs z s t a → ready s k t ≡ true → Steps z s t a
-  steps t r h = record { solid = r .solid; good = r .good; going = ready-going s k t h; input = r .input; stage = r .stage; output = r .output; way = r .way; diskroots = r .diskroots; stageroots = r .stageroots }
+  steps t r h = record {
+    solid = r .solid;
+    good = r .good;
+    going = ready-going s k t h;
+    input = r .input;
+    stage = r .stage;
+    output = r .output;
+    way = r .way;
+    diskroots = r .diskroots;
+    stageroots = r .stageroots;
+  }
 
   pub further : (t₀ t : Turn) {u : Turn} → Reached t₀ t → ready s k t ≡ true → u ≡ step z s a t → Reached t₀ u
   unfolding run step

@@ -39,7 +39,8 @@ loop-again c =
     let s = sectors .before .before .before .before .before in (
       omega arith,
       simp length-set (l .inv .1),
-      grown (l .items) (s .args .p .slots) (take (s .args .count) (s .args .items .now)) (s .args .count + l .i) (l .i) (s .args .count + (l .i + 1)) (l .inv .1) (placed (s .args .p) _ (s .good .1 .1 .0))
+      grown (l .items) (s .args .p .slots) (take (s .args .count) (s .args .items .now)) (s .args .count + l .i) (l .i)
+          (s .args .count + (l .i + 1)) (l .inv .1) (placed (s .args .p) _ (s .good .1 .1 .0))
           (omega (arith, sectors .sectors .ensures .1)) (omega (arith, sectors .sectors .ensures .1)) (omega arith) (l .inv .2),
     )
 
@@ -53,8 +54,8 @@ returns-2 c =
     let all : l .i ≡ sectors .sectors .result = omega arith in (
       ap (λ (n : ℕ). take (s .args .count + n) (l .items)) (sym all)
           ∙ l .inv .2
-          ∙ its-slots _ (s .args .p) (take (s .args .count) (s .args .items .now)) (l .i) 64 (not-false _ (test .if1 .left)) (placed (s .args .p) _ (s .good .1 .1 .0))
-          (all ∙ sectors .sectors .ensures .0),
+          ∙ its-slots _ (s .args .p) (take (s .args .count) (s .args .items .now)) (l .i) 64 (not-false _ (test .if1 .left))
+          (placed (s .args .p) _ (s .good .1 .1 .0)) (all ∙ sectors .sectors .ensures .0),
       omega (arith, sectors .sectors .ensures .1),
       l .inv .1,
     )

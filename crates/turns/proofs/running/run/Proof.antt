@@ -108,14 +108,18 @@ loop-again c =
     further _ (the-set o) _ _ _ (the-turn o) (o .before .before .loop .inv) (told test)
     (steps-turn _ (the-set o) _ (the-turn o) (its o _) (done .step .ensures))
 
+-- at the end of the loop
+abbrev start-of : tie.Else1 Inv-loop μ-loop → tie.Start Inv-loop μ-loop
+start-of c = let head = c .before .before .before in head .before .before .before .before .before .before .before
+
 same-length-4 : tie.Need-same-length-4 Inv-loop μ-loop
-same-length-4 c = let l = c .before .before in l .loop .inv .kept .stageroots ∙ sym (l .before .before .before .before .before .before .before .before .pre .stageroots)
+same-length-4 c = c .before .before .loop .inv .kept .stageroots ∙ sym (start-of c .pre .stageroots)
 
 same-length-5 : tie.Need-same-length-5 Inv-loop μ-loop
-same-length-5 c = let l = c .before .before in l .loop .inv .kept .stage ∙ sym (l .before .before .before .before .before .before .before .before .pre .stage)
+same-length-5 c = c .before .before .loop .inv .kept .stage ∙ sym (start-of c .pre .stage)
 
 same-length-6 : tie.Need-same-length-6 Inv-loop μ-loop
-same-length-6 c = let l = c .before .before in l .loop .inv .kept .output ∙ sym (l .before .before .before .before .before .before .before .before .pre .output)
+same-length-6 c = c .before .before .loop .inv .kept .output ∙ sym (start-of c .pre .output)
 
 returns-2 : tie.Need-returns-2 Inv-loop μ-loop
 unfolding going
