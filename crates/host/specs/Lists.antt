@@ -20,6 +20,11 @@ unfoldable pub each : {A B : Type 0} → (A → B) → List A → List B
 each f [] = []
 each f (x ∷ xs) = f x ∷ each f xs
 
+-- the number of the first that passes the test; the number of all where none does
+unfoldable pub firstOf : {A : Type 0} → (A → Bool) → List A → ℕ
+firstOf p [] = 0
+firstOf p (x ∷ xs) = let rest = suc (firstOf p xs) in pick (p x) 0 rest
+
 -- no two of them are so related
 unfoldable pub apart : {A : Type 0} → (A → A → Bool) → List A → Bool
 apart e [] = true

@@ -11,6 +11,8 @@ mod places; // places.rt: contracts by id, and their sizes
 mod sizes; // sizes.rt: which sizes of sectors there are
 mod slots; // slots.rt: the slots that contracts take, and the lowest free ones
 
+pub use places::has_id;
+pub use places::place_number;
 pub use places::place_of;
 pub use places::replaced_in;
 pub use places::sizes_fit;

@@ -5,6 +5,7 @@ ghost use mathlib.Core.Path.{_≡_};
 ghost use Prim.Native.Nat.{_+_};
 ghost use lib.Dec.{leb};
 ghost use Rattle.area.specs.Pick.{pick};
+ghost use Rattle.host.specs.Lists.{firstOf};
 ghost use Rattle.host.specs.Places.{hasId, whose, ownSize, others};
 ghost use Rattle.host.specs.Calls.{replaced};
 
@@ -32,6 +33,21 @@ pub fn place_of(places: [Place; 8], id: [u8; 32]) -> Place
         i += 1;
     }
     Place::none()
+}
+
+// The number of the place that holds the contract of an id; the number of all places where none does.
+pub fn place_number(places: [Place; 8], id: [u8; 32]) -> usize
+    ensures { λ r. ⌜ r ≡ firstOf (hasId id) places ⌝ }
+{
+    let mut i: usize = 0;
+    while i < Host::PLACES {
+        let p = places[i];
+        if has_id(p, id) {
+            return i;
+        }
+        i += 1;
+    }
+    i
 }
 
 // What a place adds to the sizes of all contracts but that of an id.

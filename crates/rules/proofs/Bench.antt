@@ -32,6 +32,7 @@ use Rattle.host.specs.Order as HostOrder
 use Rattle.host.specs.Calls as HostCalls
 use Rattle.rules.specs.View as RulesView
 use Rattle.rules.specs.Roots as RulesRoots
+use Rattle.rules.specs.Seats as RulesSeats
 use Rattle.rules.specs.Inputs as RulesInputs
 use Rattle.rules.specs.Plan as RulesPlan
 use Rattle.rules.specs.Effect as RulesEffect
@@ -56,7 +57,7 @@ open-sia = 0
 
 -- opens the definitions of host
 unfoldable open-host : ℕ
-unfolding HostSizes.doubled HostSizes.isSize HostLists.some HostLists.those HostLists.each HostLists.apart HostLists.sum HostLists.count HostEmpty.noPlace HostEmpty.noPrices
+unfolding HostSizes.doubled HostSizes.isSize HostLists.some HostLists.those HostLists.each HostLists.firstOf HostLists.apart HostLists.sum HostLists.count HostEmpty.noPlace HostEmpty.noPrices
     HostEmpty.noTerms HostEmpty.noProgress HostEmpty.noProgram HostEmpty.bare HostEmpty.newPlace HostEmpty.started HostWith.withPlaces
     HostWith.withProgram HostWith.withStageRoots HostWith.withCame HostWith.withProgress HostWith.withRunning HostWith.withStaged HostPlaces.hasId HostPlaces.whose
     HostPlaces.ownSize HostPlaces.others HostPlaces.committed HostPlaces.taken HostPlaces.freeCopy HostOrder.lent HostOrder.placeInOrder
@@ -69,10 +70,11 @@ open-host = 0
 unfoldable open-rules : ℕ
 unfolding RulesView.settingBy RulesView.turnOf RulesView.withRun RulesView.diskRight RulesView.areasRight RulesView.readOnlyMode
     RulesView.parent RulesView.freeCopies RulesView.sector RulesView.spotOf RulesView.parentSpots RulesView.committedSpots
-    RulesView.allSpots RulesView.whole RulesRoots.contractRoot RulesRoots.rangeCount RulesInputs.known RulesInputs.operandsOf
+    RulesView.whole RulesRoots.contractRoot RulesRoots.rangeCount RulesSeats.seated RulesSeats.committedSeats RulesSeats.seats
+    RulesSeats.nobody RulesSeats.seatsOf RulesSeats.firstSeat RulesInputs.known RulesInputs.operandsOf
     RulesInputs.illFormed RulesInputs.pastEnd RulesInputs.largest RulesInputs.need RulesInputs.inputsOf RulesInputs.isTold RulesInputs.told
     RulesInputs.isNumber RulesInputs.isKey RulesInputs.isData RulesInputs.wellFormed RulesInputs.readArgs RulesInputs.spanArgs
-    RulesInputs.argsOf RulesPlan.changes RulesPlan.isThere RulesPlan.spots RulesPlan.contractSource RulesPlan.unlessNone
+    RulesInputs.argsOf RulesPlan.changes RulesPlan.isThere RulesPlan.spots RulesPlan.contractSource RulesPlan.soughtSource
     RulesPlan.sectorSource RulesPlan.sourceOf RulesPlan.badSpan RulesPlan.badSize RulesPlan.badSpans RulesPlan.reads RulesPlan.badProof
     RulesPlan.time RulesPlan.own RulesPlan.cost RulesPlan.touched RulesPlan.wanted RulesPlan.newSize RulesPlan.proofCount
     RulesPlan.outputCount RulesPlan.recordCount RulesPlan.judgedSource RulesPlan.judgedInputs RulesPlan.judged RulesEffect.newCopy

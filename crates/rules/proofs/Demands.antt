@@ -1,14 +1,6 @@
 -- The three demands, and what document 02's requests add. Assumes nothing.
-use mathlib.Core.Path.{_≡_, sym, ap, _∙_}
-use mathlib.Core.List.{List, [], _∷_}
-use Prim.Native.Nat.{ℕ}
-use native.Mathlib.Omega.{arith}
-use lib.ListN.{length, getD}
-use Rattle.area.specs.Area.{same}
-use Rattle.area.proofs.Laws.Pick.{by, picks, skips}
 use Rattle.area.proofs.Laws.Same.{same-eq}
 use Rattle.sia.proofs.Theorems.{reading-what-was-written, writing-what-was-read, same-bytes}
-use Rattle.rules.specs.Roots.{firstRoot}
 use Rattle.rules.specs.Demands.{Demands}
 use Rattle.rules.proofs.Refusing.{refusals}
 use Rattle.rules.proofs.Forming.{unmade}
@@ -23,17 +15,8 @@ use Rattle.rules.proofs.Padded.{short-ids}
 use Rattle.rules.proofs.Unchanged.{nothing-to-agree}
 use Rattle.rules.proofs.Sectors.{full-sectors}
 use Rattle.rules.proofs.Sound.{kept-roots}
-use Rattle.rules.specs.declared.Spot.{Spot}
-
--- the sector that a root finds has that root
-found : (f : Spot → List ℕ) (key : List ℕ) (l : List Spot) (x : Spot) (xs : List Spot) → firstRoot f key l ≡ x ∷ xs → f x ≡ key
-unfolding firstRoot
-found f key [] x xs e = absurd (let q = ap length e in omega arith)
-found f key (y ∷ l) x xs e =
-    by (same (f y) key)
-    (λ t. let q = sym (picks (same (f y) key) (y ∷ []) (firstRoot f key l) t) ∙ e in
-    ap (λ (m : List Spot). f (getD m 0 y)) (sym q) ∙ same-eq _ _ t)
-    (λ t. found f key l x xs (sym (skips (same (f y) key) (y ∷ []) (firstRoot f key l) t) ∙ e))
+use Rattle.rules.proofs.StageFirst.{stage-first}
+use Rattle.rules.proofs.Laws.Sought.{sought-root}
 
 pub demands : Demands
 demands = record {
@@ -56,11 +39,12 @@ demands = record {
     written = reading-what-was-written;
     ids = same-eq;
     equals = same-bytes;
-    roots = found;
+    roots = sought-root;
   };
   three = record { cut = cut; alike = alike };
   ids = short-ids;
   unchanged = nothing-to-agree;
   sectors = full-sectors;
   roots = kept-roots;
+  stage = stage-first;
 }

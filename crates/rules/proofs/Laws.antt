@@ -21,5 +21,8 @@ pub mod Classes
 pub mod Wrote
 pub mod Rehashed
 pub mod Readers
+pub mod Sought
+pub mod Search
+pub mod Homes
 pub mod Pieces
 pub mod Worked

@@ -20,4 +20,5 @@ pub mod Renaming
 pub mod Padded
 pub mod Beside
 pub mod Sound
+pub mod StageFirst
 pub mod Demands

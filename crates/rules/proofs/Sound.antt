@@ -2,6 +2,7 @@
 pub mod Steps
 pub mod Programs
 pub mod Contracts
+pub mod Look
 use mathlib.Core.Path.{_≡_, refl, sym, ap, ap₂, _∙_}
 use mathlib.Core.Bool.{true, false, not}
 use mathlib.Core.List.{List, [], _∷_}
@@ -24,8 +25,8 @@ use Rattle.rules.specs.Facts.{Solid, valid}
 use Rattle.rules.specs.Calls.{Pieced, piece, interrupt}
 use Rattle.rules.specs.Sound.{right, rootsRight, sound, soundedAt, sounded}
 use Rattle.rules.specs.Visit.{Areas, opens, gives, Declared, Ready, Sound}
-use Rattle.rules.specs.Depot.{Depot, Call, forming, dropping, opening, piecing, interrupting, reaching, closing, Said, AllSaid}
-use Rattle.rules.specs.Depot.{Result, ofPiece, ofInterrupt, ofReached, ofClosing, lending, resultBy, left, resultsBy, endBy}
+use Rattle.rules.specs.Depot.{Depot, Call, forming, dropping, opening, piecing, interrupting, reaching, locating, closing, Said, AllSaid}
+use Rattle.rules.specs.Depot.{Result, ofPiece, ofInterrupt, ofReached, ofLocated, ofClosing, lending, resultBy, left, resultsBy, endBy}
 use Rattle.rules.specs.KeptRoots.{Faithful, Bytewise, Sounds, Lasting, Asked, KeptRoots}
 use Rattle.rules.specs.Trace.{lentTo, sectorsOf, running, runningSectors, fedBy, wholeRunBy}
 use Rattle.rules.proofs.Laws.Lengths.{sector-length}
@@ -40,6 +41,7 @@ use Rattle.rules.proofs.Beside.{leaves}
 use Rattle.rules.proofs.Sound.Steps.{few-sectors}
 use Rattle.rules.proofs.Sound.Programs.{sound-order, sound-disk, piece-alike, records-alike, piece-sound, interrupt-alike, pair-alike, reached-alike, close-alike, close-sound, interrupt-sound}
 use Rattle.rules.proofs.Sound.Contracts.{formed-sound, dropped-sound, opened-sound, fresh-sound}
+use Rattle.rules.proofs.Sound.Look.{located-alike}
 use Rattle.host.specs.declared.Progress.{Progress}
 use Rattle.rules.specs.declared.Pair.{Pair}
 use Rattle.rules.specs.declared.Spot.{Spot}
@@ -179,6 +181,7 @@ result-alike d (opening p) s = refl
 result-alike d (piecing input output bytes) s = ap ofPiece (faithful (d .host) (lending d input output) s .piece bytes)
 result-alike d (interrupting output) s = ap ofInterrupt (faithful (d .host) (lending d [] output) s .interrupt)
 result-alike d reaching s = ap ofReached (faithful (d .host) (lending d [] []) s .reached)
+result-alike d (locating key) s = ap ofLocated (located-alike (d .host) (d .disk) (d .stage) s key)
 result-alike d (closing g) s = ap ofClosing (faithful (d .host) (lending d [] []) s .closing g)
 
 left-sound : (d : Depot) (c : Call) → Sound (d .host) (d .disk) (d .stage) → Said c
@@ -190,6 +193,7 @@ left-sound d (opening p) s q = sounds (d .host) (lending d [] []) s .opening p q
 left-sound d (piecing input output bytes) s q = sounds (d .host) (lending d input output) s .piece bytes
 left-sound d (interrupting output) s q = sounds (d .host) (lending d [] output) s .interrupt
 left-sound d reaching s q = s
+left-sound d (locating key) s q = s
 left-sound d (closing g) s q = sounds (d .host) (lending d [] []) s .closing g
 
 lasting : (d : Depot) (l : List Call) → Sound (d .host) (d .disk) (d .stage) → AllSaid l → Lasting d l

@@ -11,7 +11,7 @@ use Rattle.sia.specs.Encode.{encode, within}
 use Rattle.sia.specs.Decode.{decode, told}
 use Rattle.sia.specs.Trim.{trimmed, Proper}
 use Rattle.rules.specs.View.{Setting, Turn}
-use Rattle.rules.specs.Roots.{firstRoot}
+use Rattle.rules.specs.Seats.{firstSeat}
 use Rattle.rules.specs.Record.{pairing}
 use Rattle.rules.specs.Run.{going}
 use Rattle.rules.specs.Calls.{Pieced}
@@ -23,6 +23,8 @@ use Rattle.sia.specs.declared.Head.{Head}
 use Rattle.sia.specs.declared.Instruction.{Instruction}
 use Rattle.host.specs.declared.Host.{Host}
 use Rattle.rules.specs.declared.Spot.{Spot}
+use Rattle.rules.specs.declared.Seat.{Seat}
+use Rattle.rules.specs.declared.Sought.the-variants.{At}
 
 -- after pieces that are the front of the data: h is the host that the opening left, w what the pieces leave, k how many bytes have come
 pub record Ran (h : Host) (o : Opening) (a : Areas) (all : List ℕ) (k : ℕ) (w : Pieced) : Type 0 where
@@ -81,4 +83,4 @@ pub record Demand2 : Type 0 where
   pub ids : (one two : List ℕ) → same one two ≡ true → one ≡ two
   pub equals : (one two : List ℕ) → length one ≡ 32 → length two ≡ 32 → ((i : ℕ) → i < 32 → getD one i 0 ≡ getD two i 0)
       → same one two ≡ true
-  pub roots : (f : Spot → List ℕ) (key : List ℕ) (l : List Spot) (x : Spot) (xs : List Spot) → firstRoot f key l ≡ x ∷ xs → f x ≡ key
+  pub roots : (f : Spot → List ℕ) (key : List ℕ) (l : List Seat) (x : Seat) → firstSeat f key l ≡ At x → f (x .spot) ≡ key

@@ -8,6 +8,7 @@ use Rattle.rules.specs.Padded.{ShortIds}
 use Rattle.rules.specs.Unchanged.{NothingToAgree}
 use Rattle.rules.specs.Sectors.{FullSectors}
 use Rattle.rules.specs.KeptRoots.{KeptRoots}
+use Rattle.rules.specs.StageFirst.{StageFirst}
 
 pub record Demands : Type 0 where
   -- "No input breaks it."
@@ -24,3 +25,5 @@ pub record Demands : Type 0 where
   pub sectors : FullSectors
   -- "Keep the sector roots."
   pub roots : KeptRoots
+  -- "Look in the stage first."
+  pub stage : StageFirst

@@ -5,6 +5,7 @@ use Prim.Native.Nat.{ℕ}
 use Rattle.area.specs.Little.{Bytes}
 use Rattle.host.specs.Calls.{formed, dropped}
 use Rattle.rules.specs.View.{Way}
+use Rattle.rules.specs.Seats.{locatedBy}
 use Rattle.rules.specs.Calls.{Pieced, Interrupted}
 use Rattle.rules.specs.Commit.{Closed}
 use Rattle.rules.specs.Visit.{Areas, Opening, Agreement, opens, givesBy, stopsBy, reachesBy, closesBy}
@@ -12,6 +13,7 @@ use Rattle.host.specs.declared.Answer.{Answer as Contract}
 use Rattle.host.specs.declared.Host.{Host}
 use Rattle.rules.specs.declared.Answer.{Answer}
 use Rattle.rules.specs.declared.Reached.{Reached}
+use Rattle.rules.specs.declared.Located.{Located}
 
 pub record Depot : Type 0 where
   pub host : Host
@@ -21,7 +23,7 @@ pub record Depot : Type 0 where
 abbrev pub depot : Host → List ℕ → List ℕ → Depot
 depot h disk stage = record { host = h; disk = disk; stage = stage }
 
--- a call: an id, an opening, an input and an output area with a piece, an output area, an agreement
+-- a call: an id, an opening, an input and an output area with a piece, an output area, a root, an agreement
 pub data Call : Type 0 where
   forming : List ℕ → Call
   dropping : List ℕ → Call
@@ -29,6 +31,7 @@ pub data Call : Type 0 where
   piecing : List ℕ → List ℕ → List ℕ → Call
   interrupting : List ℕ → Call
   reaching : Call
+  locating : List ℕ → Call
   closing : Agreement → Call
 
 -- the bytes of a head are bytes
@@ -39,6 +42,7 @@ Said (opening o) = Bytes (o .bytes)
 Said (piecing input output bytes) = Unit {0}
 Said (interrupting output) = Unit {0}
 Said reaching = Unit {0}
+Said (locating key) = Unit {0}
 Said (closing g) = Unit {0}
 
 abbrev pub AllSaid : List Call → Type 0
@@ -52,6 +56,7 @@ pub data Result : Type 0 where
   ofPiece : Pieced → Result
   ofInterrupt : Interrupted → Result
   ofReached : Reached → Result
+  ofLocated : Located → Result
   ofClosing : Closed → Result
 
 -- the areas with the caller's
@@ -65,6 +70,7 @@ resultBy way d (opening o) = ofOpening (opens (d .host) o)
 resultBy way d (piecing input output bytes) = ofPiece (givesBy way (d .host) (lending d input output) bytes)
 resultBy way d (interrupting output) = ofInterrupt (stopsBy way (d .host) (lending d [] output))
 resultBy way d reaching = ofReached (reachesBy way (d .host) (lending d [] []))
+resultBy way d (locating key) = ofLocated (locatedBy way (d .disk) (d .host) (d .stage) key)
 resultBy way d (closing g) = ofClosing (closesBy way (d .host) (lending d [] []) g)
 
 -- what stands after it
@@ -74,6 +80,7 @@ left d (ofOpening r) = depot (r .host) (d .disk) (d .stage)
 left d (ofPiece r) = depot (r .host) (d .disk) (r .stage)
 left d (ofInterrupt r) = depot (r .host) (d .disk) (d .stage)
 left d (ofReached r) = d
+left d (ofLocated r) = d
 left d (ofClosing r) = depot (r .host) (r .disk) (d .stage)
 
 -- what calls in turn answer and leave, and what stands at the end

@@ -1,6 +1,7 @@
 -- What the machine means: document 01's "Taking an instruction", "Instructions", "Closing" and the table of answers.
 pub mod View
 pub mod Roots
+pub mod Seats
 pub mod Inputs
 pub mod Plan
 pub mod Effect
@@ -21,6 +22,7 @@ pub mod Unchanged
 pub mod Sectors
 pub mod Depot
 pub mod KeptRoots
+pub mod StageFirst
 pub mod Demand1
 pub mod Demand2
 pub mod Demand3

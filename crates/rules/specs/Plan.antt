@@ -11,8 +11,9 @@ use Rattle.sia.specs.Names.{opOf}
 use Rattle.host.specs.Lists.{those}
 use Rattle.host.specs.Empty.{none}
 use Rattle.host.specs.Places.{whose, others}
-use Rattle.rules.specs.View.{Setting, readOnlyMode, freeCopies, parentSpots, committedSpots, allSpots}
-use Rattle.rules.specs.Roots.{firstRoot, rangeCount}
+use Rattle.rules.specs.View.{Setting, readOnlyMode, freeCopies, parentSpots, committedSpots}
+use Rattle.rules.specs.Roots.{rangeCount}
+use Rattle.rules.specs.Seats.{seatsOf, firstSeat}
 use Rattle.rules.specs.Inputs.{illFormed, pastEnd, wellFormed, Args, argsOf}
 use Rattle.sia.specs.declared.Instruction.{Instruction}
 use Rattle.sia.specs.declared.Op.{Op}
@@ -20,6 +21,8 @@ use Rattle.sia.specs.declared.Op.the-variants.{Read, ReadSector, Write, Copy, S
 use Rattle.host.specs.declared.Prices.{Prices}
 use Rattle.host.specs.declared.Progress.{Progress}
 use Rattle.rules.specs.declared.Spot.{Spot}
+use Rattle.rules.specs.declared.Sought.{Sought}
+use Rattle.rules.specs.declared.Sought.the-variants.{At, Nowhere}
 
 -- 24: "Write, Copy, Swap or Truncate"
 unfoldable pub changes : Op → Bool
@@ -54,18 +57,18 @@ contractSource z s p id =
     let committed = seen (committedSpots z other) in
     pick (not (other .held)) missing (pick (same id (s .terms .head .contract)) own committed)
 
-unfoldable pub unlessNone : List Spot → Source
-unlessNone [] = missing
-unlessNone (x ∷ xs) = seen (x ∷ xs)
+-- ReadSector: the sector that has that root
+unfoldable pub soughtSource : Sought → Source
+soughtSource (At x) = seen (x .spot ∷ [])
+soughtSource Nowhere = missing
 
--- ReadSector: the first committed sector with that root
-unfoldable pub sectorSource : ℕ → Setting → (Spot → List ℕ) → List ℕ → Source
-sectorSource z s f key = unlessNone (firstRoot f key (allSpots z s))
+unfoldable pub sectorSource : ℕ → Setting → (Spot → List ℕ) → Progress → List ℕ → Source
+sectorSource z s f p key = soughtSource (firstSeat f key (seatsOf z s p))
 
 -- the other instructions look nothing up
 unfoldable pub sourceOf : ℕ → Setting → (Spot → List ℕ) → Progress → Op → List ℕ → Source
 sourceOf z s f p Read key = contractSource z s p key
-sourceOf z s f p ReadSector key = sectorSource z s f key
+sourceOf z s f p ReadSector key = sectorSource z s f p key
 sourceOf z s f p Write key = seen []
 sourceOf z s f p Copy key = seen []
 sourceOf z s f p Swap key = seen []

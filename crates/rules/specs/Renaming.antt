@@ -11,6 +11,7 @@ use Rattle.host.specs.Order.{inOrder}
 use Rattle.host.specs.Renaming.{hostAs}
 use Rattle.host.specs.Calls.{padded, formed, dropped}
 use Rattle.host.specs.Calls as Contract
+use Rattle.rules.specs.Seats.{located}
 use Rattle.rules.specs.Inputs.{inputsOf}
 use Rattle.rules.specs.Calls.{answered, pieced, interrupted}
 use Rattle.rules.specs.Commit.{closed}
@@ -65,5 +66,6 @@ pub record Alike (r : List ℕ → List ℕ) (h : Host) (a : Areas) : Type 0 whe
   pub interrupt : let x = stops h a in
       stops (hostAs r h) a ≡ interrupted (x .number) (x .tally) (hostAs r (x .host)) (x .output)
   pub reached : reaches (hostAs r h) a ≡ reaches h a
+  pub locating : (key : List ℕ) → located (hostAs r h) key ≡ located h key
   pub closing : (g : Agreement) → let x = closes h a g in
       closes (hostAs r h) a g ≡ closed (x .number) (x .tally) (x .growth) (hostAs r (x .host)) (x .disk)

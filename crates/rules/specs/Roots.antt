@@ -3,8 +3,7 @@
 use mathlib.Core.List.{List, [], _∷_}
 use Prim.Native.Nat.{ℕ, _+_, _*_, _/_, _%_}
 use lib.ListN.{length, getD}
-use Rattle.area.specs.Pick.{pick}
-use Rattle.area.specs.Area.{same, zeros}
+use Rattle.area.specs.Area.{zeros}
 use Rattle.tree.specs.Tree.{root, join}
 use Rattle.tree.specs.Walk.{count, proofIn}
 use Rattle.sia.specs.Encode.{joined}
@@ -43,13 +42,6 @@ rootOnDisk z s = rootOf z s [] []
 unfoldable pub contractRoot : (Spot → List ℕ) → List Spot → List ℕ
 contractRoot f [] = zeros 32
 contractRoot f (x ∷ xs) = join (joined f (x ∷ xs))
-
--- "a root is found at the first match", all 32 bytes; no sector where none matches
-unfoldable pub firstRoot : (Spot → List ℕ) → List ℕ → List Spot → List Spot
-firstRoot f key [] = []
-firstRoot f key (x ∷ xs) =
-    let rest = firstRoot f key xs in
-    pick (same (f x) key) (x ∷ []) rest
 
 -- the segments of n sectors
 abbrev pub segments : ℕ → ℕ → ℕ

@@ -11,7 +11,7 @@ use Rattle.sia.specs.Encode.{joined}
 use Rattle.host.specs.Lists.{each, count, unused}
 use Rattle.host.specs.Empty.{none}
 use Rattle.host.specs.With.{withProgram, withStageRoots, withCame, withProgress}
-use Rattle.host.specs.Places.{whose, committed, taken}
+use Rattle.host.specs.Places.{whose, committed}
 use Rattle.host.specs.declared.Place.{Place}
 use Rattle.host.specs.declared.Terms.{Terms}
 use Rattle.host.specs.declared.Progress.{Progress}
@@ -103,13 +103,9 @@ spotOf slots staged at = pick (eqb (getD staged at none) none) (OnDisk (getD slo
 unfoldable pub parentSpots : ℕ → Setting → Progress → List Spot
 parentSpots z s p = tab 0 (p .size / z) (spotOf (parent s .slots) (p .staged))
 
--- "ReadSector, and Read of another contract, see committed sectors only": those of one contract
+-- "Read of another contract" sees "committed sectors only"
 unfoldable pub committedSpots : ℕ → Place → List Spot
 committedSpots z p = each OnDisk (committed z p)
-
--- and those of all, "by contract place, then position"
-unfoldable pub allSpots : ℕ → Setting → List Spot
-allSpots z s = each OnDisk (taken z (s .places))
 
 -- the bytes of sectors, one after another
 unfoldable pub whole : ℕ → List ℕ → List ℕ → List Spot → List ℕ

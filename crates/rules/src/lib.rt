@@ -10,6 +10,19 @@ pub enum Spot {
     InStage(usize),
 }
 
+// A sector by the place of its contract and its position there, and where its bytes are.
+pub struct Seat {
+    pub place: usize,
+    pub position: usize,
+    pub spot: Spot,
+}
+
+// What a look-up by root comes to: a sector, or none.
+pub enum Sought {
+    At(Seat),
+    Nowhere,
+}
+
 // What opening, a piece and an interrupt answer: document 01's number, the tally, and the host.
 pub struct Answer {
     pub number: u64,
@@ -34,4 +47,14 @@ pub struct Reached {
 pub struct Sounded {
     pub number: u64,
     pub sound: bool,
+}
+
+// What the call that looks a root up answers: document 01's number, whether a sector with that root is found, the place of its contract, its
+// position there, and whether the stage holds it.
+pub struct Located {
+    pub number: u64,
+    pub found: bool,
+    pub place: u64,
+    pub position: u64,
+    pub staged: bool,
 }

@@ -11,7 +11,7 @@ use lib.Dec.{leb}
 use borrow.Author.Tests.{leb-true, leb-false}
 use Rattle.area.proofs.Laws.Pick.{yes, no, by}
 use Rattle.sia.specs.Encode.{every}
-use Rattle.host.specs.Lists.{some, apart}
+use Rattle.host.specs.Lists.{some, firstOf, apart}
 
 module _ {A : Type 0} (l : List A) (f t : ℕ) where
   pub slice-none : t ≤ f → slice f t l ≡ []
@@ -51,6 +51,22 @@ module _ {A : Type 0} (p : A → Bool) (l : List A) (f t : ℕ) where
   pub every-done : t ≤ f → true ≡ every p (slice f t l)
   unfolding every
   every-done h = rw (slice-none l f t h)
+
+-- ---- the number of the first that passes a test
+
+module _ {A : Type 0} (p : A → Bool) (l : List A) (f t : ℕ) where
+  pub first-here : (d : A) {n : ℕ} → length l ≡ n → f < t → t ≤ n → p (getD l f d) ≡ true → firstOf p (slice f t l) ≡ 0
+  unfolding firstOf
+  first-here d n h g e = rw (slice-one l f t d n h g) (sym (yes _ _ _ e refl))
+
+  pub first-further : (d : A) {n : ℕ} → length l ≡ n → f < t → t ≤ n → p (getD l f d) ≡ false
+      → firstOf p (slice f t l) ≡ 1 + firstOf p (slice (f + 1) t l)
+  unfolding firstOf
+  first-further d n h g e = rw (slice-one l f t d n h g) (sym (no _ _ _ e (omega arith)))
+
+  pub first-done : t ≤ f → firstOf p (slice f t l) ≡ 0
+  unfolding firstOf
+  first-done h = rw (slice-none l f t h)
 
 -- ---- whether no two are so related
 

@@ -47,7 +47,7 @@ module _ (r : List ℕ → List ℕ) (new : Renaming r) where
   held-only true x y f = f refl
   held-only false x y f = refl
 
-  has-as : (id : List ℕ) (p : Place) → hasId (r id) (placeAs r p) ≡ hasId id p
+  pub has-as : (id : List ℕ) (p : Place) → hasId (r id) (placeAs r p) ≡ hasId id p
   unfolding hasId
   has-as id p = held-only (p .held) _ _ (λ e. ap (λ (x : List ℕ). same x (r id)) (id-as p e) ∙ new .differ (p .id) id)
 

@@ -2,33 +2,32 @@
 use mathlib.Core.Path.{_≡_, refl, sym, ap, ap₂, _∙_, subst}
 use mathlib.Core.Bool.{Bool, true, false, not}
 use mathlib.Core.List.{List, [], _∷_, _++_}
-use Prim.Native.Nat.{ℕ, zero, suc, _+_, _-_, _*_, _/_, _%_, _≤_, _<_}
+use Prim.Native.Nat.{ℕ, _+_, _-_, _/_, _%_, _≤_, _<_}
 use native.Mathlib.Nat.{zero-div}
 use native.Mathlib.Omega.{arith}
 use lib.ListN.{length, take, getD, length-take, length-replicate}
-use lib.Seq.{getD-take, length-take-le}
+use lib.Seq.{getD-take}
 use lib.Dec.{eqb}
-use borrow.Author.Tests.{eqb-true}
-use Rattle.area.specs.Pick.{pick, both, either}
-use Rattle.area.specs.Area.{same, part, tab, zeros}
-use Rattle.area.proofs.Laws.Pick.{by, picks, skips, never, both-left, both-right, both-join}
-use Rattle.area.proofs.Laws.Same.{same-eq, eq-same}
-use Rattle.tree.specs.Tree.{root, join}
+use Rattle.area.specs.Pick.{pick, both}
+use Rattle.area.specs.Area.{same}
+use Rattle.area.proofs.Laws.Pick.{by, picks, skips, both-left, both-right, both-join}
+use Rattle.area.proofs.Laws.Same.{same-eq}
+use Rattle.tree.specs.Tree.{join}
 use Rattle.tree.specs.Walk.{proofIn}
 use Rattle.sia.specs.Names.{opOf}
 use Rattle.sia.specs.Encode.{joined, every}
-use Rattle.host.specs.Lists.{each}
 use Rattle.host.specs.Empty.{none, noPlace}
 use Rattle.host.specs.Places.{hasId, whose, committed, taken}
 use Rattle.host.specs.Facts.{Staged}
-use Rattle.rules.specs.View.{Way, kept, worked, Setting, Turn, readOnlyMode, parent, freeCopies, sector, spotOf, parentSpots, committedSpots, allSpots}
-use Rattle.rules.specs.Roots.{sectorRoot, keptRoot, rootBy, rootOf, contractRoot, firstRoot, rangeProof}
-use Rattle.rules.specs.Inputs.{Args, argsOf, illFormed, pastEnd, wellFormed}
-use Rattle.rules.specs.Plan.{Source, missing, seen, isThere, spots, changes, contractSource, unlessNone, sectorSource, sourceOf, judgedSource, judgedInputs, judged}
+use Rattle.rules.specs.View.{Way, kept, worked, Setting, Turn, readOnlyMode, parent, freeCopies, sector, spotOf, parentSpots, committedSpots}
+use Rattle.rules.specs.Roots.{sectorRoot, keptRoot, rootBy, rootOf, contractRoot, rangeProof}
+use Rattle.rules.specs.Seats.{seatsOf, firstSeat}
+use Rattle.rules.specs.Inputs.{argsOf, illFormed, pastEnd, wellFormed}
+use Rattle.rules.specs.Plan.{Source, missing, seen, isThere, spots, changes, contractSource, soughtSource, sectorSource, sourceOf, judgedSource, judgedInputs, judged}
 use Rattle.rules.specs.Facts.{Solid, startOf}
 use Rattle.rules.specs.Visit.{Shaped}
 use Rattle.rules.specs.Sound.{right, stagedRight}
-use Rattle.rules.proofs.Laws.Spots.{every-get, whose-every, whose-nobody, unstaged, every-tab, every-pick, pick-spots, disk-every, sector-every}
+use Rattle.rules.proofs.Laws.Spots.{every-get, whose-every, whose-nobody, unstaged, every-tab, every-pick, pick-spots, disk-every, program-every, sought-every}
 use Rattle.rules.proofs.Laws.Rehashed.{right-at}
 use Rattle.sia.specs.declared.Op.{Op}
 use Rattle.sia.specs.declared.Op.the-variants.{Read, ReadSector, Write, Copy, Swap, Truncate, Unknown}
@@ -37,6 +36,9 @@ use Rattle.host.specs.declared.Place.{Place}
 use Rattle.host.specs.declared.Progress.{Progress}
 use Rattle.rules.specs.declared.Spot.{Spot}
 use Rattle.rules.specs.declared.Spot.the-variants.{OnDisk, InStage}
+use Rattle.rules.specs.declared.Seat.{Seat}
+use Rattle.rules.specs.declared.Sought.{Sought}
+use Rattle.rules.specs.declared.Sought.the-variants.{At}
 
 -- ---- readers that agree
 
@@ -59,11 +61,12 @@ proof-agree z f g disk stage [] at n h = refl
 proof-agree z f g disk stage (x ∷ xs) at n h =
     ap (λ (r : List ℕ). proofIn r (at / z) (sector z disk stage (getD (x ∷ xs) (at / z) x)) (at % z / 64) (at % z / 64 + n / 64)) (joined-agree f g (x ∷ xs) h)
 
-pub first-agree : (f g : Spot → List ℕ) (key : List ℕ) (l : List Spot) → every (agree f g) l ≡ true → firstRoot f key l ≡ firstRoot g key l
-unfolding firstRoot every agree
+pub first-agree : (f g : Spot → List ℕ) (key : List ℕ) (l : List Seat) → every (λ x. agree f g (x .spot)) l ≡ true
+    → firstSeat f key l ≡ firstSeat g key l
+unfolding firstSeat every agree
 first-agree f g key [] h = refl
 first-agree f g key (x ∷ xs) h =
-    ap₂ (λ (r : List ℕ) (rest : List Spot). pick (same r key) (x ∷ []) rest) (same-eq _ _ (both-left _ _ h)) (first-agree f g key xs (both-right _ _ h))
+    ap₂ (λ (r : List ℕ) (rest : Sought). pick (same r key) (At x) rest) (same-eq _ _ (both-left _ _ h)) (first-agree f g key xs (both-right _ _ h))
 
 -- ---- what holds of every sector in use holds of all that is seen
 
@@ -87,10 +90,6 @@ module _ (z : ℕ) (s : Setting) (P : Spot → Bool) (onDisk : every (λ n. P (O
   pub all-committed : (id : List ℕ) → every P (committedSpots z (whose id (s .places))) ≡ true
   unfolding committedSpots
   all-committed id = disk-every P _ (whose-every (λ n. P (OnDisk n)) z id (s .places) onDisk)
-
-  pub all-spots : every P (allSpots z s) ≡ true
-  unfolding allSpots
-  all-spots = disk-every P (taken z (s .places)) onDisk
 
   pub all-start : every P (committedSpots z (parent s)) ≡ true
   unfolding parent
@@ -128,10 +127,13 @@ module _ (z : ℕ) (s : Setting) (p : Progress) (solid : Solid z s) (f : Staged 
       (ap (λ (l : List Spot). every P l) (pick-spots _ (seen (parentSpots z s p)) _)
       ∙ every-pick P _ (parentSpots z s p) _ all-parent (all-committed z s P onDisk id))
 
+  pub all-seats : every (λ x. P (x .spot)) (seatsOf z s p) ≡ true
+  all-seats = program-every P z s p all-parent onDisk
+
   pub all-source : (r : Spot → List ℕ) (op : Op) (key : List ℕ) → every P (spots (sourceOf z s r p op key)) ≡ true
-  unfolding sourceOf spots
+  unfolding sourceOf sectorSource spots
   all-source r Read key = all-contract key
-  all-source r ReadSector key = sector-every P z s r key (all-spots z s P onDisk)
+  all-source r ReadSector key = sought-every P r key (seatsOf z s p) all-seats
   all-source r Write key = every-none P
   all-source r Copy key = every-none P
   all-source r Swap key = every-none P
@@ -175,7 +177,7 @@ known-stage z s stage copies staged h j n = sym (stage-agrees z s stage copies (
 
 -- which way makes no difference but by the reader
 source-way : (way : Way) (z : ℕ) (s : Setting) (f : Spot → List ℕ) (p : Progress) (op : Op) (key : List ℕ) → sourceOf z (withWay way s) f p op key ≡ sourceOf z s f p op key
-unfolding sourceOf contractSource sectorSource allSpots parentSpots parent withWay
+unfolding sourceOf contractSource sectorSource seatsOf readOnlyMode parentSpots parent withWay
 source-way way z s f p Read key = refl
 source-way way z s f p ReadSector key = refl
 source-way way z s f p Write key = refl
@@ -184,28 +186,28 @@ source-way way z s f p Swap key = refl
 source-way way z s f p Truncate key = refl
 source-way way z s f p Unknown key = refl
 
-source-agree : (z : ℕ) (s : Setting) (f g : Spot → List ℕ) (p : Progress) (op : Op) (key : List ℕ) → every (agree f g) (allSpots z s) ≡ true → sourceOf z s f p op key ≡ sourceOf z s g p op key
+source-agree : (z : ℕ) (s : Setting) (f g : Spot → List ℕ) (p : Progress) (op : Op) (key : List ℕ) → every (λ x. agree f g (x .spot)) (seatsOf z s p) ≡ true → sourceOf z s f p op key ≡ sourceOf z s g p op key
 unfolding sourceOf sectorSource
 source-agree z s f g p Read key h = refl
-source-agree z s f g p ReadSector key h = ap unlessNone (first-agree f g key (allSpots z s) h)
+source-agree z s f g p ReadSector key h = ap soughtSource (first-agree f g key (seatsOf z s p) h)
 source-agree z s f g p Write key h = refl
 source-agree z s f g p Copy key h = refl
 source-agree z s f g p Swap key h = refl
 source-agree z s f g p Truncate key h = refl
 source-agree z s f g p Unknown key h = refl
 
-pub source-alike : (z : ℕ) (s : Setting) (f g : Spot → List ℕ) (p : Progress) (op : Op) (key : List ℕ) → every (agree f g) (allSpots z s) ≡ true
+pub source-alike : (z : ℕ) (s : Setting) (f g : Spot → List ℕ) (p : Progress) (op : Op) (key : List ℕ) → every (λ x. agree f g (x .spot)) (seatsOf z s p) ≡ true
     → sourceOf z (withWay kept s) f p op key ≡ sourceOf z (withWay worked s) g p op key
 source-alike z s f g p op key h = source-way kept z s f p op key ∙ source-agree z s f g p op key h ∙ sym (source-way worked z s g p op key)
 
-inputs-alike : (z : ℕ) (s : Setting) (f g : Spot → List ℕ) (p : Progress) (i : Instruction) (op : Op) (l : List (List ℕ)) → every (agree f g) (allSpots z s) ≡ true
+inputs-alike : (z : ℕ) (s : Setting) (f g : Spot → List ℕ) (p : Progress) (i : Instruction) (op : Op) (l : List (List ℕ)) → every (λ x. agree f g (x .spot)) (seatsOf z s p) ≡ true
     → judgedInputs z (withWay kept s) f p i op l ≡ judgedInputs z (withWay worked s) g p i op l
 unfolding judgedInputs judgedSource readOnlyMode freeCopies withWay
 inputs-alike z s f g p i op l h =
     ap (λ (from : Source). pick (not (wellFormed op l)) 23 (pick (both (changes op) (readOnlyMode (s .terms))) 24 (pick (not (isThere from)) 25 (judgedSource z s p (i .proof) from op (argsOf op l)))))
     (source-alike z s f g p op (argsOf op l .key) h)
 
-pub judged-alike : (z : ℕ) (s : Setting) (f g : Spot → List ℕ) (p : Progress) (i : Instruction) (l : List (List ℕ)) → every (agree f g) (allSpots z s) ≡ true
+pub judged-alike : (z : ℕ) (s : Setting) (f g : Spot → List ℕ) (p : Progress) (i : Instruction) (l : List (List ℕ)) → every (λ x. agree f g (x .spot)) (seatsOf z s p) ≡ true
     → judged z (withWay kept s) f p i l ≡ judged z (withWay worked s) g p i l
 unfolding judged withWay
 judged-alike z s f g p i l h = ap (λ (n : ℕ). pick (illFormed i) 21 (pick (pastEnd (s .terms .head .length) i) 22 n)) (inputs-alike z s f g p i (opOf (i .name)) l h)

@@ -31,7 +31,7 @@ unfolding twins
 are-twins id p q u v =
     both-join _ _ (has-held id p u) (both-join _ _ (has-held id q v) (eq-same _ _ (same-eq (p .id) id (has-same id p u) ∙ sym (same-eq (q .id) id (has-same id q v)))))
 
-none-has : (id : List ℕ) (p : Place) (ps : List Place) → hasId id p ≡ true → some (twins p) ps ≡ false → every (λ q. not (hasId id q)) ps ≡ true
+pub none-has : (id : List ℕ) (p : Place) (ps : List Place) → hasId id p ≡ true → some (twins p) ps ≡ false → every (λ q. not (hasId id q)) ps ≡ true
 unfolding every some
 none-has id p [] u h = refl
 none-has id p (q ∷ qs) u h =

@@ -19,9 +19,9 @@ use Rattle.host.specs.Empty.{none, noPlace}
 use Rattle.host.specs.Places.{hasId, whose, committed, taken}
 use Rattle.host.specs.Order.{placeInOrder, slotInOrder}
 use Rattle.host.specs.Facts.{Staged}
-use Rattle.rules.specs.View.{Setting, parent, spotOf, parentSpots, committedSpots, allSpots}
-use Rattle.rules.specs.Roots.{firstRoot}
-use Rattle.rules.specs.Plan.{Source, missing, seen, spots, unlessNone, contractSource, sectorSource, sourceOf}
+use Rattle.rules.specs.View.{Setting, readOnlyMode, parent, spotOf, parentSpots, committedSpots}
+use Rattle.rules.specs.Seats.{seated, committedSeats, seats, seatsOf, firstSeat}
+use Rattle.rules.specs.Plan.{Source, missing, seen, spots, contractSource, soughtSource, sectorSource, sourceOf}
 use Rattle.rules.specs.Facts.{Solid, startOf, valid}
 use Rattle.rules.proofs.Laws.Staged.{slot-none}
 use Rattle.rules.proofs.Laws.Areas.{either-second as second-not}
@@ -31,6 +31,9 @@ use Rattle.host.specs.declared.Place.{Place}
 use Rattle.host.specs.declared.Progress.{Progress}
 use Rattle.rules.specs.declared.Spot.{Spot}
 use Rattle.rules.specs.declared.Spot.the-variants.{OnDisk, InStage}
+use Rattle.rules.specs.declared.Seat.{Seat}
+use Rattle.rules.specs.declared.Sought.{Sought}
+use Rattle.rules.specs.declared.Sought.the-variants.{At, Nowhere}
 
 -- ---- spots are slots that there are
 
@@ -112,21 +115,54 @@ unfolding every each
 disk-every P [] h = refl
 disk-every P (x ∷ xs) h = both-join _ _ (both-left _ _ h) (disk-every P xs (both-right _ _ h))
 
-first-every : (P : Spot → Bool) (f : Spot → List ℕ) (key : List ℕ) (l : List Spot) → every P l ≡ true → every P (firstRoot f key l) ≡ true
-unfolding firstRoot every
-first-every P f key [] h = refl
-first-every P f key (x ∷ xs) h =
-    every-pick P _ (x ∷ []) (firstRoot f key xs) (both-join _ _ (both-left _ _ h) refl) (first-every P f key xs (both-right _ _ h))
+seated-every : (P : Spot → Bool) (i at : ℕ) (l : List Spot) → every P l ≡ true → every (λ x. P (x .spot)) (seated i at l) ≡ true
+unfolding seated every
+seated-every P i at [] h = refl
+seated-every P i at (x ∷ xs) h = both-join _ _ (both-left _ _ h) (seated-every P i (suc at) xs (both-right _ _ h))
 
-unless-every : (P : Spot → Bool) (l : List Spot) → every P l ≡ true → every P (spots (unlessNone l)) ≡ true
-unfolding unlessNone spots
-unless-every P [] h = h
-unless-every P (x ∷ xs) h = h
+every-both : {A : Type 0} (p : A → Bool) (l m : List A) → every p l ≡ true → every p m ≡ true → every p (l ++ m) ≡ true
+unfolding every
+every-both p [] m u v = v
+every-both p (x ∷ xs) m u v = both-join _ _ (both-left _ _ u) (every-both p xs m (both-right _ _ u) v)
 
-pub sector-every : (P : Spot → Bool) (z : ℕ) (s : Setting) (f : Spot → List ℕ) (key : List ℕ) → every P (allSpots z s) ≡ true
-    → every P (spots (sectorSource z s f key)) ≡ true
-unfolding sectorSource
-sector-every P z s f key h = unless-every P _ (first-every P f key (allSpots z s) h)
+no-seats : (Q : Seat → Bool) → every Q [] ≡ true
+unfolding every
+no-seats Q = refl
+
+module _ (P : Spot → Bool) (z : ℕ) (mine : Place → Bool) where
+  committed-every : (i : ℕ) (ps : List Place) → every (λ n. P (OnDisk n)) (taken z ps) ≡ true
+      → every (λ x. P (x .spot)) (committedSeats z mine i ps) ≡ true
+  unfolding committedSeats taken joined committedSpots
+  committed-every i [] h = no-seats _
+  committed-every i (p ∷ ps) h =
+      let l = seated i 0 (committedSpots z p) in
+      let own = seated-every P i 0 (committedSpots z p) (disk-every P (committed z p) (every-fore _ (committed z p) _ h)) in
+      every-both (λ (x : Seat). P (x .spot)) (pick (mine p) [] l) (committedSeats z mine (suc i) ps)
+      (every-pick (λ (x : Seat). P (x .spot)) (mine p) [] l (no-seats _) own)
+      (committed-every (suc i) ps (every-aft _ (committed z p) _ h))
+
+  pub seats-every : (own : List Spot) (ps : List Place) → every P own ≡ true → every (λ n. P (OnDisk n)) (taken z ps) ≡ true
+      → every (λ x. P (x .spot)) (seats z mine own ps) ≡ true
+  unfolding seats
+  seats-every own ps u v = every-both (λ (x : Seat). P (x .spot)) _ _ (seated-every P _ 0 own u) (committed-every 0 ps v)
+
+-- what is true of the parent's sectors and of all committed ones is true of all that a program looks through
+pub program-every : (P : Spot → Bool) (z : ℕ) (s : Setting) (p : Progress) → every P (parentSpots z s p) ≡ true
+    → every (λ n. P (OnDisk n)) (taken z (s .places)) ≡ true → every (λ x. P (x .spot)) (seatsOf z s p) ≡ true
+unfolding seatsOf every
+program-every P z s p u v =
+    every-pick (λ (x : Seat). P (x .spot)) (readOnlyMode (s .terms)) _ _ (seats-every P z _ [] (s .places) refl v)
+    (seats-every P z _ (parentSpots z s p) (s .places) u v)
+
+-- and so of the one that is found
+pub sought-every : (P : Spot → Bool) (f : Spot → List ℕ) (key : List ℕ) (l : List Seat) → every (λ x. P (x .spot)) l ≡ true
+    → every P (spots (soughtSource (firstSeat f key l))) ≡ true
+unfolding firstSeat soughtSource spots every
+sought-every P f key [] h = refl
+sought-every P f key (x ∷ xs) h =
+    by (same (f (x .spot)) key)
+    (λ e. rw (picks (same (f (x .spot)) key) (At x) (firstSeat f key xs) e) (both-join _ _ (both-left _ _ h) refl))
+    (λ e. rw (skips (same (f (x .spot)) key) (At x) (firstSeat f key xs) e) (sought-every P f key xs (both-right _ _ h)))
 
 none-valid : (s : Setting) → every (valid s) [] ≡ true
 unfolding every
@@ -182,9 +218,9 @@ module _ (z : ℕ) (s : Setting) (p : Progress) (solid : Solid z s) (f : Staged 
       ∙ every-pick (valid s) _ (parentSpots z s p) _ parent-valid (disk-valid s (committed z (whose id (s .places))) (whose-every _ z id (s .places) (solid .slots))))
 
   pub source-valid : (r : Spot → List ℕ) (op : Op) (key : List ℕ) → every (valid s) (spots (sourceOf z s r p op key)) ≡ true
-  unfolding sourceOf spots allSpots
+  unfolding sourceOf sectorSource spots valid
   source-valid r Read key = contract-valid key
-  source-valid r ReadSector key = sector-every (valid s) z s r key (disk-valid s (taken z (s .places)) (solid .slots))
+  source-valid r ReadSector key = sought-every (valid s) r key (seatsOf z s p) (program-every (valid s) z s p parent-valid (solid .slots))
   source-valid r Write key = none-valid s
   source-valid r Copy key = none-valid s
   source-valid r Swap key = none-valid s
@@ -218,13 +254,10 @@ unfolding each
 length-each [] = refl
 length-each (x ∷ xs) = ap suc (length-each xs)
 
-few-first : (f : Spot → List ℕ) (key : List ℕ) (l : List Spot) → length (spots (unlessNone (firstRoot f key l))) ≤ 1
-unfolding firstRoot unlessNone spots
-few-first f key [] = omega arith
-few-first f key (x ∷ xs) =
-    by (same (f x) key)
-    (λ e. rw (picks (same (f x) key) (x ∷ []) (firstRoot f key xs) e) (omega arith))
-    (λ e. rw (skips (same (f x) key) (x ∷ []) (firstRoot f key xs) e) (few-first f key xs))
+few-sought : (r : Sought) → length (spots (soughtSource r)) ≤ 1
+unfolding soughtSource spots
+few-sought (At x) = omega arith
+few-sought Nowhere = omega arith
 
 few-pick : (b : Bool) (l m : List Spot) → length l ≤ 64 → length m ≤ 64 → length (pick b l m) ≤ 64
 unfolding pick
@@ -245,7 +278,7 @@ pub few-spots : (z : ℕ) (s : Setting) (f : Spot → List ℕ) (p : Progress) (
     → length (spots (sourceOf z s f p op key)) ≤ 64
 unfolding sourceOf sectorSource spots
 few-spots z s f p Read key h u = few-contract z s p key h u
-few-spots z s f p ReadSector key h u = omega (arith, few-first f key (allSpots z s))
+few-spots z s f p ReadSector key h u = omega (arith, few-sought (firstSeat f key (seatsOf z s p)))
 few-spots z s f p Write key h u = omega arith
 few-spots z s f p Copy key h u = omega arith
 few-spots z s f p Swap key h u = omega arith

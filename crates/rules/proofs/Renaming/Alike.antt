@@ -9,7 +9,7 @@ use Rattle.host.proofs.Renaming.Places.{in-order-as}
 use Rattle.host.specs.declared.Host.{Host}
 use Rattle.host.proofs.Renaming.Contracts.{formedAs, forming-as, dropping-as}
 use Rattle.rules.proofs.Renaming.Opening.{openedAs, opening-as}
-use Rattle.rules.proofs.Renaming.Programs.{interruptedAs, interrupt-as, reached-as, piece-as}
+use Rattle.rules.proofs.Renaming.Programs.{interruptedAs, interrupt-as, reached-as, locating-as, piece-as}
 use Rattle.rules.proofs.Renaming.Closing.{closedAs, close-as}
 
 pub alike : (r : List ℕ → List ℕ) → Renaming r → (h : Host) (a : Areas) → Alike r h a
@@ -22,5 +22,6 @@ alike r new h a = record {
   piece = λ input bytes bytes′ long long′ asks. piece-as r new h a input bytes bytes′ long long′ asks .is;
   interrupt = interrupt-as r new (a .disk) h (a .output);
   reached = reached-as r new (a .disk) h (a .stage);
+  locating = locating-as r new h;
   closing = λ g. close-as r new (a .disk) h (a .stage) (g .agree) (g .size) (g .root);
 }

@@ -80,7 +80,7 @@ module _ (r : List ℕ → List ℕ) (new : Renaming r) where
       → sourceOf z (settingAs r new s) f p op (keyAs op key) ≡ sourceOf z s f p op key
   unfolding sourceOf
   source-as z s f p Read key = contract-as r new z s p key
-  source-as z s f p ReadSector key = sector-as r new z s f key
+  source-as z s f p ReadSector key = sector-as r new z s f p key
   source-as z s f p Write key = refl
   source-as z s f p Copy key = refl
   source-as z s f p Swap key = refl

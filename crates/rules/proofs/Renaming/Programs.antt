@@ -1,18 +1,19 @@
--- Pieces, interrupts and what a program has reached, under new ids: down the two chains of each call side by side, and what runs then runs
+-- Pieces, interrupts, what a program has reached and the look-up of a root, under new ids: down the two chains of each call side by side, and what runs then runs
 -- alike. Assumes nothing.
-use mathlib.Core.Path.{_≡_, refl, ap, ap₂, _∙_}
-use mathlib.Core.Bool.{true, not}
+use mathlib.Core.Path.{_≡_, refl, sym, ap, ap₂, _∙_}
+use mathlib.Core.Bool.{Bool, true, not}
 use mathlib.Core.List.{List, []}
 use Prim.Native.Nat.{ℕ, _+_}
 use lib.ListN.{length}
 use lib.Dec.{ltb, eqb}
 use borrow.Author.Tests.{not-false}
-use Rattle.area.specs.Pick.{both}
+use Rattle.area.specs.Pick.{pick, both}
 use Rattle.area.specs.Area.{put}
 use Rattle.area.proofs.Laws.Pick.{by, picks, skips}
 use Rattle.host.specs.With.{withProgram, withCame, withProgress, withStageRoots}
 use Rattle.rules.specs.View.{Setting, setting, Turn, settingOf, turnOf, withRun, diskRight, areasRight, settingBy}
-use Rattle.rules.specs.Roots.{rootOf}
+use Rattle.rules.specs.Roots.{keptRoot, rootBy, rootOf}
+use Rattle.rules.specs.Seats.{allSeats, seatsOf, firstSeat, seatsIn, notLocated, locatedAt, locatedBy, located}
 use Rattle.rules.specs.Run.{going, run}
 use Rattle.rules.specs.Calls.{Pieced, pieced, accepted, inputRight, outputRight, piece, Interrupted, interrupted, stopped, interrupt, acceptedBy, pieceBy, interruptBy, stoppedBy, reachedBy, reachedPairBy}
 use Rattle.rules.specs.Calls.{reachedPair, reachedAt, reached}
@@ -20,10 +21,11 @@ use Rattle.rules.specs.Visit.{Areas, gives}
 use Rattle.host.specs.Renaming.{Renaming, termsAs, hostAs}
 use Rattle.rules.specs.Renaming.{AsksAs}
 use Rattle.host.proofs.Renaming.Places.{allAs, terms-as, in-order-as}
-use Rattle.rules.proofs.Renaming.Sight.{settingAs, starting-as, running-as}
+use Rattle.rules.proofs.Renaming.Sight.{settingAs, starting-as, running-as, all-seats-as, seats-of-as}
 use Rattle.rules.proofs.Renaming.Steps.{run-as, failing-as}
 use Rattle.host.specs.declared.Terms.{Terms}
 use Rattle.host.specs.declared.Host.{Host}
+use Rattle.rules.specs.declared.Seat.{Seat}
 use Rattle.rules.specs.declared.Reached.{Reached}
 use Rattle.host.proofs.Laws.Ways.{down, downs}
 use Rattle.host.proofs.Renaming.Contracts.{active-as}
@@ -114,6 +116,25 @@ module _ (r : List ℕ → List ℕ) (new : Renaming r) where
       down still _ _ _ _ _ _ (ap not (areas-as h disk stage)) (λ _. refl) (λ _.
       down still _ _ _ _ _ _ (ap not (active-as r new h)) (λ _. refl) (λ live.
       ap (reachedAt 0) (reached-pair-as disk h stage (not-false _ live)))))
+
+  -- ---- the look-up of a root
+
+  seats-in-as : (h : Host) → seatsIn (hostAs r h) ≡ seatsIn h
+  unfolding seatsIn hostAs
+  seats-in-as h =
+      let z = h .sector in
+      let p = h .program .progress in
+      let all = allSeats z (h .places) in
+      by (h .program .active)
+      (λ e. picks (h .program .active) _ _ e ∙ ap (λ (s : Setting). seatsOf z s p) (setting-as h [] e) ∙ seats-of-as r new z (settingOf h []) p
+      ∙ sym (picks (h .program .active) (seatsOf z (settingOf h []) p) all e))
+      (λ e. skips (h .program .active) _ _ e ∙ all-seats-as r new z (h .places) ∙ sym (skips (h .program .active) (seatsOf z (settingOf h []) p) all e))
+
+  pub locating-as : (h : Host) (key : List ℕ) → located (hostAs r h) key ≡ located h key
+  unfolding locatedBy rootOf rootBy settingBy hostAs
+  locating-as h key =
+      let f = keptRoot (h .diskroots) (h .stageroots) in
+      ap₂ (λ (b : Bool) (l : List Seat). pick (not b) (notLocated 1) (locatedAt (firstSeat f key l))) (in-order-as r new h) (seats-in-as h)
 
   -- ---- pieces
 

@@ -1,16 +1,22 @@
 -- What is seen under new ids: the same sectors, so the same pairs. Assumes nothing.
-use mathlib.Core.Path.{_≡_}
-use mathlib.Core.List.{List}
-use Prim.Native.Nat.{ℕ}
-use Rattle.host.specs.Places.{whose}
-use Rattle.rules.specs.View.{Setting, parent, parentSpots, committedSpots, allSpots}
+use mathlib.Core.Path.{_≡_, refl, ap₂}
+use mathlib.Core.Bool.{Bool}
+use mathlib.Core.List.{List, [], _∷_, _++_}
+use Prim.Native.Nat.{ℕ, suc}
+use Rattle.area.specs.Pick.{pick}
+use Rattle.host.specs.Lists.{each, firstOf}
+use Rattle.host.specs.Places.{hasId, whose, committed}
+use Rattle.rules.specs.View.{Setting, parent, readOnlyMode, parentSpots, committedSpots}
+use Rattle.rules.specs.Seats.{seated, committedSeats, seats, nobody, allSeats, seatsOf}
 use Rattle.rules.specs.Roots.{rootOf}
 use Rattle.rules.specs.Plan.{contractSource, sectorSource}
 use Rattle.rules.specs.Record.{pairOf, startingPair, runningPair}
 use Rattle.host.specs.Renaming.{Renaming, placeAs, termsAs}
-use Rattle.host.proofs.Renaming.Places.{allAs, whose-as, taken-as, committed-as}
+use Rattle.host.proofs.Renaming.Places.{word-as, has-as, allAs, whose-as, committed-as}
+use Rattle.host.specs.declared.Place.{Place}
 use Rattle.host.specs.declared.Progress.{Progress}
 use Rattle.rules.specs.declared.Spot.{Spot}
+use Rattle.rules.specs.declared.Seat.{Seat}
 
 module _ (r : List ℕ → List ℕ) (new : Renaming r) where
   abbrev pub settingAs : Setting → Setting
@@ -46,6 +52,34 @@ module _ (r : List ℕ → List ℕ) (new : Renaming r) where
       let c = s .terms .head .contract in
       rw (whose-as r new id (s .places), spots-as z s p, committed-as r new z (whose id (s .places)), new .differ id c)
 
-  pub sector-as : (z : ℕ) (s : Setting) (f : Spot → List ℕ) (key : List ℕ) → sectorSource z (settingAs s) f key ≡ sectorSource z s f key
-  unfolding sectorSource allSpots
-  sector-as z s f key = rw (taken-as r new z (s .places))
+  -- the places that a test passes are as many before the first, and the others have the same sectors
+  module _ (z : ℕ) (mine mine′ : Place → Bool) (alike : (p : Place) → mine′ (placeAs r p) ≡ mine p) where
+    first-as : (ps : List Place) → firstOf mine′ (allAs r new ps) ≡ firstOf mine ps
+    unfolding firstOf each
+    first-as [] = refl
+    first-as (p ∷ ps) = ap₂ (λ (b : Bool) (n : ℕ). pick b 0 (suc n)) (alike p) (first-as ps)
+
+    others-as : (i : ℕ) (ps : List Place) → committedSeats z mine′ i (allAs r new ps) ≡ committedSeats z mine i ps
+    unfolding committedSeats committedSpots committed each
+    others-as i [] = refl
+    others-as i (p ∷ ps) =
+        ap₂ (λ (b : Bool) (l : List Seat). pick b [] (seated i 0 (committedSpots z p)) ++ l) (alike p) (others-as (suc i) ps)
+
+    seats-as : (own : List Spot) (ps : List Place) → seats z mine′ own (allAs r new ps) ≡ seats z mine own ps
+    unfolding seats
+    seats-as own ps = ap₂ (λ (n : ℕ) (l : List Seat). seated n 0 own ++ l) (first-as ps) (others-as 0 ps)
+
+  pub all-seats-as : (z : ℕ) (ps : List Place) → allSeats z (allAs r new ps) ≡ allSeats z ps
+  unfolding nobody
+  all-seats-as z ps = seats-as z nobody nobody (λ p. refl) [] ps
+
+  pub seats-of-as : (z : ℕ) (s : Setting) (p : Progress) → seatsOf z (settingAs s) p ≡ seatsOf z s p
+  unfolding seatsOf readOnlyMode
+  seats-of-as z s p =
+      let id = s .terms .head .contract in
+      rw (word-as r new id, all-seats-as z (s .places), spots-as z s p, seats-as z (hasId id) (hasId (r id)) (has-as r new id) (parentSpots z s p) (s .places))
+
+  pub sector-as : (z : ℕ) (s : Setting) (f : Spot → List ℕ) (p : Progress) (key : List ℕ)
+      → sectorSource z (settingAs s) f p key ≡ sectorSource z s f p key
+  unfolding sectorSource
+  sector-as z s f p key = rw (seats-of-as z s p)

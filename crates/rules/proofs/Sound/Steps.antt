@@ -16,7 +16,8 @@ use Rattle.sia.specs.Names.{opOf}
 use Rattle.sia.specs.Encode.{every}
 use Rattle.host.specs.With.{withRunning, withStaged}
 use Rattle.host.specs.Places.{taken}
-use Rattle.rules.specs.View.{Way, kept, worked, Setting, Turn, parent, parentSpots, committedSpots, allSpots}
+use Rattle.rules.specs.View.{Way, kept, worked, Setting, Turn, readOnlyMode, parent, parentSpots, committedSpots}
+use Rattle.rules.specs.Seats.{seatsOf}
 use Rattle.rules.specs.Roots.{rootOf, rootAt, rootOnDisk}
 use Rattle.rules.specs.Inputs.{nth, Args, argsOf, inputsOf}
 use Rattle.rules.specs.Plan.{Source, spots, sourceOf, cost, touched, newSize, proofCount, outputCount, recordCount, judged}
@@ -33,7 +34,7 @@ use Rattle.rules.proofs.Laws.Trails.{trail-zero, trail-go, trail-stop}
 use Rattle.rules.proofs.Laws.Wrote.{Wrote, wrote-effect}
 use Rattle.rules.proofs.Laws.Rehashed.{rehashed-right}
 use Rattle.rules.proofs.Laws.Areas.{rehashed-length}
-use Rattle.rules.proofs.Laws.Readers.{agree, every-none, root-agree, proof-agree, all-start, all-spots, all-parent, all-source, withWay, Known, known-disk, known-stage, source-alike, judged-alike}
+use Rattle.rules.proofs.Laws.Readers.{agree, every-none, root-agree, proof-agree, all-start, all-seats, all-parent, all-source, withWay, Known, known-disk, known-stage, source-alike, judged-alike}
 use Rattle.sia.specs.declared.Op.{Op}
 use Rattle.sia.specs.declared.Op.the-variants.{Read, ReadSector, Write, Copy, Swap, Truncate, Unknown}
 use Rattle.sia.specs.declared.Instruction.{Instruction}
@@ -87,8 +88,12 @@ module _ (z : ℕ) (s : Setting) (t : Turn) (solid : Solid z (withWay kept s)) (
   unfolding withWay
   disk-known = known .disk
 
-  now-agree : every (agree (rootAt z (withWay kept s) t) (rootAt z (withWay worked s) t)) (allSpots z s) ≡ true
-  now-agree = all-spots z s _ (known-disk z s (t .stage) (t .roots) disk-known)
+  now-agree : every (λ x. agree (rootAt z (withWay kept s) t) (rootAt z (withWay worked s) t) (x .spot)) (seatsOf z s (t .progress)) ≡ true
+  unfolding withWay seatsOf readOnlyMode parentSpots parent
+  now-agree =
+      all-seats z (withWay kept s) (t .progress) solid (good .orderly .staged) (few-sectors z (withWay kept s) (t .progress) (solid .lent) good)
+      (good .entries) (known .shaped) _
+      (known-disk z s (t .stage) (t .roots) disk-known) (known-stage z s (t .stage) (t .roots) (t .progress .staged) (known .stage))
 
   source-same : (op : Op) (key : List ℕ) → sourceOf z (withWay kept s) (rootAt z (withWay kept s) t) (t .progress) op key ≡ sourceOf z (withWay worked s) (rootAt z (withWay worked s) t) (t .progress) op key
   source-same op key = source-alike z s _ _ (t .progress) op key now-agree
