@@ -1,20 +1,16 @@
 -- The plan of an instruction: its number and, where it can run, all that its effect and its record start from. f reads roots. Assumes
 -- nothing.
-use mathlib.Core.Path.{_≡_}
-use mathlib.Core.Bool.{Bool, true, not}
+use mathlib.Core.Bool.{Bool, not}
 use mathlib.Core.List.{List, []}
 use Prim.Native.Nat.{ℕ}
 use lib.Dec.{eqb}
 use Rattle.area.specs.Pick.{pick, both}
 use Rattle.sia.specs.Names.{opOf}
-use Rattle.sia.specs.Encode.{every}
-use Rattle.host.specs.Places.{taken}
-use Rattle.host.specs.Order.{placeInOrder}
 use Rattle.rules.specs.View.{Setting, readOnlyMode}
 use Rattle.rules.specs.Inputs.{inputsOf, argsOf}
 use Rattle.rules.specs.Plan.{changes, isThere, spots, sourceOf, cost, newSize, proofCount, recordCount, judged}
 use Rattle.rules.specs.Facts.{Lent}
-use Rattle.view.specs.Seen.{spotsOf, holds}
+use Rattle.view.specs.Seen.{spotsOf}
 use Rattle.sia.specs.declared.Op.{Op}
 use Rattle.sia.specs.declared.Instruction.{Instruction}
 use Rattle.host.specs.declared.Progress.{Progress}
@@ -23,13 +19,13 @@ use Rattle.pricing.specs.Numbers.{numbers}
 use Rattle.judging.specs.Weighed.{weighed}
 use Rattle.inputs.specs.Given.{placed, noArgs, fromOf}
 use Rattle.inputs.specs.declared.Args.{Args}
+use Rattle.plan.specs.Source.{Sources}
 use Rattle.plan.specs.declared.Plan.{Plan}
 
--- what a plan asks: the numbers of a host in order, and a root kept beside each disk slot in use
-pub record Plans (z : ℕ) (s : Setting) (diskroots : List ℕ) : Type 0 where
+-- what a plan asks: the numbers of a host in order, and what its look-up asks
+pub record Plans (z : ℕ) (s : Setting) (p : Progress) (diskroots stageroots : List ℕ) : Type 0 where
   pub lent : Lent z s
-  pub small : every (placeInOrder z) (s .places) ≡ true
-  pub roots : every (holds 32 diskroots) (taken z (s .places)) ≡ true
+  pub sources : Sources z diskroots stageroots (s .places) (s .terms) p
 
 -- what a plan says: of what is read, the sectors
 pub record Said : Type 0 where

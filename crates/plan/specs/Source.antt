@@ -1,9 +1,25 @@
--- What is read, as the code says it: whether it is there, and its sectors. Assumes nothing.
+-- What is read, as the code says it: whether it is there, and its sectors; and what its look-up asks. Assumes nothing.
 use mathlib.Core.Path.{_≡_}
+use mathlib.Core.Bool.{true}
+use mathlib.Core.List.{List}
+use Prim.Native.Nat.{ℕ, _*_, _≤_}
+use lib.ListN.{length}
+use Rattle.host.specs.Order.{parentInOrder}
 use Rattle.rules.specs.Plan.{isThere, spots}
 use Rattle.rules.specs.Plan as Says
 use Rattle.view.specs.Seen.{spotsOf}
+use Rattle.sights.specs.Asks.{Seeks}
+use Rattle.host.specs.declared.Place.{Place}
+use Rattle.host.specs.declared.Terms.{Terms}
+use Rattle.host.specs.declared.Progress.{Progress}
 use Rattle.plan.specs.declared.Source.{Source}
+
+-- of a program in order: a root kept beside each slot in use, of which a host has at most 64 on the disk and 16 in the stage
+pub record Sources (z : ℕ) (diskroots stageroots : List ℕ) (ps : List Place) (t : Terms) (p : Progress) : Type 0 where
+  pub seeks : Seeks z diskroots stageroots ps (t .head .contract) (p .staged) (p .size)
+  pub parent : parentInOrder ps (t .head .contract) (p .size) ≡ true
+  pub disk : length diskroots ≤ 64 * 32
+  pub stage : length stageroots ≤ 16 * 32
 
 -- the definitions' source; it has no sectors where it is missing
 pub record Shows (r : Source) (from : Says.Source) : Type 0 where

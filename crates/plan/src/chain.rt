@@ -69,7 +69,7 @@ fn argued<'a>(
     diskroots: &'a [u8],
     stageroots: &'a [u8],
 ) -> Plan
-    requires { ⌜ Plans z (setting sectors copies places terms [] []) (now diskroots) ⌝ }
+    requires { ⌜ Plans z (setting sectors copies places terms [] []) p (now diskroots) (now stageroots) ⌝ }
     requires { ⌜ Good z (setting sectors copies places terms [] []) p ⌝ }
     ensures { λ r. ⌜ said r ≡ argued z (setting sectors copies places terms [] []) (keptRoot (now (diskroots .entry)) (now (stageroots .entry))) p asked op args ⌝ }
 {
@@ -114,7 +114,7 @@ pub fn planned<'a>(
     stageroots: &'a [u8],
     input: &[u8],
 ) -> Plan
-    requires { ⌜ Plans z (setting sectors copies places terms [] []) (now diskroots) ⌝ }
+    requires { ⌜ Plans z (setting sectors copies places terms [] []) p (now diskroots) (now stageroots) ⌝ }
     requires { ⌜ Good z (setting sectors copies places terms [] []) p ⌝ }
     requires { ⌜ length (now input) ≡ terms .head .length ⌝ }
     ensures { λ r. ⌜ said r ≡

@@ -3,6 +3,7 @@ use crate::Source;
 use host::Place;
 use host::Progress;
 use host::Terms;
+use rules::Sought;
 use sia::Op;
 use view::Seen;
 ghost use mathlib.Core.Path.{_≡_};
@@ -10,14 +11,13 @@ ghost use mathlib.Core.Bool.{true, false};
 ghost use mathlib.Core.List.{[]};
 ghost use Rattle.area.specs.Slots.{Size};
 ghost use Rattle.sia.specs.Encode.{every};
-ghost use Rattle.host.specs.Places.{taken};
 ghost use Rattle.host.specs.Order.{placeInOrder};
 ghost use Rattle.rules.specs.View.{setting};
 ghost use Rattle.rules.specs.Roots.{keptRoot};
 ghost use Rattle.rules.specs.Plan.{contractSource, sectorSource, sourceOf, missing};
 ghost use Rattle.rules.specs.Plan as Says;
-ghost use Rattle.view.specs.Seen.{spotsOf, holds};
-ghost use Rattle.plan.specs.Source.{Shows};
+ghost use Rattle.view.specs.Seen.{spotsOf};
+ghost use Rattle.plan.specs.Source.{Sources, Shows};
 
 // No sectors.
 pub fn no_sectors() -> Seen
@@ -71,22 +71,29 @@ fn contract_source(z: u64, places: [Place; 8], terms: Terms, p: Progress, key: [
     Source { there: true, seen }
 }
 
-// ReadSector: the first committed sector with that root.
+// ReadSector: the sector that has that root, of the parent as it is now, or else of another contract.
 fn sector_source<'a>(
     z: u64,
     diskroots: &'a [u8],
     stageroots: &'a [u8],
     places: [Place; 8],
     terms: Terms,
+    p: Progress,
     key: [u8; 32],
 ) -> Source
-    requires { ⌜ Size z ⌝ }
-    requires { ⌜ every (holds 32 (now diskroots)) (taken z places) ≡ true ⌝ }
-    ensures { λ r. ⌜ Shows r (sectorSource z (setting 0 0 places terms [] []) (keptRoot (now (diskroots .entry)) (now (stageroots .entry))) key) ⌝ }
+    requires { ⌜ Sources z (now diskroots) (now stageroots) places terms p ⌝ }
+    ensures { λ r. ⌜ Shows r (sectorSource z (setting 0 0 places terms [] []) (keptRoot (now (diskroots .entry)) (now (stageroots .entry))) p key) ⌝ }
 {
-    let seen = sights::find_root(z, diskroots, stageroots, places, key);
-    let there = seen.count != 0;
-    Source { there, seen }
+    let head = terms.head;
+    let id = head.contract;
+    let staged = p.staged;
+    let found = sights::find_root(z, diskroots, stageroots, places, id, staged, p.size, key);
+    let Sought::At(seat) = found else {
+        return Source::missing();
+    };
+    let spot = seat.spot;
+    let seen = sights::one(spot);
+    Source { there: true, seen }
 }
 
 // What an instruction reads. Where nothing is found it is not there.
@@ -100,14 +107,12 @@ pub fn source_of<'a>(
     op: Op,
     key: [u8; 32],
 ) -> Source
-    requires { ⌜ Size z ⌝ }
-    requires { ⌜ every (placeInOrder z) places ≡ true ⌝ }
-    requires { ⌜ every (holds 32 (now diskroots)) (taken z places) ≡ true ⌝ }
+    requires { ⌜ Sources z (now diskroots) (now stageroots) places terms p ⌝ }
     ensures { λ r. ⌜ Shows r (sourceOf z (setting 0 0 places terms [] []) (keptRoot (now (diskroots .entry)) (now (stageroots .entry))) p op key) ⌝ }
 {
     match op {
         Op::Read => contract_source(z, places, terms, p, key),
-        Op::ReadSector => sector_source(z, diskroots, stageroots, places, terms, key),
+        Op::ReadSector => sector_source(z, diskroots, stageroots, places, terms, p, key),
         Op::Write => Source::nothing(),
         Op::Copy => Source::nothing(),
         Op::Swap => Source::nothing(),

@@ -1,2 +1,3 @@
 -- The laws, a file for each subject.
 pub mod Sights
+pub mod Lookup

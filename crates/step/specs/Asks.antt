@@ -7,13 +7,11 @@ use lib.ListN.{length, drop}
 use Rattle.area.specs.Area.{part, tab}
 use Rattle.area.specs.Slots.{Size}
 use Rattle.sia.specs.Encode.{every}
-use Rattle.host.specs.Places.{committed}
-use Rattle.host.specs.Order.{placeInOrder}
 use Rattle.rules.specs.View.{kept, Setting, Turn, spotOf}
 use Rattle.rules.specs.Plan.{reads}
 use Rattle.rules.specs.Run.{going}
 use Rattle.rules.specs.Facts.{Solid, Good}
-use Rattle.view.specs.Seen.{holds, lies}
+use Rattle.view.specs.Seen.{lies}
 use Rattle.staging.specs.Parts.{ground, staging, args}
 use Rattle.staging.specs.Asks as Effect
 use Rattle.rehashing.specs.Asks.{Rehashes}
@@ -23,12 +21,6 @@ use Rattle.host.specs.declared.Place.{Place}
 use Rattle.sia.specs.declared.Op.the-variants.{Write}
 use Rattle.host.specs.declared.Progress.{Progress}
 use Rattle.plan.specs.declared.Plan.{Plan}
-
--- a contract in order with a root kept beside each of its slots
-pub record Stands (z : ℕ) (diskroots : List ℕ) (p : Place) : Type 0 where
-  pub size : Size z
-  pub order : placeInOrder z p ≡ true
-  pub slots : every (holds 32 diskroots) (committed z p) ≡ true
 
 -- the parent's sectors up to its running size, a root kept beside each
 pub record Reads (z : ℕ) (diskroots stageroots : List ℕ) (p : Place) (g : Progress) : Type 0 where

@@ -8,7 +8,8 @@ ghost use Rattle.rules.specs.View.{spotOf, committedSpots};
 ghost use Rattle.rules.specs.Roots.{keptRoot, contractRoot};
 ghost use Rattle.rules.specs.Record.{pairOf, recordBytes};
 ghost use Rattle.rules.specs.Run.{failedProgress};
-ghost use Rattle.step.specs.Asks.{Stands, Reads};
+ghost use Rattle.sights.specs.Asks.{Stands};
+ghost use Rattle.step.specs.Asks.{Reads};
 use host::Place;
 use host::Progress;
 

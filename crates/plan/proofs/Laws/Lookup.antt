@@ -2,11 +2,10 @@
 use mathlib.Core.Path.{_≡_, refl, sym, ap, _∙_, subst}
 use mathlib.Core.Bool.{true, false, not}
 use mathlib.Core.List.{List, [], _∷_}
-use Prim.Native.Nat.{ℕ, suc}
+use Prim.Native.Nat.{ℕ, _+_, _*_, _≤_}
 use native.Mathlib.Omega.{arith}
 use lib.ListN.{length}
-use lib.Dec.{eqb}
-use borrow.Author.Tests.{ne-eqb}
+use borrow.Author.Tests.{leb-true}
 use Rattle.area.specs.Pick.{pick}
 use Rattle.area.specs.Area.{same}
 use Rattle.area.proofs.Laws.Pick.{yes, no, by, picks, skips, both-left, both-right}
@@ -15,16 +14,25 @@ use Rattle.sia.specs.Encode.{every}
 use Rattle.host.specs.Empty.{noPlace}
 use Rattle.host.specs.Places.{hasId, whose}
 use Rattle.host.specs.Order.{placeInOrder}
-use Rattle.rules.specs.View.{Setting, parent, parentSpots, committedSpots}
-use Rattle.rules.specs.Plan.{missing, seen, spots, isThere, contractSource, unlessNone}
+use Rattle.rules.specs.View.{Setting, setting, parent, parentSpots, committedSpots}
+use Rattle.rules.specs.Roots.{keptRoot}
+use Rattle.rules.specs.Seats.{seats, firstSeat}
+use Rattle.rules.specs.Plan.{missing, seen, spots, isThere, contractSource, soughtSource, sectorSource}
+use Rattle.rules.proofs.Laws.Spots.{seats-every, sought-every}
+use Rattle.rules.proofs.Laws.Homes.{seats-program}
 use Rattle.rules.specs.Plan as Says
-use Rattle.view.specs.Seen.{spotsOf}
-use Rattle.view.proofs.Laws.Roots.{seen-count}
+use Rattle.view.specs.Seen.{spotsOf, holds, lies}
+use Rattle.sights.specs.Asks.{Narrow, ownSpots}
 use Rattle.host.specs.declared.Place.{Place}
+use Rattle.host.specs.declared.Terms.{Terms}
 use Rattle.host.specs.declared.Progress.{Progress}
 use Rattle.rules.specs.declared.Spot.{Spot}
+use Rattle.rules.specs.declared.Spot.the-variants.{OnDisk, InStage}
+use Rattle.rules.specs.declared.Seat.{Seat}
+use Rattle.rules.specs.declared.Sought.{Sought}
+use Rattle.rules.specs.declared.Sought.the-variants.{At, Nowhere}
 use Rattle.view.specs.declared.Seen.{Seen}
-use Rattle.plan.specs.Source.{Shows}
+use Rattle.plan.specs.Source.{Sources, Shows}
 use Rattle.plan.specs.declared.Source.{Source}
 
 pub shows-as : (r : Source) (x y : Says.Source) → x ≡ y → Shows r x → Shows r y
@@ -73,17 +81,44 @@ parent-whose s id e = ap (λ (k : List ℕ). whose k (s .places)) (same-eq _ _ e
 
 -- ---- sectors
 
-pub shows-first : (v : Seen) (l : List Spot) → spotsOf v ≡ l → Shows (record { there = not (eqb (v .count) 0); seen = v }) (unlessNone l)
-unfolding unlessNone isThere spots
-shows-first v l e = record {
-  there = ap (λ (n : ℕ). not (eqb n 0)) (sym (seen-count v) ∙ ap (λ (x : List Spot). length x) e) ∙ some l;
-  sectors = e
-      ∙ sym (all l);
-} where
-  some : (x : List Spot) → not (eqb (length x) 0) ≡ isThere (unlessNone x)
-  some [] = refl
-  some (y ∷ ys) = ap not (ne-eqb (suc (length ys)) 0 (λ (q : suc (length ys) ≡ 0). omega arith))
+-- a slot whose root is kept has a number that a byte holds
+narrow : (diskroots stageroots : List ℕ) (x : Spot) → length diskroots ≤ 64 * 32 → length stageroots ≤ 16 * 32
+    → lies 32 diskroots stageroots x ≡ true → Narrow x
+unfolding lies holds
+narrow diskroots stageroots (OnDisk n) d e h = omega (arith, d, leb-true (n * 32 + 32) (length diskroots) h)
+narrow diskroots stageroots (InStage n) d e h = omega (arith, e, leb-true (n * 32 + 32) (length stageroots) h)
 
-  all : (x : List Spot) → spots (unlessNone x) ≡ x
-  all [] = refl
-  all (y ∷ ys) = refl
+module _ (z : ℕ) (diskroots stageroots : List ℕ) (ps : List Place) (t : Terms) (p : Progress) (a : Sources z diskroots stageroots ps t p)
+    (key : List ℕ) where
+  abbrev bare : Setting
+  bare = setting 0 0 ps t [] []
+
+  abbrev f : Spot → List ℕ
+  f = keptRoot diskroots stageroots
+
+  abbrev own : List Spot
+  own = ownSpots z ps (t .head .contract) (p .staged) (p .size)
+
+  -- what the look-up comes to is the source
+  module _ {r : Sought} (e : r ≡ firstSeat f key (seats z (hasId (t .head .contract)) own ps)) where
+    pub source-is : soughtSource r ≡ sectorSource z bare f p key
+    unfolding sectorSource parentSpots parent
+    source-is = ap soughtSource (e ∙ ap (firstSeat f key) (seats-program z bare p (a .seeks .stand .order) (a .parent)))
+
+    -- and the sector that is found is in a slot that a byte names
+    pub sought-narrow : (x : Seat) → r ≡ At x → Narrow (x .spot)
+    unfolding soughtSource spots every lies
+    sought-narrow x q =
+        let all = seats-every (lies 32 diskroots stageroots) z (hasId (t .head .contract)) own ps (a .seeks .own) (a .seeks .stand .slots) in
+        let one = sought-every (lies 32 diskroots stageroots) f key _ all in
+        narrow diskroots stageroots (x .spot) (a .disk) (a .stage)
+        (both-left _ _ (sym (ap (λ (s : Sought). every (lies 32 diskroots stageroots) (spots (soughtSource s))) (sym e ∙ q)) ∙ one))
+
+    pub shows-sought : (v : Seen) (x : Seat) → r ≡ At x → spotsOf v ≡ x .spot ∷ []
+        → Shows (record { there = true; seen = v }) (sectorSource z bare f p key)
+    unfolding soughtSource
+    shows-sought v x q s = shows-as _ _ _ (sym (ap soughtSource q) ∙ source-is) (shows-seen v _ s)
+
+    pub not-sought : (v : Source) → r ≡ Nowhere → Shows v missing → Shows v (sectorSource z bare f p key)
+    unfolding soughtSource
+    not-sought v q s = shows-as v _ _ (sym (ap soughtSource q) ∙ source-is) s

@@ -12,7 +12,8 @@ use Rattle.area.proofs.Laws.Pick.{yes, no, by, picks, skips}
 use Rattle.sia.specs.Names.{opOf}
 use Rattle.sia.proofs.Laws.Limits.{within-is}
 use Rattle.host.proofs.Laws.Order.{terms-facts}
-use Rattle.rules.specs.View.{Setting, setting, readOnlyMode, freeCopies, parent, parentSpots, allSpots}
+use Rattle.rules.specs.View.{Setting, setting, readOnlyMode, freeCopies, parent, parentSpots}
+use Rattle.rules.specs.Seats.{seatsOf}
 use Rattle.rules.specs.Inputs.{Args, illFormed, pastEnd, inputsOf, wellFormed, argsOf}
 use Rattle.rules.specs.Plan.{changes, Source, isThere, spots, contractSource, sectorSource, sourceOf, cost, newSize, proofCount, recordCount}
 use Rattle.rules.specs.Plan.{judgedSource, judgedInputs, judged}
@@ -35,7 +36,7 @@ use Rattle.plan.proofs.Laws.Alike.{weighed-real}
 
 pub source-same : (z : ℕ) (s : Setting) (f : Spot → List ℕ) (p : Progress) (op : Op) (key : List ℕ)
     → sourceOf z (setting 0 0 (s .places) (s .terms) [] []) f p op key ≡ sourceOf z s f p op key
-unfolding sourceOf contractSource parentSpots parent sectorSource allSpots
+unfolding sourceOf contractSource parentSpots parent sectorSource seatsOf readOnlyMode
 source-same z s f p Read key = refl
 source-same z s f p ReadSector key = refl
 source-same z s f p Write key = refl

@@ -1,28 +1,37 @@
--- The parent of a host in order is in one place, the first that has its id. Assumes nothing.
-use mathlib.Core.Path.{_≡_, refl, sym, ap, _∙_}
-use mathlib.Core.Bool.{true, false, not}
-use mathlib.Core.List.{List, [], _∷_}
-use Prim.Native.Nat.{ℕ, zero, suc}
+-- The parent of a host in order is in one place, the first that has its id; in read-only mode, and with no program, no contract is the parent.
+-- z is the sector size. Assumes nothing.
+use mathlib.Core.Path.{_≡_, refl, sym, ap, ap₂, _∙_}
+use mathlib.Core.Bool.{Bool, true, false, not}
+use mathlib.Core.List.{List, [], _∷_, _++_}
+use Prim.Native.Nat.{ℕ, zero, suc, _/_}
+use native.Mathlib.Nat.{zero-div}
 use native.Mathlib.Omega.{arith}
 use lib.ListN.{getD}
-use borrow.Author.Tests.{not-true}
+use lib.Dec.{eqb}
+use borrow.Author.Tests.{not-true, eqb-true}
 use Rattle.area.specs.Pick.{pick}
-use Rattle.area.proofs.Laws.Pick.{by, picks, skips, never}
-use Rattle.tree.specs.Tree as Tree
+use Rattle.area.specs.Area.{same, tab}
+use Rattle.area.proofs.Laws.Pick.{by, picks, skips, never, both-left, both-right}
+use Rattle.area.proofs.Laws.Same.{same-eq}
+use Rattle.sia.specs.Names.{readOnly}
+use Rattle.sia.specs.Encode.{every}
 use Rattle.host.specs.Lists.{apart, firstOf}
 use Rattle.host.specs.Empty.{noPlace}
 use Rattle.host.specs.Places.{hasId, whose}
-use Rattle.host.specs.Order.{twins}
-use Rattle.rules.specs.View.{Setting}
-use Rattle.rules.specs.View.{parent}
-use Rattle.rules.specs.Seats.{nobody}
+use Rattle.host.specs.Order.{placeInOrder, twins, parentInOrder}
+use Rattle.rules.specs.View.{Setting, readOnlyMode, parent, spotOf, parentSpots, committedSpots}
+use Rattle.rules.specs.Seats.{seated, committedSeats, seats, nobody, allSeats, seatsOf}
 use Rattle.rules.specs.StageFirst.{writing, reading}
 use Rattle.rules.proofs.Laws.Search.{Apart}
 use Rattle.rules.proofs.Laws.Split.{none-has}
 use Rattle.rules.proofs.Laws.Spots.{every-at}
+use Rattle.rules.proofs.Laws.Areas.{either-second}
 use Rattle.rules.proofs.Laws.Pigeons.{tail-apart}
 use Rattle.host.specs.declared.Place.{Place}
 use Rattle.host.specs.declared.Progress.{Progress}
+use Rattle.rules.specs.declared.Seat.{Seat}
+
+-- ---- one place
 
 no-id : (id : List ℕ) → hasId id noPlace ≡ false
 unfolding hasId noPlace pick
@@ -62,3 +71,41 @@ apart-writing z s p a held = record {
   one = one-place (s .terms .head .contract) (s .places) a;
   there = λ h. first-place (s .terms .head .contract) (s .places) held;
 }
+
+-- ---- in read-only mode, and with no program, nobody is the parent
+
+-- no contract in order is under the ReadOnly word
+not-read-only : (z : ℕ) (p : Place) → placeInOrder z p ≡ true → hasId readOnly p ≡ false
+unfolding placeInOrder hasId
+not-read-only z p o =
+    by (p .held)
+    (λ e. picks (p .held) (same (p .id) readOnly) false e ∙ not-true _ (both-left _ _ (either-second (p .held) _ o e)))
+    (λ e. skips (p .held) (same (p .id) readOnly) false e)
+
+none-left-out : (z i : ℕ) (ps : List Place) → every (placeInOrder z) ps ≡ true
+    → committedSeats z (hasId readOnly) i ps ≡ committedSeats z nobody i ps
+unfolding committedSeats nobody every
+none-left-out z i [] h = refl
+none-left-out z i (p ∷ ps) h =
+    ap₂ (λ (b : Bool) (l : List Seat). pick b [] (seated i 0 (committedSpots z p)) ++ l) (not-read-only z p (both-left _ _ h))
+    (none-left-out z (suc i) ps (both-right _ _ h))
+
+pub seats-of-all : (z : ℕ) (ps : List Place) → every (placeInOrder z) ps ≡ true → seats z (hasId readOnly) [] ps ≡ allSeats z ps
+unfolding seats seated
+seats-of-all z ps h = none-left-out z 0 ps h
+
+-- what a program looks through, whatever its mode: in read-only mode its size is 0
+pub seats-program : (z : ℕ) (s : Setting) (p : Progress) → every (placeInOrder z) (s .places) ≡ true
+    → parentInOrder (s .places) (s .terms .head .contract) (p .size) ≡ true
+    → seats z (hasId (s .terms .head .contract)) (parentSpots z s p) (s .places) ≡ seatsOf z s p
+unfolding seatsOf readOnlyMode parentInOrder parentSpots tab
+seats-program z s p h o =
+    let id = s .terms .head .contract in
+    let now = seats z (hasId id) (parentSpots z s p) (s .places) in
+    by (same id readOnly)
+    (λ e. let size = eqb-true (p .size) 0 (sym (picks (same id readOnly) (eqb (p .size) 0) (whose id (s .places) .held) e) ∙ o) in
+    let none : p .size / z ≡ 0 = ap (λ (n : ℕ). n / z) size ∙ zero-div z in
+    ap₂ (λ (k : List ℕ) (n : ℕ). seats z (hasId k) (tab 0 n (spotOf (parent s .slots) (p .staged))) (s .places)) (same-eq id readOnly e) none
+    ∙ seats-of-all z (s .places) h
+    ∙ sym (picks (same id readOnly) (allSeats z (s .places)) now e))
+    (λ e. sym (skips (same id readOnly) (allSeats z (s .places)) now e))

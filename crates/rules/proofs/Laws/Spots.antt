@@ -54,12 +54,12 @@ unfolding pick
 either-second true b e f = never f
 either-second false b e f = e
 
-every-fore : {A : Type 0} (p : A → Bool) (l m : List A) → every p (l ++ m) ≡ true → every p l ≡ true
+pub every-fore : {A : Type 0} (p : A → Bool) (l m : List A) → every p (l ++ m) ≡ true → every p l ≡ true
 unfolding every
 every-fore p [] m h = refl
 every-fore p (x ∷ xs) m h = both-join _ _ (both-left _ _ h) (every-fore p xs m (both-right _ _ h))
 
-every-aft : {A : Type 0} (p : A → Bool) (l m : List A) → every p (l ++ m) ≡ true → every p m ≡ true
+pub every-aft : {A : Type 0} (p : A → Bool) (l m : List A) → every p (l ++ m) ≡ true → every p m ≡ true
 unfolding every
 every-aft p [] m h = h
 every-aft p (x ∷ xs) m h = every-aft p xs m (both-right _ _ h)

@@ -4,11 +4,11 @@ use mathlib.Core.Bool.{Bool, true, false, not}
 use mathlib.Core.List.{List, [], _∷_}
 use Prim.Native.Nat.{ℕ, _+_, _*_, _≤_}
 use native.Mathlib.Omega.{arith}
-use lib.ListN.{length, length-append}
+use lib.ListN.{length, length-append, length-replicate}
 use lib.Dec.{ltb, eqb}
 use borrow.Author.Tests.{le-leb, le-ltb, eq-eqb, eqb-true}
 use Rattle.area.specs.Pick.{pick, both}
-use Rattle.area.specs.Area.{put}
+use Rattle.area.specs.Area.{put, zeros}
 use Rattle.area.proofs.Laws.Pick.{skips, both-left, both-right, both-join}
 use Rattle.area.proofs.Laws.Puts.{length-put}
 use Rattle.host.specs.With.{withProgram, withCame, withProgress, withStageRoots}
@@ -41,6 +41,12 @@ pub record Taking (disk : List ℕ) (w : Pieced) : Type 0 where
 pub order-lent : (h : Host) (disk : List ℕ) → inOrder h ≡ true → Lent (h .sector) (settingOf h disk)
 unfolding settingBy
 order-lent h disk e = let o = order-facts h e in record { size = o .size; few = o .stageMost; most = o .diskMost }
+
+-- areas of zeros, of the lengths that a host states: where its sectors are, and the roots kept beside them, do not hang on what is lent
+pub blank-right : (h : Host) → areasRight h (zeros (h .disk * h .sector)) (zeros (h .stage * h .sector)) ≡ true
+unfolding areasRight diskRight
+blank-right h =
+    both-join _ _ (eq-eqb _ _ (length-replicate {A = ℕ} (h .disk * h .sector) 0)) (eq-eqb _ _ (length-replicate {A = ℕ} (h .stage * h .sector) 0))
 
 -- a host in order whose areas are right
 pub order-solid : (h : Host) (disk stage : List ℕ) → inOrder h ≡ true → areasRight h disk stage ≡ true → Solid (h .sector) (settingOf h disk)

@@ -3,17 +3,15 @@ use mathlib.Core.Path.{_≡_, sym, ap, _∙_}
 use mathlib.Core.Bool.{true, not}
 use mathlib.Core.List.{List, [], _∷_}
 use Prim.Native.Nat.{ℕ, _*_}
-use lib.ListN.{length-replicate}
-use borrow.Author.Tests.{eq-eqb}
 use Rattle.area.specs.Pick.{pick}
 use Rattle.area.specs.Area.{zeros}
-use Rattle.area.proofs.Laws.Pick.{by, picks, skips, both-left, both-join}
+use Rattle.area.proofs.Laws.Pick.{by, picks, skips, both-left}
 use Rattle.area.proofs.Laws.Same.{same-eq}
 use Rattle.tree.specs.Tree as Tree
 use Rattle.sia.specs.Encode.{every}
 use Rattle.host.specs.Places.{taken}
 use Rattle.host.specs.Order.{inOrder}
-use Rattle.rules.specs.View.{Way, kept, worked, settingBy, settingOf, diskRight, areasRight, readOnlyMode, sector, parent, parentSpots}
+use Rattle.rules.specs.View.{Way, kept, worked, settingBy, settingOf, readOnlyMode, sector, parent, parentSpots}
 use Rattle.rules.specs.Roots.{sectorRoot, rootBy, rootOf}
 use Rattle.rules.specs.Seats.{nobody, allSeats, seatsOf, seatsIn, notLocated, locatedAt, locatedBy}
 use Rattle.rules.specs.Plan.{Source, seen, spots, sectorSource}
@@ -21,19 +19,13 @@ use Rattle.rules.specs.Visit.{Sound}
 use Rattle.rules.proofs.Laws.Sought.{source-root}
 use Rattle.rules.proofs.Laws.Spots.{seats-every, program-every, sought-every}
 use Rattle.rules.proofs.Laws.Readers.{agree, every-none, first-agree, all-parent, withWay, known-disk, known-stage}
-use Rattle.rules.proofs.Laws.Taking.{order-solid, order-good}
+use Rattle.rules.proofs.Laws.Taking.{blank-right, order-solid, order-good}
 use Rattle.rules.proofs.Sound.Steps.{few-sectors}
 use Rattle.rules.proofs.Sound.Programs.{sound-order, sound-disk, sound-stage}
 use Rattle.host.specs.declared.Host.{Host}
 use Rattle.rules.specs.declared.Spot.{Spot}
 use Rattle.rules.specs.declared.Spot.the-variants.{OnDisk}
 use Rattle.rules.specs.declared.Sought.{Sought}
-
--- a disk and a stage of the right lengths: where the sectors of a host are does not hang on what is lent
-blank-areas : (h : Host) → areasRight h (zeros (h .disk * h .sector)) (zeros (h .stage * h .sector)) ≡ true
-unfolding areasRight diskRight
-blank-areas h =
-    both-join _ _ (eq-eqb _ _ (length-replicate {A = ℕ} (h .disk * h .sector) 0)) (eq-eqb _ _ (length-replicate {A = ℕ} (h .stage * h .sector) 0))
 
 module _ (h : Host) (disk stage : List ℕ) (s : Sound h disk stage) where
   abbrev z : ℕ
@@ -55,7 +47,7 @@ module _ (h : Host) (disk stage : List ℕ) (s : Sound h disk stage) where
     unfolding settingBy withWay parentSpots parent
     parent-known =
         let blank = zeros (h .disk * h .sector) in
-        let solid = order-solid h blank (zeros (h .stage * h .sector)) o (blank-areas h) in
+        let solid = order-solid h blank (zeros (h .stage * h .sector)) o (blank-right h) in
         let good = order-good h blank o live (s .declared .staged) in
         all-parent z (settingOf h blank) (h .program .progress) solid (good .orderly .staged)
         (few-sectors z (settingOf h blank) (h .program .progress) (solid .lent) good) (good .entries) (s .declared .places) _ disk-known

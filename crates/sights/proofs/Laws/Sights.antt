@@ -1,23 +1,21 @@
--- What is seen of committed sectors, and of the first sector that has a root. z is the sector size. Assumes nothing.
+-- What is seen of committed sectors, and one sector. z is the sector size. Assumes nothing.
 use mathlib.Core.Path.{_≡_, refl, sym, ap, _∙_}
 use mathlib.Core.Bool.{true, false}
 use mathlib.Core.List.{List, [], _∷_}
 use Prim.Native.Nat.{ℕ, zero, suc, _+_, _/_, _≤_, _<_}
-use native.Mathlib.Numerals.{add-one}
 use native.Mathlib.Omega.{arith}
-use lib.ListN.{length, take, drop, getD, replicate, drop-of-length-le}
+use lib.ListN.{length, take, drop, getD, replicate}
 use lib.Seq.{drop-cons}
-use borrow.Author.Tests.{eq-eqb}
-use Rattle.area.specs.Area.{same, tab}
+use borrow.Author.Tests.{eq-eqb, ne-eqb}
+use Rattle.area.specs.Pick.{pick}
+use Rattle.area.specs.Area.{tab}
 use Rattle.area.proofs.Laws.Pick.{picks, skips, yes, no}
 use Rattle.host.specs.Lists.{each}
 use Rattle.host.specs.Empty.{none}
 use Rattle.host.specs.Places.{committed}
 use Rattle.host.specs.declared.Place.{Place}
 use Rattle.rules.specs.View.{spotOf, committedSpots}
-use Rattle.rules.specs.Roots.{firstRoot}
-use Rattle.rules.specs.declared.Spot.{Spot}
-use Rattle.rules.specs.declared.Spot.the-variants.{OnDisk}
+use Rattle.rules.specs.declared.Spot.the-variants.{OnDisk, InStage}
 
 -- ---- committed sectors: nothing is staged
 
@@ -50,24 +48,12 @@ pub seen-nothing : (z : ℕ) (p : Place) → p .held ≡ false → [] ≡ commit
 unfolding committedSpots committed each
 seen-nothing z p e = ap (each OnDisk) (no (p .held) (take (p .size / z) (p .slots)) [] e refl)
 
--- ---- one turn of the loop that looks for a root: slot i and those behind it are left. f reads roots
+-- ---- one sector, in all entries alike
 
-module _ (f : Spot → List ℕ) (key l : List ℕ) (i : ℕ) where
-  pub first-here : {n : ℕ} → i < length l → n ≡ getD l i 0 → same (f (OnDisk n)) key ≡ true
-      → OnDisk n ∷ [] ≡ firstRoot f key (each OnDisk (drop i l))
-  unfolding firstRoot each
-  first-here h q e = rw (drop-cons l i 0 h, ← q) (yes _ _ _ e refl)
+pub one-on-disk : (n : ℕ) → spotOf (replicate 64 n) (replicate 64 none) 0 ≡ OnDisk n
+unfolding spotOf pick
+one-on-disk n = refl
 
-  pub first-further : {n : ℕ} → i < length l → n ≡ getD l i 0 → same (f (OnDisk n)) key ≡ false
-      → firstRoot f key (each OnDisk (drop i l)) ≡ firstRoot f key (each OnDisk (drop (i + 1) l))
-  unfolding firstRoot each
-  first-further h q e = rw (drop-cons l i 0 h, ← q, add-one i) (skips _ _ _ e)
-
-  pub first-none : length l ≤ i → [] ≡ firstRoot f key (each OnDisk (drop i l))
-  unfolding firstRoot each
-  first-none h = rw (drop-of-length-le l {i = i} h)
-
--- of other slots that are the same
-pub first-same : (f : Spot → List ℕ) (key : List ℕ) {l m : List ℕ} {x : List Spot} → x ≡ firstRoot f key (each OnDisk l) → l ≡ m
-    → x ≡ firstRoot f key (each OnDisk m)
-first-same f key e q = e ∙ ap (λ (l : List ℕ). firstRoot f key (each OnDisk l)) q
+pub one-in-stage : (n m : ℕ) → n < 255 → spotOf (replicate 64 m) (replicate 64 n) 0 ≡ InStage n
+unfolding spotOf
+one-in-stage n m h = skips _ _ _ (ne-eqb n 255 (λ e. omega arith))

@@ -27,11 +27,12 @@ use Rattle.rules.proofs.Laws.Effects.{Passed, passed}
 use Rattle.rules.proofs.Laws.Areas.{effect-bytes, rehashed-length}
 use Rattle.rules.proofs.Laws.Kept.{ran-good}
 use Rattle.rules.proofs.Laws.Lengths.{length-proof, read-span, asked-reads, asked-right, well-formed, count-read, count-change}
-use Rattle.rules.proofs.Laws.Spots.{source-valid, few-spots, parent-valid}
+use Rattle.rules.proofs.Laws.Spots.{source-valid, few-spots}
 use Rattle.rules.proofs.Laws.Steps.{not-failed, left-going}
 use Rattle.view.specs.Seen.{spotsOf, Lies, Known, Inside, Ranged}
 use Rattle.view.proofs.Laws.Roots.{seen-count}
-use Rattle.view.proofs.Callers.{every-lies, seen-valid, seen-known, span-inside, range-ranged, span-output}
+use Rattle.sights.proofs.Callers.{program-seeks}
+use Rattle.view.proofs.Callers.{seen-valid, seen-known, span-inside, range-ranged, span-output}
 use Rattle.staging.specs.Parts.{ground, staging, args}
 use Rattle.staging.specs.Asks as Effect
 use Rattle.rehashing.specs.Asks.{Rehashes}
@@ -56,14 +57,13 @@ use Rattle.plan.specs.declared.Plan.{Plan}
 -- a root is kept beside each sector of the parent of a program in order
 pub reads-good : (z : ℕ) (s : Setting) (g : Progress) (diskroots stageroots : List ℕ) (q : Place) → Solid z s → Good z s g
     → length diskroots ≡ 2048 → length stageroots ≡ 512 → q ≡ parent s → Reads z diskroots stageroots q g
-unfolding parentSpots
+unfolding parent
 reads-good z s g diskroots stageroots q solid good d e own =
-    let few = size-few z s g (solid .lent) good in
+    let seeks = program-seeks z s diskroots stageroots solid d e g good in
     subst (λ (p : Place). Reads z diskroots stageroots p g) (sym own) (record {
       size = solid .lent .size;
-      few = few;
-      spots = every-lies 32 s diskroots stageroots (omega (arith, d, solid .lent .most)) (omega (arith, e, solid .lent .few)) _
-          (parent-valid z s g solid (good .orderly .staged) (omega (arith, good .entries)));
+      few = seeks .few;
+      spots = seeks .own;
     })
 
 -- a part that is as long as was asked lies within

@@ -1,7 +1,6 @@
 -- What a program that is going on a host in order gives the functions that take its instruction, and how a step comes to its failure or its
 -- success. z is the sector size. Assumes nothing.
 use mathlib.Core.Path.{_≡_, sym, ap, ap₂, _∙_, subst}
-use mathlib.Core.Bool.{true}
 use mathlib.Core.List.{List, []}
 use Prim.Native.Nat.{ℕ, _+_, _≤_, _<_}
 use native.Mathlib.Omega.{arith}
@@ -11,8 +10,8 @@ use borrow.Author.Tests.{eq-eqb, ne-eqb}
 use Rattle.area.specs.Area.{put}
 use Rattle.area.proofs.Laws.Pick.{picks, skips}
 use Rattle.sia.specs.Names.{opOf}
-use Rattle.sia.specs.Encode.{every}
-use Rattle.host.specs.Places.{whose, taken}
+use Rattle.host.specs.Places.{whose}
+use Rattle.host.proofs.Laws.Order.{terms-facts}
 use Rattle.rules.specs.View.{kept, Setting, setting, Turn, turn, parent}
 use Rattle.rules.specs.Roots.{keptRoot, rootAt}
 use Rattle.rules.specs.Inputs.{argsOf}
@@ -23,10 +22,11 @@ use Rattle.rules.specs.Facts.{Good}
 use Rattle.rules.proofs.Laws.Spots.{whose-every}
 use Rattle.rules.proofs.Laws.Steps.{not-failed, left-going}
 use Rattle.view.specs.Seen.{holds}
-use Rattle.view.proofs.Callers.{slots-hold}
+use Rattle.sights.specs.Asks.{Stands, Seeks}
+use Rattle.sights.proofs.Callers.{program-seeks}
 use Rattle.plan.specs.Planned.{Plans}
 use Rattle.plan.proofs.Laws.Lookup.{whose-in-order}
-use Rattle.step.specs.Asks.{Stands, Steps}
+use Rattle.step.specs.Asks.{Steps}
 use Rattle.step.proofs.Laws.Planned.{within-count}
 use Rattle.step.proofs.Laws.Readers.{reads-kept}
 use Rattle.sia.specs.declared.Instruction.{Instruction}
@@ -35,16 +35,20 @@ use Rattle.host.specs.declared.Progress.{Progress}
 use Rattle.rules.specs.declared.Spot.{Spot}
 
 module _ (z : ℕ) (s : Setting) (t : Turn) (input : List ℕ) (x : Steps z s t input) where
-  -- a root is kept beside each slot in use
-  roots-held : every (holds 32 (s .roots)) (taken z (s .places)) ≡ true
-  roots-held = slots-hold 32 (s .roots) (s .sectors) (taken z (s .places)) (omega (arith, x .solid .lent .most, x .diskroots)) (x .solid .slots)
+  -- what a look-up asks
+  seeks : Seeks z (s .roots) (t .roots) (s .places) (s .terms .head .contract) (t .progress .staged) (t .progress .size)
+  seeks = program-seeks z s (s .roots) (t .roots) (x .solid) (x .diskroots) (x .stageroots) (t .progress) (x .good)
 
   -- what a plan asks
-  pub plans : Plans z (setting (s .sectors) (s .copies) (s .places) (s .terms) [] []) (s .roots)
+  pub plans : Plans z (setting (s .sectors) (s .copies) (s .places) (s .terms) [] []) (t .progress) (s .roots) (t .roots)
   plans = record {
     lent = record { size = x .solid .lent .size; few = x .solid .lent .few; most = x .solid .lent .most };
-    small = x .solid .small;
-    roots = roots-held;
+    sources = record {
+      seeks = seeks;
+      parent = terms-facts _ _ _ (x .good .terms) .parent;
+      disk = omega (arith, x .diskroots);
+      stage = omega (arith, x .stageroots);
+    };
   }
 
   pub plans-good : Good z (setting (s .sectors) (s .copies) (s .places) (s .terms) [] []) (t .progress)
@@ -56,7 +60,7 @@ module _ (z : ℕ) (s : Setting) (t : Turn) (input : List ℕ) (x : Steps z s t 
       subst (Stands z (s .roots)) (sym own) (record {
         size = x .solid .lent .size;
         order = whose-in-order z (s .terms .head .contract) (s .places) (x .solid .small);
-        slots = whose-every (holds 32 (s .roots)) z (s .terms .head .contract) (s .places) roots-held;
+        slots = whose-every (holds 32 (s .roots)) z (s .terms .head .contract) (s .places) (seeks .stand .slots);
       })
 
   -- there is room for a failure

@@ -4,11 +4,11 @@ use mathlib.Core.Bool.{true}
 use mathlib.Core.List.{List, [], _∷_}
 use Prim.Native.Nat.{ℕ, _*_}
 use native.Mathlib.Omega.{arith}
-use lib.ListN.{length, length-replicate}
-use borrow.Author.Tests.{eqb-true, eq-eqb}
+use lib.ListN.{length}
+use borrow.Author.Tests.{eqb-true}
 use Rattle.area.specs.Pick.{pick}
 use Rattle.area.specs.Area.{zeros}
-use Rattle.area.proofs.Laws.Pick.{by, picks, skips, both-left, both-right, both-join}
+use Rattle.area.proofs.Laws.Pick.{by, picks, skips, both-left, both-right}
 use Rattle.sia.specs.Encode.{every}
 use Rattle.host.specs.Empty.{noPlace}
 use Rattle.host.specs.Places.{hasId, whose, taken}
@@ -19,10 +19,11 @@ use Rattle.rules.specs.Roots.{keptRoot, rootBy, rootOf}
 use Rattle.rules.specs.Record.{startingPair, runningPair}
 use Rattle.rules.specs.Calls.{outputRight}
 use Rattle.rules.proofs.Laws.Spots.{whose-every}
-use Rattle.rules.proofs.Laws.Taking.{order-good, order-solid, areas-stage}
+use Rattle.rules.proofs.Laws.Taking.{blank-right, order-good, order-solid, areas-stage}
 use Rattle.view.specs.Seen.{holds}
 use Rattle.view.proofs.Callers.{slots-hold}
-use Rattle.step.specs.Asks.{Stands, Reads}
+use Rattle.sights.specs.Asks.{Stands}
+use Rattle.step.specs.Asks.{Reads}
 use Rattle.step.proofs.Laws.Planned.{reads-good}
 use Rattle.turns.specs.Asks.{Ready, Runs}
 use Rattle.host.specs.declared.Place.{Place}
@@ -61,11 +62,6 @@ stands h id long e o =
       order = whose-order z id (h .places) (f .contracts .each);
       slots = whose-every (holds 32 (h .diskroots)) z id (h .places) held;
     })
-
--- areas of zeros, of the lengths that a host states: kept roots look at no byte of them
-blank-right : (h : Host) → areasRight h (zeros (h .disk * h .sector)) (zeros (h .stage * h .sector)) ≡ true
-unfolding areasRight diskRight
-blank-right h = both-join _ _ (eq-eqb _ _ (length-replicate {A = ℕ} (h .disk * h .sector) 0)) (eq-eqb _ _ (length-replicate {A = ℕ} (h .stage * h .sector) 0))
 
 -- the parent is read with a root kept beside each of its sectors
 pub reads : (h : Host) {p : Place} → length (h .program .progress .staged) ≡ 64 → length (h .diskroots) ≡ 2048 → length (h .stageroots) ≡ 512

@@ -88,8 +88,7 @@ returns c = yes _ _ _ (mode (c .before .before) ∙ c .before .if1 .taken) (c .f
 source-of-requires : tie.Need-source-of-requires
 source-of-requires c κs =
     let s = c .before .before .before .before .before .before .before in
-    let plans = s .pre .0 in
-    (plans .lent .size, (plans .small, plans .roots))
+    s .pre .0 .sources
 
 failed-requires-2 : tie.Need-failed-requires-2
 failed-requires-2 c κs = search needs
@@ -107,7 +106,7 @@ weighed-requires c κs =
     let s = start-2 at-source-of in
     let plans = s .pre .0 in
     let good = s .pre .1 in
-    let few = few-spots (s .args .z) (the-set s) (the-roots s) (s .args .p) (s .args .op) (s .args .args .key) (plans .small)
+    let few = few-spots (s .args .z) (the-set s) (the-roots s) (s .args .p) (s .args .op) (s .args .args .key) (plans .sources .seeks .stand .order)
     (size-few (s .args .z) (the-set s) (s .args .p) (plans .lent) good) in
     let many = sym (ap (λ (l : List Spot). length l) (shown at-source-of .sectors)) ∙ seen-count (at-source-of .source-of .result .seen) in (
       plans .lent .size,

@@ -22,16 +22,14 @@ enum-told c = search needs
 
 contract-source-requires : tie.Need-contract-source-requires
 contract-source-requires c κs =
-    let s = c .before .before .before .before in
-    (s .pre .0, s .pre .1 .0)
+    let stand = c .before .before .before .before .pre .seeks .stand in
+    (stand .size, stand .order)
 
 enum-told-2 : tie.Need-enum-told-2
 enum-told-2 c = search needs
 
 sector-source-requires : tie.Need-sector-source-requires
-sector-source-requires c κs =
-    let s = c .before .before .before .before in
-    (s .pre .0, s .pre .1 .1)
+sector-source-requires c κs = c .before .before .before .before .pre
 
 enum-told-3 : tie.Need-enum-told-3
 enum-told-3 c = search needs

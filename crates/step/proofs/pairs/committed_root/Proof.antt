@@ -1,7 +1,7 @@
 -- `step::pairs::committed_root` meets its contract. Assumes nothing.
 use mathlib.Core.Path.{ap, _∙_}
 use Rattle.rules.specs.Roots.{contractRoot}
-use Rattle.step.proofs.Laws.Sights.{committed-known}
+use Rattle.sights.proofs.Laws.Lookup.{committed-known}
 use borrow.Author.Needs.{needs}
 use Rattle.step.proofs.pairs.committed_root.Statement.{statement}
 use Rattle.step.proofs.pairs.committed_root.Tie as tie
@@ -13,7 +13,9 @@ slice-aggregate-contract-root : tie.Need-slice-aggregate-contract-root
 slice-aggregate-contract-root c = search needs
 
 contract-root-requires : tie.Need-contract-root-requires
-contract-root-requires c κs = committed-known _ _ _ _ _ (c .before .committed-seen .ensures .0) (c .before .before .before .pre)
+contract-root-requires c κs = 
+    let told = c .before .committed-seen .ensures in
+    committed-known _ _ _ _ _ (told .0) (told .1) (c .before .before .before .pre)
 
 returns : tie.Need-returns
 returns c = c .contract-root .ensures ∙ ap (contractRoot _) (c .before .before .committed-seen .ensures .0)

@@ -3,8 +3,8 @@ use mathlib.Core.Path.{refl}
 use native.Mathlib.Omega.{arith}
 use Rattle.area.specs.Area.{tab}
 use Rattle.view.specs.Seen.{spotsOf}
-use Rattle.sights.proofs.nothing.Statement.{statement}
-use Rattle.sights.proofs.nothing.Tie as tie
+use Rattle.sights.proofs.seen.nothing.Statement.{statement}
+use Rattle.sights.proofs.seen.nothing.Tie as tie
 
 returns : tie.Need-returns
 unfolding spotsOf tab

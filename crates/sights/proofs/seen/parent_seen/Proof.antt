@@ -2,8 +2,8 @@
 use mathlib.Core.Path.{refl}
 use borrow.Author.Needs.{needs}
 use Rattle.view.specs.Seen.{spotsOf}
-use Rattle.sights.proofs.parent_seen.Statement.{statement}
-use Rattle.sights.proofs.parent_seen.Tie as tie
+use Rattle.sights.proofs.seen.parent_seen.Statement.{statement}
+use Rattle.sights.proofs.seen.parent_seen.Tie as tie
 
 returns : tie.Need-returns
 unfolding spotsOf

@@ -8,8 +8,8 @@ use Rattle.host.specs.Empty.{none}
 use Rattle.host.proofs.Laws.Lengths.{placed}
 use Rattle.rules.proofs.Laws.Sizes.{place-size}
 use Rattle.sights.proofs.Laws.Sights.{none-staged, seen-committed, seen-nothing}
-use Rattle.sights.proofs.committed_seen.Statement.{statement}
-use Rattle.sights.proofs.committed_seen.Tie as tie
+use Rattle.sights.proofs.seen.committed_seen.Statement.{statement}
+use Rattle.sights.proofs.seen.committed_seen.Tie as tie
 
 nothing-requires : tie.Need-nothing-requires
 nothing-requires c κs = search needs

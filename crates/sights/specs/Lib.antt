@@ -1,0 +1,2 @@
+-- What the functions that look a root up ask of their callers.
+pub mod Asks
