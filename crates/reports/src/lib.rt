@@ -7,14 +7,15 @@ use host::Host;
 use host::Place;
 use host::Program;
 
-// What an item answered, and the host that it left; `root` is shown for `reached` alone, whose size stands for the tally.
+// What an item answered, and the host that it left. Of `reached` the size stands for the tally, of `sound` and `locate` yes or no. Behind the
+// three numbers the first `more` of `rest` are shown: the root of `reached`, and where `locate` found a sector.
 pub struct Made {
     pub fine: bool,
     pub number: u64,
     pub tally: u64,
     pub growth: i64,
-    pub rooted: bool,
-    pub root: [u8; 32],
+    pub more: usize,
+    pub rest: [u8; 32],
     pub host: Host,
 }
 
@@ -62,13 +63,21 @@ fn flag(report: &mut [u8], at: usize, yes: bool) -> usize
     number(report, at, 0)
 }
 
-// The 32 bytes of an id or a root.
+// The first n of 32 bytes.
+fn front(report: &mut [u8], at: usize, b: [u8; 32], n: usize) -> usize
+    requires { ⌜ (n ≤ 32) × (at + n ≤ length (now report)) ⌝ }
+    ensures { λ r. ⌜ r ≡ at + n ⌝ }
+{
+    area::copy_between(&b, 0, report, at, n);
+    at + n
+}
+
+// The 32 bytes of an id.
 fn bytes(report: &mut [u8], at: usize, b: [u8; 32]) -> usize
     requires { ⌜ at + 32 ≤ length (now report) ⌝ }
     ensures { λ r. ⌜ r ≡ at + 32 ⌝ }
 {
-    area::copy_between(&b, 0, report, at, 32);
-    at + 32
+    front(report, at, b, 32)
 }
 
 // A signed count in two's complement.
@@ -79,7 +88,7 @@ fn complement(n: i64) -> u64 {
     n as u64
 }
 
-// Number, tally (the size, for `reached`) and growth, and the root of `reached`.
+// Number, tally and growth, and what is shown behind them, at most 32 bytes.
 fn answer(made: Made, report: &mut [u8]) -> usize
     requires { ⌜ 56 ≤ length (now report) ⌝ }
     ensures { λ r. ⌜ r ≤ 56 ⌝ }
@@ -87,11 +96,11 @@ fn answer(made: Made, report: &mut [u8]) -> usize
     let one = number(report, 0, made.number);
     let two = number(report, one, made.tally);
     let three = number(report, two, complement(made.growth));
-    if made.rooted {
-        let root = made.root;
-        return bytes(report, three, root);
+    if 32 < made.more {
+        return three;
     }
-    three
+    let rest = made.rest;
+    front(report, three, rest, made.more)
 }
 
 fn whole_host(host: Host, report: &mut [u8], at: usize) -> usize

@@ -1,6 +1,6 @@
 -- "Look in the stage first.": what is proved of the look-up by root, of ReadSector and of the call `locate`. z is the sector size; f reads roots.
 -- Assumes nothing.
-use mathlib.Core.Path.{_≡_, refl, sym, ap, ap₂, _∙_}
+use mathlib.Core.Path.{_≡_, refl, sym, ap, ap₂, _∙_, subst}
 use mathlib.Core.Bool.{true, false, not}
 use mathlib.Core.List.{List, [], _∷_, _++_}
 use Prim.Native.Nat.{ℕ, suc, _+_, _/_, _≤_, _<_}
@@ -22,21 +22,24 @@ use Rattle.host.proofs.Laws.Order.{order-facts}
 use Rattle.rules.specs.View.{Way, Setting, Turn, settingBy, settingOf, turnOf, readOnlyMode, sector}
 use Rattle.rules.specs.View.{parent, spotOf, parentSpots, committedSpots}
 use Rattle.rules.specs.Roots.{sectorRoot, rootBy, rootOf, rootAt}
-use Rattle.rules.specs.Seats.{seated, committedSeats, seats, nobody, allSeats, seatsOf, firstSeat, seatsIn, notLocated, locatedBy}
-use Rattle.rules.specs.Plan.{seen, soughtSource, sectorSource, sourceOf}
+use Rattle.rules.specs.Seats.{seated, committedSeats, seats, nobody, allSeats, seatsOf, firstSeat, seatsIn, isStaged, notLocated, locatedAt, locatedBy}
+use Rattle.rules.specs.Inputs.{illFormed, pastEnd, wellFormed, argsOf}
+use Rattle.rules.specs.Plan.{Source, missing, seen, isThere, changes, soughtSource, sectorSource, sourceOf, judgedInputs, judged}
 use Rattle.rules.specs.Visit.{Areas, Sound}
-use Rattle.rules.specs.StageFirst.{isMine, sectorsAt, Sits, earlier, Finds, writing, reading, allSpots, firstRoot}
-use Rattle.rules.specs.StageFirst.{Looks, Reads, Locates, Soundly, StageFirst}
+use Rattle.rules.specs.StageFirst.{Search, isMine, sectorsAt, Sits, earlier, Finds, writing, reading, allSpots, firstRoot}
+use Rattle.rules.specs.StageFirst.{Looks, Reads, NotFound, Locates, Held, Soundly, StageFirst}
 use Rattle.rules.proofs.Laws.Sought.{first-here, first-further, source-root}
 use Rattle.rules.proofs.Laws.Search.{finds}
 use Rattle.rules.proofs.Laws.Homes.{first-place, apart-reading, apart-writing}
 use Rattle.rules.proofs.Sound.Look.{located-alike, read-bytes}
+use Rattle.sia.specs.declared.Op.{Op}
 use Rattle.sia.specs.declared.Op.the-variants.{ReadSector}
+use Rattle.sia.specs.declared.Instruction.{Instruction}
 use Rattle.host.specs.declared.Place.{Place}
 use Rattle.host.specs.declared.Progress.{Progress}
 use Rattle.host.specs.declared.Host.{Host}
 use Rattle.rules.specs.declared.Spot.{Spot}
-use Rattle.rules.specs.declared.Spot.the-variants.{OnDisk}
+use Rattle.rules.specs.declared.Spot.the-variants.{OnDisk, InStage}
 use Rattle.rules.specs.declared.Seat.{Seat}
 use Rattle.rules.specs.declared.Sought.{Sought}
 use Rattle.rules.specs.declared.Sought.the-variants.{At, Nowhere}
@@ -76,6 +79,10 @@ sought-first f key (x ∷ l) =
 
 -- ---- an instruction of a program that is open
 
+-- the same answer finds the same
+same-finds : (q : Search) (f : Spot → List ℕ) (key : List ℕ) {r s : Sought} → r ≡ s → Finds q f key r → Finds q f key s
+same-finds q f key e h = subst (Finds q f key) e h
+
 module _ (z : ℕ) (s : Setting) (f : Spot → List ℕ) (p : Progress) (key : List ℕ) where
   abbrev id : List ℕ
   id = s .terms .head .contract
@@ -86,6 +93,13 @@ module _ (z : ℕ) (s : Setting) (f : Spot → List ℕ) (p : Progress) (key : L
   seats-reading : readOnlyMode (s .terms) ≡ true → seatsOf z s p ≡ committedSeats z nobody 0 (s .places)
   unfolding seatsOf seats seated
   seats-reading e = picks (readOnlyMode (s .terms)) (allSeats z (s .places)) _ e
+
+  all-reading : readOnlyMode (s .terms) ≡ true → Finds (reading z (s .places)) f key found
+  unfolding seatsOf
+  all-reading e =
+      let l = allSeats z (s .places) in
+      let is : firstSeat f key l ≡ found = ap (firstSeat f key) (sym (picks (readOnlyMode (s .terms)) l _ e)) in
+      same-finds (reading z (s .places)) f key is (finds (reading z (s .places)) f key (apart-reading z (s .places)))
 
   look-reading : readOnlyMode (s .terms) ≡ true → sectorSource z s f p key ≡ firstRoot f key (allSpots z (s .places))
   unfolding sectorSource
@@ -100,8 +114,7 @@ module _ (z : ℕ) (s : Setting) (f : Spot → List ℕ) (p : Progress) (key : L
     look-writing =
         let l = seats z (hasId id) (parentSpots z s p) (s .places) in
         let is : firstSeat f key l ≡ found = ap (firstSeat f key) (sym (skips (readOnlyMode (s .terms)) (allSeats z (s .places)) l e)) in
-        let all = finds (writing z s p) f key (apart-writing z s p a held) in
-        record { found = λ x q. all .found x (is ∙ q); nowhere = λ q. all .nowhere (is ∙ q) }
+        same-finds (writing z s p) f key is (finds (writing z s p) f key (apart-writing z s p a held))
 
     -- the parent's sector at position j
     module _ (j : ℕ) (below : j < p .size / z) (root : f (spotOf (parent s .slots) (p .staged) j) ≡ key) where
@@ -158,7 +171,8 @@ module _ (z : ℕ) (s : Setting) (f : Spot → List ℕ) (p : Progress) (key : L
   looks-in a held = record {
     writer = λ e. look-writing a (held e) e;
     written = λ e j below root. (is-found a (held e) e j below root, λ x q. (in-parent a (held e) e j below root x q, not-later a (held e) e j below root x q));
-    reader = look-reading;
+    reader = all-reading;
+    unchanged = look-reading;
   }
 
 looks : (h : Host) → inOrder h ≡ true → h .program .active ≡ true → (disk : List ℕ) (f : Spot → List ℕ) (p : Progress) (key : List ℕ)
@@ -182,21 +196,41 @@ reads z s t key = record {
       ∙ source-root z s (rootAt z s t) (t .progress) key x e;
 }
 
+-- 25, down the chain of checks
+inputs-missing : (z : ℕ) (s : Setting) (f : Spot → List ℕ) (p : Progress) (i : Instruction) (l : List (List ℕ)) → wellFormed ReadSector l ≡ true
+    → sourceOf z s f p ReadSector (argsOf ReadSector l .key) ≡ missing → judgedInputs z s f p i ReadSector l ≡ 25
+unfolding judgedInputs changes isThere pick
+inputs-missing z s f p i l well none =
+    skips (not (wellFormed ReadSector l)) 23 _ (ap not well) ∙ picks (not (isThere (sourceOf z s f p ReadSector (argsOf ReadSector l .key)))) 25 _ (ap (λ (from : Source). not (isThere from)) none)
+
+refuses : (z : ℕ) (s : Setting) (t : Turn) → NotFound z s t
+unfolding judged
+refuses z s t i l formed within name well none =
+    skips (illFormed i) 21 _ formed ∙ skips (pastEnd (s .terms .head .length) i) 22 _ within
+    ∙ ap (λ (op : Op). judgedInputs z s (rootAt z s t) (t .progress) i op l) name
+    ∙ inputs-missing z s (rootAt z s t) (t .progress) i l well (reads z s t (argsOf ReadSector l .key) .misses none)
+
 -- ---- the call `locate`
 
 locates : (h : Host) (key : List ℕ) → Locates h key
-unfolding locatedBy seatsIn seats seated
+unfolding locatedBy locatedAt seatsIn seats seated
 locates h key = record {
   damaged = λ e. picks (not (inOrder h)) (notLocated 1) _ (ap not e);
-  says = λ e. skips (not (inOrder h)) (notLocated 1) _ (ap not e);
+  found = λ o x q. skips (not (inOrder h)) (notLocated 1) _ (ap not o) ∙ ap locatedAt q;
+  nowhere = λ o q. skips (not (inOrder h)) (notLocated 1) _ (ap not o) ∙ ap locatedAt q;
   program = λ e. picks (h .program .active) _ (allSeats (h .sector) (h .places)) e;
-  none = λ o e.
+  none = λ e.
       let f = rootOf (h .sector) (settingOf h []) [] (h .stageroots) in
-      let all = finds (reading (h .sector) (h .places)) f key (apart-reading (h .sector) (h .places)) in
       let is : firstSeat f key (allSeats (h .sector) (h .places)) ≡ firstSeat f key (seatsIn h) =
       ap (firstSeat f key) (sym (skips (h .program .active) _ (allSeats (h .sector) (h .places)) e)) in
-      record { found = λ x q. all .found x (is ∙ q); nowhere = λ q. all .nowhere (is ∙ q) };
+      same-finds (reading (h .sector) (h .places)) f key is
+      (finds (reading (h .sector) (h .places)) f key (apart-reading (h .sector) (h .places)));
 }
+
+held : (z : ℕ) (x : Spot) → Held z x
+unfolding isStaged sector
+held z (OnDisk n) = record { stage = λ e disk other stage. never (sym e); disk = λ e disk stage other. refl }
+held z (InStage n) = record { stage = λ e disk other stage. refl; disk = λ e disk stage other. never e }
 
 -- ---- on a sound host
 
@@ -208,4 +242,4 @@ soundly h a key s = record {
 }
 
 pub stage-first : StageFirst
-stage-first = record { looks = looks; reads = reads; locates = locates; soundly = soundly }
+stage-first = record { looks = looks; reads = reads; refuses = refuses; locates = locates; held = held; soundly = soundly }

@@ -8,6 +8,7 @@ use lib.Dec.{ltb, eqb}
 use Rattle.area.specs.Pick.{pick, both, either}
 use Rattle.area.specs.Area.{same}
 use Rattle.tree.specs.Tree as Tree
+use Rattle.sia.specs.Names.{opOf}
 use Rattle.host.specs.Lists.{each, firstOf}
 use Rattle.host.specs.Empty.{noPlace}
 use Rattle.host.specs.Places.{hasId, taken}
@@ -15,10 +16,12 @@ use Rattle.host.specs.Order.{inOrder}
 use Rattle.rules.specs.View.{kept, worked, Setting, Turn, settingOf, turnOf, readOnlyMode, sector, parent, spotOf}
 use Rattle.rules.specs.View.{parentSpots, committedSpots}
 use Rattle.rules.specs.Roots.{rootOf, rootAt}
-use Rattle.rules.specs.Seats.{nobody, seatsOf, firstSeat, seatsIn, notLocated, locatedAt, locatedBy, located}
-use Rattle.rules.specs.Plan.{Source, missing, seen, sectorSource, sourceOf}
+use Rattle.rules.specs.Seats.{nobody, seatsOf, firstSeat, seatsIn, isStaged, notLocated, locatedBy, located}
+use Rattle.rules.specs.Inputs.{illFormed, pastEnd, wellFormed, argsOf}
+use Rattle.rules.specs.Plan.{Source, missing, seen, sectorSource, sourceOf, judged}
 use Rattle.rules.specs.Visit.{Areas, Sound}
 use Rattle.sia.specs.declared.Op.the-variants.{ReadSector}
+use Rattle.sia.specs.declared.Instruction.{Instruction}
 use Rattle.host.specs.declared.Place.{Place}
 use Rattle.host.specs.declared.Progress.{Progress}
 use Rattle.host.specs.declared.Host.{Host}
@@ -96,12 +99,13 @@ pub record Looks (z : ℕ) (s : Setting) (f : Spot → List ℕ) (p : Progress) 
       → (firstSeat f key (seatsOf z s p) ≡ Nowhere → ⊥)
       × ((x : Seat) → firstSeat f key (seatsOf z s p) ≡ At x
       → (x .place ≡ firstOf (hasId (s .terms .head .contract)) (s .places)) × (x .position ≤ j))
-  -- "In read-only mode nothing changes."
-  pub reader : readOnlyMode (s .terms) ≡ true → sectorSource z s f p key ≡ firstRoot f key (allSpots z (s .places))
+  pub reader : readOnlyMode (s .terms) ≡ true → Finds (reading z (s .places)) f key (firstSeat f key (seatsOf z s p))
+  -- "In read-only mode nothing changes.": ReadSector reads what document 01 has it read
+  pub unchanged : readOnlyMode (s .terms) ≡ true → sectorSource z s f p key ≡ firstRoot f key (allSpots z (s .places))
 
 -- what ReadSector reads
 pub record Reads (z : ℕ) (s : Setting) (t : Turn) (key : List ℕ) : Type 0 where
-  -- the sector that the look-up finds, and no other; 25 is for none
+  -- the sector that the look-up finds, and no other
   pub finds : (x : Seat) → firstSeat (rootAt z s t) key (seatsOf z s (t .progress)) ≡ At x
       → sourceOf z s (rootAt z s t) (t .progress) ReadSector key ≡ seen (x .spot ∷ [])
   pub misses : firstSeat (rootAt z s t) key (seatsOf z s (t .progress)) ≡ Nowhere
@@ -110,16 +114,32 @@ pub record Reads (z : ℕ) (s : Setting) (t : Turn) (key : List ℕ) : Type 0 wh
   pub bytes : s .way ≡ worked → (x : Spot) → sourceOf z s (rootAt z s t) (t .progress) ReadSector key ≡ seen (x ∷ [])
       → Tree.root (sector z (s .disk) (t .stage) x) ≡ key
 
--- the call `locate`
+-- 25: "sector root not found". A ReadSector that none of 21 to 24 refuses is refused with it where no sector has the root
+abbrev pub NotFound : ℕ → Setting → Turn → Type 0
+NotFound z s t = (i : Instruction) (l : List (List ℕ)) → illFormed i ≡ false → pastEnd (s .terms .head .length) i ≡ false
+    → opOf (i .name) ≡ ReadSector → wellFormed ReadSector l ≡ true
+    → firstSeat (rootAt z s t) (argsOf ReadSector l .key) (seatsOf z s (t .progress)) ≡ Nowhere
+    → judged z s (rootAt z s t) (t .progress) i l ≡ 25
+
+-- what the call `locate` looks up, by the kept roots
+abbrev pub looked : Host → List ℕ → Sought
+looked h key = firstSeat (rootOf (h .sector) (settingOf h []) [] (h .stageroots)) key (seatsIn h)
+
 pub record Locates (h : Host) (key : List ℕ) : Type 0 where
+  -- its whole answers: 1; else "found or not, the place, the position, and whether the stage held it"
   pub damaged : inOrder h ≡ false → located h key ≡ notLocated 1
-  -- else it answers the place, the position and the stage of what the look-up finds, of an open program what ReadSector looks up
-  pub says : inOrder h ≡ true
-      → located h key ≡ locatedAt (firstSeat (rootOf (h .sector) (settingOf h []) [] (h .stageroots)) key (seatsIn h))
+  pub found : inOrder h ≡ true → (x : Seat) → looked h key ≡ At x
+      → located h key ≡ record { number = 0; found = true; place = x .place; position = x .position; staged = isStaged (x .spot) }
+  pub nowhere : inOrder h ≡ true → looked h key ≡ Nowhere → located h key ≡ notLocated 0
+  -- of an open program, failed or not, it looks through what ReadSector looks through, with no program through all committed sectors
   pub program : h .program .active ≡ true → seatsIn h ≡ seatsOf (h .sector) (settingOf h []) (h .program .progress)
-  pub none : inOrder h ≡ true → h .program .active ≡ false
-      → Finds (reading (h .sector) (h .places)) (rootOf (h .sector) (settingOf h []) [] (h .stageroots)) key
-      (firstSeat (rootOf (h .sector) (settingOf h []) [] (h .stageroots)) key (seatsIn h))
+  pub none : h .program .active ≡ false
+      → Finds (reading (h .sector) (h .places)) (rootOf (h .sector) (settingOf h []) [] (h .stageroots)) key (looked h key)
+
+-- "whether the stage held it": then a sector's bytes are the stage's, else the disk's
+pub record Held (z : ℕ) (x : Spot) : Type 0 where
+  pub stage : isStaged x ≡ true → (disk other stage : List ℕ) → sector z disk stage x ≡ sector z other stage x
+  pub disk : isStaged x ≡ false → (disk stage other : List ℕ) → sector z disk stage x ≡ sector z disk other x
 
 -- on a sound host, with its areas
 pub record Soundly (h : Host) (a : Areas) (key : List ℕ) : Type 0 where
@@ -135,5 +155,7 @@ pub record StageFirst : Type 0 where
   pub looks : (h : Host) → inOrder h ≡ true → h .program .active ≡ true → (disk : List ℕ) (f : Spot → List ℕ) (p : Progress) (key : List ℕ)
       → Looks (h .sector) (settingOf h disk) f p key
   pub reads : (z : ℕ) (s : Setting) (t : Turn) (key : List ℕ) → Reads z s t key
+  pub refuses : (z : ℕ) (s : Setting) (t : Turn) → NotFound z s t
   pub locates : (h : Host) (key : List ℕ) → Locates h key
+  pub held : (z : ℕ) (x : Spot) → Held z x
   pub soundly : (h : Host) (a : Areas) (key : List ℕ) → Sound h (a .disk) (a .stage) → Soundly h a key

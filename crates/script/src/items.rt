@@ -10,27 +10,27 @@ use reports::Made;
 const PROOF: usize = 131_072;
 
 fn malformed(host: Host) -> Made {
-    let root = [0u8; 32];
+    let rest = [0u8; 32];
     Made {
         fine: false,
         number: 0,
         tally: 0,
         growth: 0,
-        rooted: false,
-        root,
+        more: 0,
+        rest,
         host,
     }
 }
 
 fn answered(number: u64, tally: u64, growth: i64, host: Host) -> Made {
-    let root = [0u8; 32];
+    let rest = [0u8; 32];
     Made {
         fine: true,
         number,
         tally,
         growth,
-        rooted: false,
-        root,
+        more: 0,
+        rest,
         host,
     }
 }
@@ -59,10 +59,19 @@ pub fn make(
         b'a' => agree(item, host, disk, &*stage),
         b'r' => reached(item, host, &*disk, &*stage),
         b's' => sound(item, host, &*disk, &*stage),
+        b'l' => locate(item, host),
         b'x' => poke(item, host),
         b'k' => check(item, host),
         _ => malformed(host),
     }
+}
+
+// Yes or no as a number.
+fn as_number(yes: bool) -> u64 {
+    if yes {
+        return 1;
+    }
+    0
 }
 
 // The 32 bytes from `at` on.
@@ -357,14 +366,14 @@ fn reached<'a>(item: &[u8], host: Host, disk: &'a [u8], stage: &'a [u8]) -> Made
     let sectors = d as usize;
     let copies = s as usize;
     let made = taking::reached(host, &disk[0..sectors], &stage[0..copies]);
-    let root = made.root;
+    let rest = made.root;
     Made {
         fine: true,
         number: made.number,
         tally: made.size,
         growth: 0,
-        rooted: true,
-        root,
+        more: 32,
+        rest,
         host,
     }
 }
@@ -385,10 +394,29 @@ fn sound(item: &[u8], host: Host, disk: &[u8], stage: &[u8]) -> Made {
     let sectors = d as usize;
     let copies = s as usize;
     let asked = sounding::sound(host, &disk[0..sectors], &stage[0..copies]);
-    if asked.sound {
-        return answered(asked.number, 1, 0, host);
+    answered(asked.number, as_number(asked.sound), 0, host)
+}
+
+// Root: where the sector with it is, as numbers.
+fn locate(item: &[u8], host: Host) -> Made {
+    if item.len() < 33 {
+        return malformed(host);
     }
-    answered(asked.number, 0, 0, host)
+    let root = bytes_at(item, 1);
+    let found = locating::locate(host, root);
+    let mut rest = [0u8; 32];
+    area::store(&mut rest, 0, 8, found.place);
+    area::store(&mut rest, 8, 8, found.position);
+    area::store(&mut rest, 16, 8, as_number(found.staged));
+    Made {
+        fine: true,
+        number: found.number,
+        tally: as_number(found.found),
+        growth: 0,
+        more: 24,
+        rest,
+        host,
+    }
 }
 
 // ---- the checker
@@ -418,10 +446,7 @@ fn check(item: &[u8], host: Host) -> Made {
         &item[73..to],
         &item[to..],
     );
-    if yes {
-        return answered(1, 0, 0, host);
-    }
-    answered(0, 0, 0, host)
+    answered(as_number(yes), 0, 0, host)
 }
 
 // ---- damage

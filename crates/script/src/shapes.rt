@@ -9,7 +9,7 @@ pub fn fixed(kind: u8) -> usize
     match kind {
         b'F' => 17,
         b'N' => 25,
-        b'f' | b'd' => 32,
+        b'f' | b'd' | b'l' => 32,
         b'o' => 80,
         b'p' => 40,
         b'i' | b'g' | b'r' | b's' => 16,

@@ -13,7 +13,7 @@ slice-aggregate-contract-root : tie.Need-slice-aggregate-contract-root
 slice-aggregate-contract-root c = search needs
 
 contract-root-requires : tie.Need-contract-root-requires
-contract-root-requires c κs = 
+contract-root-requires c κs =
     let told = c .before .committed-seen .ensures in
     committed-known _ _ _ _ _ (told .0) (told .1) (c .before .before .before .pre)
 
