@@ -167,7 +167,7 @@ fn note_gone(host: &Host, root: &Hash, found: Option<Spot>, place: usize, say: i
         (Some(spot), _, true) if spot.place != place => {
             say("ReadSector: cut off, found in another contract", "l: cut off, found in another contract")
         }
-        (Some(_), ..) => {
+        (Some(_), true, _) | (Some(_), _, true) => {
             say("ReadSector: overwritten or cut off, found in the stage", "l: overwritten or cut off, found in the stage")
         }
         _ => {}
