@@ -33,17 +33,17 @@ impl Host {
         let first = self.searched_first();
         if let Some(place) = first {
             for position in 0..self.program.running / self.sector {
-                let spot = Spot { place, position, staged: self.program.staged[position as usize] != NONE };
-                if root_of(spot) == *root {
-                    return Some(spot);
+                let own = Spot { place, position, staged: self.program.staged[position as usize] != NONE };
+                if root_of(own) == *root {
+                    return Some(own);
                 }
             }
         }
         for place in (0..8).filter(|&p| self.places[p].held && Some(p) != first) {
             for position in 0..self.places[place].size / self.sector {
-                let spot = Spot { place, position, staged: false };
-                if root_of(spot) == *root {
-                    return Some(spot);
+                let other = Spot { place, position, staged: false };
+                if root_of(other) == *root {
+                    return Some(other);
                 }
             }
         }

@@ -83,9 +83,12 @@ pub fn script_text(bytes: &[u8]) -> Vec<String> {
         let answered = player.make(&item);
         let (tally, growth) = (answered.tally, answered.growth);
         let (sector, disk, stage) = (player.host.sector, player.host.disk_sectors, player.host.stage_sectors);
-        let spot = answered.spot.map_or(String::new(), |spot| {
-            format!("; place {}, position {}, {}", spot.place, spot.position, if spot.staged { "staged" } else { "not staged" })
-        });
+        let held = |staged: bool| if staged { "in the stage" } else { "on the disk" };
+        let spot = match (answered.spot, tally) {
+            (Some(spot), 1) => format!("; found {}: place {}, position {}", held(spot.staged), spot.place, spot.position),
+            (Some(_), _) => "; not found".to_string(),
+            (None, _) => String::new(),
+        };
         let answers = format!(
             "answers {}, {tally}, {growth}{spot}; sector size {sector}, {disk} of disk, {stage} of stage",
             answered.answer
