@@ -630,9 +630,9 @@ def looked_scripts():
     for id, positions in ((two, 1), (one, 2), (three, 2)):
         # written: half run, ended, failed; interrupted
         for at in range(positions):
-            start, part, rest = pieces(id, 20, write(4096 * at, b"nuts"), proved(found(nuts, 0, 64)), grow(positions + 1), found(ZEROS, 5, 64), found(crisps, 0, 6))
+            start, part, rest = pieces(id, 24, write(4096 * at, sector(b"nuts")[:8]), proved(found(nuts, 0, 64)), grow(positions + 1), found(ZEROS, 5, 64), found(crisps, 0, 6))
             played = start + asks + part + asks + rest + asks + GIVE_UP + asks
-            start, part, rest = pieces(id, 20, write(4096 * at, b"same"), found(same, 0, 4), found(crisps, 0, 6), grow(9))
+            start, part, rest = pieces(id, 24, write(4096 * at, sector(b"same")[:8]), found(same, 0, 4), found(crisps, 0, 6), grow(9))
             yield ready + played + start + part + asks + rest + asks + interrupt + asks + GIVE_UP
         # cut off, and grown again
         played = play(id, grow(positions - 1), *(found(hash, 0, 7) for hash in (same, crisps, raisins))) + asks + GIVE_UP
