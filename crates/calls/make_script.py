@@ -6,7 +6,8 @@ written across the edge at 4,096 and read there with a proof, and committed; the
 into the host's record, with the program open and after it; and a proof among 4,194,304 segments,
 and one among one more, which no proof covers. At last a host of a contract of two sectors, and whether it is sound: with a byte of the second's kept root changed it is not,
 and records, proofs, the look-up and the agreement follow from that root; a Write of equal bytes and its commit heal it. Then the same of a staged
-sector, which the next Write heals. `stdout` is what the model makes of it.
+sector, which the next Write heals. Last, where roots are: with no program open, then in one that writes to a sector, reads it back by its root with a proof, and grows
+by a sector: what it has written is in the stage, and what it has written over is not found until it is given up; and on a host out of order. `stdout` is what the model makes of it.
 `model/run check` builds the model."""
 import hashlib, pathlib, struct, subprocess
 
@@ -156,5 +157,15 @@ script += (b"F" + number(disk, stage) + b"\x11" + sound + b"f" + contract + b"s"
     + played(write(4096, b"raisins")) + sound + reached + named(node(one, two)) + sound
     + start + piece(data[:23], data) + sound + kept(27, 0, 0, half[0] ^ 128) + sound + reached
     + piece(data[23:], data) + sound + reached + named(node(one, whole)) + sound)
+
+# where roots are
+def locate(*roots):
+    return b"".join(b"l" + root for root in roots)
+
+zeros = root(parts(bytes(4096)))
+asked = locate(one, whole, changed, zeros, wrong)
+start, data = program(write(0, b"C"), (b"ReadSector*", changed, number(0), number(64)), (b"Truncate", number(12288)), (b"ReadSector", one, number(0), number(6)))
+script += (asked + start + asked + piece(data[:17], data) + asked + piece(data[17:], data) + reached + asked + give_up + asked
+    + size(6144) + locate(one) + size(4096) + locate(one))
 here.joinpath("stdin").write_bytes(script)
 here.joinpath("stdout").write_bytes(subprocess.run([model, "calls"], input=script, capture_output=True, check=True).stdout)

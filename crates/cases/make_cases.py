@@ -9,7 +9,7 @@ SEED, MADE = 20, 8000
 TIMES = 3  # each thing that can be reached is reached by so many cases, where the generator has them
 SIZED_TIMES = 1  # the same for an answer or a record number on hosts of larger sectors
 # inputs of the generator that notice mistakes which the others do not (model/mutants.py)
-ALSO = {363, 677, 841, 1249, 1715, 1931, 2407, 3974, 5242}
+ALSO = {60, 406, 451, 496, 1081, 1317, 2513, 3197, 5097, 5242, 6494, 7073, 7453}
 DEPOTS, SCRIPTS = 187, 70  # at least so many of the generator's
 
 def number(*ns):
@@ -545,6 +545,196 @@ def kept_scripts():
         yield wrong + host.visit(one, b, write(9, b"\0")) + asked + host.visit(one, b[:9] + b"x" + b[10:], write(9, b"x")) + asked
     yield ready + size(8192) + b"s" + number(8 * 8192, 4 * 8192) + SOUND + size(4096) + SOUND + poke(4, 0, 0, 8192) + size(8192) + b"s" + number(8 * 8192, 4 * 8192)
 
+def locate(*roots):
+    return b"".join(b"l" + root for root in roots)
+
+def near(root, at=31):
+    """A root that differs in one byte."""
+    return root[:at] + bytes([root[at] ^ 1]) + root[at + 1 :]
+
+def front(root, n=4):
+    """A root that agrees in its first bytes."""
+    return root[:n] + bytes(b ^ 0xFF for b in root[n:])
+
+ZEROS = root(bytes(4096))
+
+def sector(word):
+    return word.ljust(4096, b"\0")
+
+def looked_depots():
+    """Inputs of `depot` whose programs look up what they have written (M-110), in the same piece: found in the stage, with a proof and without;
+    overwritten, cut off, or beside it: 25."""
+    one, two = MANY[:2]
+    nuts, more, end = (root(sector(b)) for b in (b"nuts", b"nuts and dates", b"nuts".rjust(4096, b"\0")))
+    grown, wrote = grow(1), write(0, b"nuts")
+    yield program(one, [one], grown, wrote, found(nuts, 0, 4))
+    yield program(one, [two, one], grown, proved(found(ZEROS, 0, 64)), wrote, proved(found(nuts, 0, 4096)), write(4, b" and dates"), proved(found(more, 64, 128)), found(more, 3, 11))
+    for old in (ZEROS, nuts):
+        yield program(one, [one], grown, wrote, write(4, b" and dates"), found(more, 0, 14), found(old, 0, 1), found(more, 0, 1))
+    # several sectors: which one is found shows in what is read
+    three = grown, grow(2), grow(3)
+    words = write(0, b"crisps"), write(4096, b"nuts"), write(8192, b"raisins")
+    yield program(one, [one], *three, *words, *(proved(found(root(sector(b)), 0, 64)) for b in (b"raisins", b"crisps", b"nuts")))
+    yield program(one, [one], *three, *words[::-1], *(found(root(sector(b)), 0, 7) for b in (b"nuts", b"raisins", b"crisps")), found(ZEROS, 0, 1))
+    # cut off; grown again
+    yield program(one, [one], grown, wrote, grow(0), found(nuts, 0, 4))
+    yield program(one, [one], grown, grow(2), write(4096, b"nuts"), grown, found(ZEROS, 0, 4), found(nuts, 0, 4))
+    yield program(one, [one], grown, wrote, grow(0), grown, proved(found(ZEROS, 4032, 64)), found(nuts, 0, 4))
+    # Copy and Swap
+    yield program(one, [one], grown, grow(2), wrote, copy(4096, 0, 4), found(nuts, 0, 4), copy(8188, 0, 4), write(4096, bytes(4)), found(end, 4092, 4), found(nuts, 0, 5))
+    yield program(one, [one], grown, grow(2), wrote, swap(0, 8188, 4), found(end, 4090, 6), proved(found(ZEROS, 0, 64)), found(nuts, 0, 4))
+    # beside it
+    for other in (near(nuts), near(nuts, 0), near(nuts, 4), front(nuts), front(nuts, 8), bytes(32)):
+        yield program(one, [one], grown, wrote, found(other, 0, 4))
+    yield program(WORD, [one], found(ZEROS, 0, 1))
+    yield program(one, [one], found(ZEROS, 0, 1))
+    yield program(one, [one], found(bytes(32), 0, 1))
+    # 25 before 26, 26 before 27, by the sector that is found
+    for step in (found(nuts, 4096, 1), found(nuts, 4095, 2), found(nuts, 4095, 1), found(nuts, 0, 0), proved(found(nuts, 1, 64)), proved(found(nuts, 64, 63)), proved(found(near(nuts), 1, 5000))):
+        yield program(one, [one], grown, grow(2), wrote, step)
+    # records that fit, and that do not
+    filled = grown, wrote, *[found(nuts, 0, 4096)] * 3
+    yield from (program(one, [one], *filled, found(nuts, 0, n)) for n in (3664, 3665))
+    yield from (program(one, [one], *filled, proved(found(nuts, 0, n))) for n in (3520, 3584))
+
+def looked_scripts():
+    """Scripts of `calls` on look-ups by root (M-110), by `l` and by ReadSector: in which order sectors are seen, where they are, and what is no
+    longer seen."""
+    two, one, three = MANY[:3]
+    same, crisps, raisins, nuts = (root(sector(b)) for b in (b"same", b"crisps", b"raisins", b"nuts"))
+    # place 0: same; place 1: crisps, same; place 2: same, raisins; so the kept roots of disk slots are these
+    slots = [same, crisps, same, same, raisins]
+    ready = FRESH + form(two, one, three) + visit(two, sector(b"same"), grow(1), write(0, b"same"))
+    ready += visit(one, sector(b"crisps") + sector(b"same"), grow(1), grow(2), write(0, b"crisps"), write(4096, b"same"))
+    ready += visit(three, sector(b"same") + sector(b"raisins"), grow(1), grow(2), write(0, b"same"), write(4096, b"raisins"))
+    asks = locate(same, crisps, ZEROS, nuts)
+    interrupt = b"i" + number(DISK, ROOM)
+    play = lambda id, *steps: b"".join(opened(id, *steps))
+    def pieces(id, n, *steps):
+        """A program's opening, its data up to the n-th byte, and the rest."""
+        start, data = opened(id, *steps)
+        data = data[41:]
+        return [start] + [b"p" + number(DISK, STAGE, len(data), ROOM, len(b)) + b for b in (data[:n], data[n:])]
+    def change(field, slot, now, root):
+        """Pokes that make this the kept root of a slot that keeps another one."""
+        return b"".join(poke(field, slot, j, root[j]) for j in range(32) if root[j] != now[j])
+    # no host yet, a refused one, an empty one, one out of order; no program open; roots beside those that are kept
+    empty = locate(same, bytes(32))
+    yield empty + b"F" + number(0, 0) + b"\0" + empty + FRESH + empty + form(one) + empty + poke(0, 0, 0, 65) + empty + poke(0, 0, 0, 8) + empty
+    beside = locate(bytes(32), near(crisps), near(crisps, 0), near(crisps, 4), front(crisps), front(crisps, 31), front(same), near(same))
+    yield ready + asks + locate(raisins) + beside + play(one) + beside + GIVE_UP + play(WORD) + beside + GIVE_UP
+    # each as the writer, and read-only mode: opened, failed, given up
+    for id in (two, one, three, WORD):
+        looks = [proved(found(hash, 0, 64)) for hash in (same, crisps, raisins)]
+        yield ready + play(id) + asks + GIVE_UP + play(id, *looks, found(nuts, 0, 4)) + asks + REACHED + GIVE_UP + asks
+    for id, positions in ((two, 1), (one, 2), (three, 2)):
+        # written: half run, ended, failed; interrupted
+        for at in range(positions):
+            start, part, rest = pieces(id, 24, write(4096 * at, sector(b"nuts")[:8]), proved(found(nuts, 0, 64)), grow(positions + 1), found(ZEROS, 5, 64), found(crisps, 0, 6))
+            played = start + asks + part + asks + rest + asks + GIVE_UP + asks
+            start, part, rest = pieces(id, 24, write(4096 * at, sector(b"same")[:8]), found(same, 0, 4), found(crisps, 0, 6), grow(9))
+            yield ready + played + start + part + asks + rest + asks + interrupt + asks + GIVE_UP
+        # cut off, and grown again
+        played = play(id, grow(positions - 1), *(found(hash, 0, 7) for hash in (same, crisps, raisins))) + asks + GIVE_UP
+        played += play(id, grow(positions - 1), grow(positions), proved(found(ZEROS, 64, 64)), found(nuts, 0, 1)) + asks + interrupt + asks + GIVE_UP
+        played += play(id, write(4096 * positions - 4096, b"nuts"), *(grow(n) for n in range(positions - 1, -1, -1))) + asks + GIVE_UP + asks
+        yield ready + played
+    start, part, rest = pieces(one, 20, write(0, b"nuts"), grow(3))
+    yield ready + start + part + interrupt + locate(root(sector(b"nutsps")), crisps) + rest + locate(root(sector(b"nutsps")), ZEROS) + GIVE_UP
+    # committed: what the stage held is on the disk, and what it replaced is gone
+    yield ready + play(one, write(0, sector(b"nuts")), grow(3)) + asks + agree(sector(b"nuts") + sector(b"same") + bytes(4096)) + asks
+    yield ready + play(three, grow(1), grow(0)) + asks + agree(b"") + asks + drop(two) + asks + form(MANY[5]) + asks
+    # two equal sectors of the parent: the lowest position, whichever of them the stage holds; slots in another order than positions
+    played = ready
+    for steps in ((write(4096, sector(b"crisps")),), (write(0, sector(b"same")),), (copy(4096, 0, 4096), grow(3), copy(8192, 0, 4096)), (swap(0, 4096, 4096),)):
+        played += play(one, *steps, found(crisps, 0, 6), found(same, 0, 6)) + asks + GIVE_UP
+    yield played
+    steps = write(4096, sector(b"nuts")), write(0, sector(b"raisins")), grow(3), proved(found(raisins, 0, 64)), found(nuts, 0, 4), found(same, 0, 4)
+    yield ready + play(one, *steps) + asks + locate(raisins) + GIVE_UP
+    steps = *(grow(n) for n in (2, 3, 4)), write(12_288, b"nuts"), write(4096, b"raisins"), write(8192, b"crisps")
+    yield ready + play(two, *steps, found(crisps, 0, 6), found(raisins, 0, 7), found(nuts, 0, 4)) + asks + locate(raisins) + GIVE_UP
+    # which of two equal roots is read shows where the bytes differ: kept roots of other sectors
+    for slot, hash in ((0, crisps), (3, crisps), (2, raisins), (4, crisps)):
+        wrong = ready + change(26, slot, slots[slot], hash)
+        ask = locate(hash, same)
+        wrong += ask + b"".join(play(id, proved(found(hash, 0, 64)), found(same, 0, 7)) + ask + GIVE_UP for id in (two, one, three, WORD))
+        yield wrong + b"".join(play(id, write(0, b"nuts"), found(hash, 0, 7)) + ask + GIVE_UP for id in (two, one, three)) + SOUND
+    # roots that agree in all but a late byte, or in four bytes alone, beside each other: of two contracts, of one, of the stage
+    for like, slot in ((near(crisps), 0), (front(crisps), 2), (near(crisps), 2), (front(crisps), 3)):
+        both, looks = locate(crisps, like, near(like, 9)), (found(crisps, 0, 6), proved(found(like, 64, 64)))
+        wrong = ready + change(26, slot, slots[slot], like) + both
+        turned = change(26, slot, like, crisps) + change(26, 1, crisps, like) + both
+        visits = b"".join(play(id, *looks) + both + GIVE_UP for id in (one, three, WORD))
+        yield wrong + visits + turned + visits
+    for like in (near(crisps), front(crisps), front(crisps, 31)):
+        start, part, rest = pieces(one, 24, write(4096, b"nuts and"), found(like, 0, 8), found(crisps, 0, 6), found(near(like, 9), 0, 1))
+        ask = locate(crisps, like, same)
+        yield ready + start + part + change(27, 0, root(sector(b"nuts and")), like) + ask + rest + ask + SOUND + GIVE_UP + ask
+    # of the stage: the kept root of the copy, not its bytes', nor the disk's under it
+    mixed = root(sector(b"nutsps"))
+    start, part, rest = pieces(one, 20, write(0, b"nuts"), proved(found(crisps, 0, 64)), found(raisins, 0, 7), found(mixed, 0, 6))
+    for hash in (crisps, raisins, bytes(32)):
+        wrong = start + part + change(27, 0, mixed, hash)
+        yield ready + wrong + asks + locate(hash, mixed) + rest + asks + REACHED + GIVE_UP + asks
+    # free slots keep roots that no position has; a kept root of zeros is one like any other
+    kept = keep(26, 5, nuts) + change(27, 1, raisins, nuts)
+    yield ready + kept + asks + play(one, write(0, b"C")) + asks + GIVE_UP + asks
+    for slot in (0, 2):
+        zero = locate(bytes(32))
+        looks = b"".join(play(id, found(bytes(32), 0, 7)) + zero + GIVE_UP for id in (two, one, WORD))
+        yield ready + change(26, slot, same, bytes(32)) + zero + looks
+    # the zero id: no parent while no program is open, whatever the closed program's record holds; then a parent like any other
+    id, filled = bytes(32), root(b"\x55" * 4096)
+    base = FRESH + b"".join(keep(26, slot, filled) for slot in (0, 4))
+    ask = locate(filled, nuts)
+    for place, slot in ((7, 0), (0, 4)):
+        zero_held = base + held(place, id, slot) + held(5, one, 4 - slot) + ask
+        closed = poke(12, 0, 0, 4096) + ask + poke(13, 0, 0, 255) + ask + poke(11, 0, 0, 1) + ask
+        yield zero_held + closed + poke(16, 5, 0, one[5]) + ask
+        nutty = locate(root(b"nuts" + b"\x55" * 4092))
+        yield zero_held + play(id, write(0, b"nuts")) + ask + nutty + GIVE_UP + ask + play(WORD, found(filled, 0, 1)) + ask + GIVE_UP
+        yield zero_held + play(one, found(filled, 0, 1)) + ask + poke(6, 0, 0, 0) + ask + poke(6, 0, 0, 1) + ask + GIVE_UP + ask
+    # the closed program's record names a contract that is held
+    named_ = b"".join(poke(16, i, 0, one[i]) for i in range(32))
+    yield ready + named_ + poke(12, 0, 0, 4096) + asks + poke(13, 0, 0, 255) + asks + change(27, 0, same, nuts) + asks
+    # places that are not held, positions past a size, other slots
+    for place in range(3):
+        yield ready + poke(2, place, 0, 0) + asks + poke(2, place, 0, 1) + poke(4, place, 0, 0) + asks + poke(4, place, 0, 4096) + asks
+    yield ready + play(one, write(0, b"nuts")) + poke(2, 2, 0, 0) + asks + poke(4, 1, 0, 4096) + asks + poke(12, 0, 0, 4096) + asks + poke(13, 0, 0, 255) + asks
+    yield ready + poke(5, 1, 0, 2) + poke(5, 1, 1, 1) + asks + play(one, write(0, b"S"), found(crisps, 0, 6)) + asks + GIVE_UP
+    # out of order, with a program and without
+    ask = locate(crisps, bytes(32))
+    for field, i, j, value, back in ((0, 0, 0, 65, 8), (1, 0, 0, 0, 4), (25, 0, 0, 6144, 4096), (4, 1, 0, 4097, 8192), (5, 1, 1, 1, 2)):
+        yield ready + poke(field, i, j, value) + ask + poke(field, i, j, back) + ask
+    for pokes in (poke(12, 0, 0, 4097), poke(12, 0, 0, 2**63), poke(13, 1, 0, 0), poke(13, 0, 0, 9), poke(8, 0, 0, 9), poke(18, 0, 0, 2**64 - 1), poke(16, 0, 0, 77), size(8192)):
+        yield ready + play(one, write(0, b"nuts")) + pokes + ask
+    # program records that no run makes: not run, ended, failed, with sectors staged
+    start, data = opened(one, write(0, b"nuts"), write(4096, b"n"))
+    ask = locate(crisps, same, mixed, root(sector(b"name")))
+    for pokes in (poke(11, 0, 0, 1) + poke(8, 0, 0, 0), poke(13, 0, 0, 1) + poke(13, 1, 0, 0), poke(13, 0, 0, 255), poke(13, 1, 0, 3)):
+        yield ready + start + data + pokes + ask + GIVE_UP
+    # places 0 to 7 and positions 0 to 63: the last ones too
+    eight = FRESH + form(*MANY[:8]) + b"".join(visit(id, sector(b"%d" % k), grow(1), write(0, b"%d" % k)) for k, id in enumerate(MANY[:8]))
+    numbered = [root(sector(b"%d" % k)) for k in range(8)]
+    yield eight + locate(*numbered) + play(MANY[7]) + locate(*numbered) + GIVE_UP + play(WORD, *(found(hash, 0, 1) for hash in numbered)) + GIVE_UP
+    yield eight + change(26, 7, numbered[7], numbered[0]) + b"".join(play(MANY[k], found(numbered[0], 0, 1)) + locate(numbered[0], numbered[7]) + GIVE_UP for k in (0, 3, 7))
+    long = b"F" + number(262_144, 65_536) + b"\x55" + held(6, one, *range(64)) + keep(26, 62, crisps) + keep(26, 63, same)
+    ask, wide = locate(crisps, same, bytes(32)), opened(one)[0]
+    yield long + ask + wide + ask + b"g" + number(262_144, 65_536) + change(26, 62, crisps, same) + ask + wide + ask
+    # other sector sizes; areas that do not fit, of which `l` lends none
+    for z, disk, stage in ((8192, 4, 2), (65_536, 4, 1)):
+        host = Sized(z, disk, stage)
+        salty, plain = bytes(z - 5) + b"salty", b"plain".ljust(z, b"\0")
+        ready_ = host.fresh + form(one, two) + host.visit(one, salty, host.grow(1), write(z - 5, b"salty")) + host.visit(two, plain, host.grow(1), write(0, b"plain"))
+        asked = locate(root(salty), root(plain), root(bytes(z)), root(salty[-4096:]), ZEROS)
+        written = b"".join(host.opened(two, write(0, bytes(5)), proved(found(root(bytes(z)), z - 64, 64)), write(z - 5, b"salty"), found(root(salty), z - 6, 6)))
+        yield ready_ + asked + written + asked + host.reached + host.give_up + asked + b"".join(host.opened(WORD, found(root(plain), 4094, 4))) + asked + host.give_up
+    host = Sized(4_194_304, 64, 16)
+    huge = host.fresh + form(two, one, three) + b"".join(poke(4, k, 0, 2 * host.z) + poke(5, k, 0, 2 * k) + poke(5, k, 1, 2 * k + 1) for k in range(3))
+    huge += keep(26, 1, same) + keep(26, 2, same) + keep(26, 3, crisps)
+    yield huge + asks + host.opened(one)[0] + asks + poke(12, 0, 0, host.z) + asks + poke(6, 0, 0, 0) + asks
+    yield ready + poke(12, 0, 0, 0) + size(8192) + asks + poke(4, 0, 0, 8192) + poke(5, 0, 0, 5) + asks + size(4096) + asks
+
 def scripts():
     """Scripts of `calls` that are cut off, that lend too much, or that poke past an array or a width."""
     example = (here.parent / "calls" / "stdin").read_bytes()
@@ -600,6 +790,7 @@ def cut_items(fresh):
         "a": b"a" + number(262_144, 65_536, 0) + bytes(32),
         "r": reached,
         "s": b"s" + number(262_144, 65_536),
+        "l": b"l" + contract,
         "x": b"x" + number(9, 0, 0, 1),
     }
     fixed = {"o": 81, "p": 41, "k": 73}
@@ -623,7 +814,7 @@ def cut_items(fresh):
     yield from (opened + piece(long[:n], 65_539) for n in (65_536, 65_537, 65_538))
     yield from (opened + piece(long[:9], n) for n in (65_536, 65_537, 65_538, 2**64 - 1))
 
-cases = chosen(generated()) + [("d", b) for f in (depots, short_depots) for b in f()] + [("c", b) for f in (scripts, short_scripts, still_scripts, sized_scripts, checked_scripts, kept_scripts) for b in f()]
+cases = chosen(generated()) + [("d", b) for f in (depots, short_depots, looked_depots) for b in f()] + [("c", b) for f in (scripts, short_scripts, still_scripts, sized_scripts, checked_scripts, kept_scripts, looked_scripts) for b in f()]
 given = b"".join(kind.encode() + number(len(b)) + b for kind, b in cases)
 here.joinpath("stdin").write_bytes(given)
 lines = subprocess.run([model, "cases"], input=given, capture_output=True, check=True).stdout

@@ -184,9 +184,8 @@ fn show_script_difference(input: &Input, expected: &[u8], found: &[u8], at: usiz
         return;
     };
     show::script_text(&input.bytes).iter().take(which + 1).for_each(|line| println!("  {line}"));
-    let from = reports[which].0;
-    let with_root = matches!(reports[which].1, calls::Item::Reached { .. });
-    let part = |bytes: &[u8]| show::report_lines(bytes.get(from..).unwrap_or(&[]), with_root);
+    let (from, item) = &reports[which];
+    let part = |bytes: &[u8]| show::report_lines(bytes.get(*from..).unwrap_or(&[]), item);
     show_lines(&part(expected), &part(found));
 }
 

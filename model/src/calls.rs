@@ -5,6 +5,8 @@ use crate::coverage;
 use crate::depot;
 use crate::head::Reader;
 use crate::host::{self, Host, NONE};
+use crate::lookup::Spot;
+use crate::roots;
 use crate::tree;
 use crate::unsound;
 
@@ -33,6 +35,7 @@ pub enum Item {
     Agree { disk: u64, stage: u64, size: u64, root: [u8; 32] },
     Reached { disk: u64, stage: u64 },
     Sound { disk: u64, stage: u64 },
+    Locate { root: [u8; 32] },
     Poke { field: u64, i: u64, j: u64, value: u64 },
     Check { root: [u8; 32], count: u64, first: u64, end: u64, data: u64, tail: Vec<u8> },
 }
@@ -45,6 +48,14 @@ pub struct Answered {
     pub growth: i64,
     /// Only for `r`.
     pub root: Option<[u8; 32]>,
+    /// Only for `l`: place, position, and whether the stage held it; zeros where nothing is found.
+    pub spot: Option<Spot>,
+}
+
+/// "answer, found (0 or 1), 0; then place, position, staged (0 or 1)"; "0, 0, 0, no where nothing is found", with a refusal too.
+fn located((answer, found): (u64, Option<Spot>)) -> Answered {
+    let spot = found.unwrap_or(Spot { place: 0, position: 0, staged: false });
+    Answered { answer, tally: found.is_some() as u64, spot: Some(spot), ..Answered::default() }
 }
 
 fn only(answer: u64) -> Answered {
@@ -93,6 +104,7 @@ pub fn read_item(reader: &mut Reader) -> Option<Item> {
         },
         b'r' => Item::Reached { disk: lent(reader, DISK)?, stage: lent(reader, STAGE)? },
         b's' => Item::Sound { disk: lent(reader, DISK)?, stage: lent(reader, STAGE)? },
+        b'l' => Item::Locate { root: reader.array().ok()? },
         b'x' => read_poke(reader)?,
         b'k' => read_check(reader)?,
         _ => return None,
@@ -216,6 +228,10 @@ pub fn item_bytes(item: &Item) -> Vec<u8> {
         }
         Item::Reached { disk, stage } => numbers(&mut bytes, b'r', &[*disk, *stage]),
         Item::Sound { disk, stage } => numbers(&mut bytes, b's', &[*disk, *stage]),
+        Item::Locate { root } => {
+            bytes.push(b'l');
+            bytes.extend(root);
+        }
         Item::Poke { field, i, j, value } => numbers(&mut bytes, b'x', &[*field, *i, *j, *value]),
         Item::Check { root, count, first, end, data, tail } => {
             bytes.push(b'k');
@@ -295,13 +311,17 @@ impl Player {
             }
             Item::Reached { disk, stage } => {
                 let (answer, size, root) = self.host.reached(&self.disk[front(disk)], &self.stage[front(stage)]);
-                Answered { answer, tally: size, growth: 0, root: Some(root) }
+                Answered { answer, tally: size, root: Some(root), ..Answered::default() }
             }
             // "answer, sound (0 or 1), 0"
             Item::Sound { disk, stage } => {
                 let (answer, sound) = self.host.sound(&self.disk[front(disk)], &self.stage[front(stage)]);
                 Answered { answer, tally: sound as u64, ..Answered::default() }
             }
+            Item::Locate { root } if roots::are_worked_out() && self.fits() => {
+                located(self.host.locate_by_bytes(&self.disk, &self.stage, root))
+            }
+            Item::Locate { root } => located(self.host.locate(root)),
             Item::Poke { field, i, j, value } => {
                 poke(&mut self.host, *field, *i as usize, *j as usize, *value);
                 only(0)
@@ -311,6 +331,11 @@ impl Player {
                 only((tail.len() <= MOST_TAIL && tree::check(root, *count, *first, *end, bytes, hashes)) as u64)
             }
         }
+    }
+
+    /// Whether the host is in order and its areas are no longer than those that stand behind the script.
+    pub fn fits(&self) -> bool {
+        self.host.in_order() && self.host.disk_length() <= DISK as u64 && self.host.stage_length() <= STAGE as u64
     }
 
     /// "makes the host and fills all four areas with that byte"
@@ -452,7 +477,7 @@ fn note_check(root: &[u8; 32], count: u64, first: u64, end: u64, data: usize, ta
 }
 
 fn closed(closed: crate::program::Closed) -> Answered {
-    Answered { answer: closed.answer, tally: closed.tally, growth: closed.growth, root: None }
+    Answered { answer: closed.answer, tally: closed.tally, growth: closed.growth, ..Answered::default() }
 }
 
 pub fn item_name(item: &Item) -> &'static str {
@@ -468,6 +493,7 @@ pub fn item_name(item: &Item) -> &'static str {
         Item::Agree { .. } => "agree",
         Item::Reached { .. } => "reached",
         Item::Sound { .. } => "sound",
+        Item::Locate { .. } => "locate",
         Item::Poke { .. } => "poke",
         Item::Check { .. } => "check",
     }
@@ -580,6 +606,11 @@ fn report(player: &Player, answered: &Answered, out: &mut Vec<u8>) {
     number(answered.answer);
     number(answered.tally);
     number(answered.growth as u64);
+    if let Some(spot) = answered.spot {
+        number(spot.place as u64);
+        number(spot.position);
+        number(spot.staged as u64);
+    }
     if let Some(root) = answered.root {
         out.extend(root);
     }

@@ -8,6 +8,7 @@ use crate::depot::SECTOR;
 use crate::gen;
 use crate::head::{self, filled, Head, Instruction, Operand};
 use crate::host::{self, Host, NONE};
+use crate::lookup::Spot;
 use crate::program::Closed;
 use crate::roots;
 use crate::show;
@@ -21,7 +22,7 @@ const A: [u8; 32] = [0xA1; 32];
 const B: [u8; 32] = [0xB2; 32];
 
 pub fn run() {
-    let tests: [(&str, fn()); 44] = [
+    let tests: [(&str, fn()); 51] = [
         ("RFC 7693: abc", abc),
         ("RFC 7693: Appendix E self-test", self_test),
         ("hash: lengths refused", hash_lengths),
@@ -66,6 +67,13 @@ pub fn run() {
         ("M-105: a change that no kept root shows", unseen_change),
         ("M-105: kept roots in scripts", roots_in_scripts),
         ("M-105: random inputs, by kept roots and by roots worked out", as_worked_out),
+        ("M-110: written, and read back by its root", read_back),
+        ("M-110: overwritten and cut off, not found", gone),
+        ("M-110: the parent before the others", parent_first),
+        ("M-110: locate with and without a program", located),
+        ("M-110: look-ups by kept roots that are wrong", located_by_wrong_roots),
+        ("M-110: locate in scripts", locate_in_scripts),
+        ("M-110: random inputs, the look-up beside a list in its order", looked_up_otherwise),
     ];
     for (name, test) in tests {
         test();
@@ -667,7 +675,7 @@ fn reads() {
     bench.run_and_commit(A, &grow(&[1, 2, 3]).write(4096, &[5; 4096]));
     bench.run_and_commit(B, &grow(&[1]).write(0, &[5; 4096]));
     let five = tree::root(&[5; 4096]);
-    // the parent's committed sector is found although the stage holds another copy; its new bytes are not
+    // the parent's sector is overwritten, and another contract's equal one is found
     let layout = Layout::default().write(4096, &[6; 4096]).read_sector(five, 64, 64).proved().read(A, 4096, 1);
     let records = bench.run(A, &layout);
     assert_eq!((records[1].0, records[1].5.clone(), records[2].5.clone()), (0, vec![5; 64], vec![6]));
@@ -1455,4 +1463,441 @@ fn as_worked_out() {
         }
     }
     assert!(compared > 20_000 && unsound > 2_000, "{compared} calls compared, {unsound} on unsound hosts");
+}
+
+// M-110
+
+/// What `locate` answers where it finds a sector.
+fn at(place: usize, position: u64, staged: bool) -> (u64, Option<Spot>) {
+    (0, Some(Spot { place, position, staged }))
+}
+
+const NOT_FOUND: (u64, Option<Spot>) = (0, None);
+
+/// A sector that starts with these bytes, and zeros.
+fn padded_sector(word: &[u8]) -> Vec<u8> {
+    [word, &vec![0; 4096 - word.len()]].concat()
+}
+
+fn sector_root(word: &[u8]) -> tree::Hash {
+    tree::root(&padded_sector(word))
+}
+
+fn numbers(records: &[Record]) -> Vec<u64> {
+    records.iter().map(|record| record.0).collect()
+}
+
+/// "A program that writes a sector can't read it back by its root until commit": now it can, in the same program and piece. "ReadSector
+/// reads what it found, from the stage or the disk; its proof is of that sector".
+fn read_back() {
+    let mut bench = bench(8, 4, &[A, B]);
+    let (zeros, nuts) = (sector_root(b""), sector_root(b"nuts"));
+    let both = sector_root(b"nutsand");
+    // grown: zeros; written; written again; each by its root, with a proof and without
+    let layout = grow(&[1]).read_sector(zeros, 0, 64).proved().write(0, b"nuts").read_sector(nuts, 0, 4);
+    let layout =
+        layout.read_sector(nuts, 0, 128).proved().write(4, b"and").read_sector(both, 2, 5).read_sector(both, 0, 4096).proved();
+    let layout = layout.numbers("Truncate", &[8192]).read_sector(both, 64, 64).proved().read_sector(zeros, 4032, 64).proved();
+    let records = bench.run(A, &layout);
+    assert_eq!(numbers(&records), [0; 11]);
+    assert_eq!((&records[3].5[..], &records[6].5[..]), (&b"nuts"[..], &b"tsand"[..]));
+    assert_eq!((records[3].4.len(), records[7].4.len(), &records[7].5), (0, 0, &padded_sector(b"nutsand")));
+    for (i, root, first, end) in [(1, zeros, 0, 1), (4, nuts, 0, 2), (7, both, 0, 64), (9, both, 1, 2), (10, zeros, 63, 64)] {
+        assert!(tree::check(&root, 64, first, end, &records[i].5, &records[i].4), "record {i}");
+        assert_eq!(records[i].4, tree::proof(if root == zeros { &[0; 4096] } else { &records[7].5 }, first, end).concat());
+    }
+    // a record shows the parent's pair, of the size at that turn; the cost is a Read's
+    assert_eq!((records[3].2, records[3].3, records[9].2), (4096, nuts, 8192));
+    assert_eq!(records[3].1, (1_048_576 + layout.data.len() as u64) * 10 + 3 + 2 * 4);
+    assert_eq!(bench.host.locate(&both), at(0, 0, true));
+    assert_eq!(bench.host.locate(&zeros), at(0, 1, true));
+    assert_eq!(bench.agree().answer, 0);
+    // committed: on the disk, found by any program
+    for contract in [A, B, head::read_only_word()] {
+        let records = bench.run(contract, &Layout::default().read_sector(both, 0, 7).read_sector(nuts, 0, 4));
+        assert_eq!((numbers(&records), &records[0].5[..]), (vec![0, 25], &b"nutsand"[..]));
+        bench.give_up();
+    }
+    // Copy and Swap: what they write is found too, and what they read from where it is not written over
+    let layout = Layout::default().write(4096, b"dates").numbers("Swap", &[0, 4096, 8]);
+    let layout = layout.read_sector(sector_root(b"dates"), 0, 5).read_sector(both, 0, 4).numbers("Copy", &[4, 4096, 4]);
+    let records =
+        bench.run(A, &layout.read_sector(sector_root(b"datenuts"), 0, 8).read_sector(both, 4, 3).read_sector(nuts, 0, 1));
+    assert_eq!(numbers(&records), [0, 0, 0, 0, 0, 0, 0, 25]);
+    assert_eq!((&records[5].5[..], &records[6].5[..]), (&b"datenuts"[..], &b"and"[..]));
+    assert_eq!(bench.host.locate(&both), at(0, 1, true));
+    // other sector sizes: the root is of a whole sector of that size
+    for z in [8_192, 65_536] {
+        let mut bench = bench_of(z, 3, 2, &[A]);
+        let whole = [&vec![0; z as usize - 3][..], b"end"].concat();
+        let root = tree::root(&whole);
+        let records = bench.run(A, &grow_of(z, &[1]).write(z - 3, b"end").read_sector(root, z - 64, 64).proved());
+        assert_eq!((numbers(&records), &records[2].5[61..]), (vec![0, 0, 0], &b"end"[..]));
+        assert!(tree::check(&root, z / 64, z / 64 - 1, z / 64, &records[2].5, &records[2].4));
+        assert_eq!(bench.host.locate(&root), at(0, 0, true));
+    }
+}
+
+/// "A sector of the parent that is overwritten or cut off is not found any more."
+fn gone() {
+    let mut bench = bench(8, 4, &[B, A]);
+    let (crisps, nuts, zeros) = (sector_root(b"crisps"), sector_root(b"nuts"), sector_root(b""));
+    bench.run_and_commit(A, &grow(&[1, 2]).write(0, b"crisps").write(4096, b"nuts"));
+    let look = |root, length| Layout::default().read_sector(root, 0, length);
+    // overwritten: 25 while the stage has a copy; the other sector is found on the disk; found again after giving up
+    let records = bench.run(A, &Layout::default().write(0, b"C").read_sector(nuts, 0, 4).read_sector(crisps, 0, 6));
+    assert_eq!((numbers(&records), &records[1].5[..]), (vec![0, 0, 25], &b"nuts"[..]));
+    assert_eq!((bench.host.locate(&crisps), bench.host.locate(&nuts)), (NOT_FOUND, at(1, 1, false)));
+    assert_eq!(bench.host.locate(&sector_root(b"Crisps")), at(1, 0, true));
+    assert_eq!(bench.give_up().answer, 0);
+    assert_eq!((bench.host.locate(&crisps), bench.host.locate(&sector_root(b"Crisps"))), (at(1, 0, false), NOT_FOUND));
+    assert_eq!(bench.run(A, &look(crisps, 6))[0].5, *b"crisps");
+    bench.give_up();
+    // equal bytes: found, now in the stage
+    assert_eq!(bench.run(A, &Layout::default().write(0, b"cr").read_sector(crisps, 0, 6))[1].5, *b"crisps");
+    assert_eq!(bench.host.locate(&crisps), at(1, 0, true));
+    bench.give_up();
+    // cut off: not found; grown again: zeros at that position, in the stage, and what it held is not found
+    let cut = Layout::default().numbers("Truncate", &[4096]);
+    assert_eq!(numbers(&bench.run(A, &cut.read_sector(nuts, 0, 4))), [0, 25]);
+    assert_eq!(
+        (bench.host.locate(&nuts), bench.host.locate(&crisps), bench.host.locate(&zeros)),
+        (NOT_FOUND, at(1, 0, false), NOT_FOUND)
+    );
+    bench.give_up();
+    assert_eq!(bench.host.locate(&nuts), at(1, 1, false));
+    let again = Layout::default().numbers("Truncate", &[4096]).numbers("Truncate", &[8192]).read_sector(zeros, 0, 64).proved();
+    let records = bench.run(A, &again.read_sector(nuts, 0, 4));
+    assert_eq!((numbers(&records), &records[2].5), (vec![0, 0, 0, 25], &vec![0; 64]));
+    assert_eq!((bench.host.locate(&zeros), bench.host.locate(&nuts)), (at(1, 1, true), NOT_FOUND));
+    // to nothing: no sector of the parent is left; a staged copy that is cut off is not found either
+    bench.give_up();
+    let layout = Layout::default().write(4096, b"N").numbers("Truncate", &[4096]).numbers("Truncate", &[0]);
+    bench.run(A, &layout);
+    for root in [crisps, nuts, sector_root(b"Nuts"), zeros, [0; 32]] {
+        assert_eq!(bench.host.locate(&root), NOT_FOUND);
+    }
+    // the freed slot keeps its root, and no position has it
+    assert_eq!(bench.host.stage_roots[0], sector_root(b"Nuts"));
+    assert_eq!((bench.agree().answer, bench.host.disk_roots[0], bench.host.locate(&crisps)), (0, crisps, NOT_FOUND));
+    // another program's parent is no matter of a look-up of B's
+    bench.run_and_commit(A, &grow(&[1]).write(0, b"crisps"));
+    bench.run(B, &grow(&[1]).write(0, b"other"));
+    assert_eq!((bench.host.locate(&crisps), bench.host.locate(&sector_root(b"other"))), (at(1, 0, false), at(0, 0, true)));
+}
+
+/// "the parent's current sectors by position ...; then the committed sectors of the other contracts by place, then position."
+fn parent_first() {
+    let mut bench = bench(8, 4, &[A, B, [3; 32]]);
+    let (same, own) = (sector_root(b"same"), sector_root(b"own"));
+    for contract in [A, B, [3; 32]] {
+        bench.run_and_commit(contract, &grow(&[1, 2]).write(4096, b"same"));
+    }
+    let zeros = sector_root(b"");
+    // no program, read-only mode: by place, then position
+    assert_eq!((bench.host.locate(&same), bench.host.locate(&zeros)), (at(0, 1, false), at(0, 0, false)));
+    bench.run(head::read_only_word(), &Layout::default().read_sector(same, 0, 4).read_sector(own, 0, 3));
+    assert_eq!((bench.numbers(), bench.host.locate(&same), bench.host.locate(&own)), (vec![0, 25], at(0, 1, false), NOT_FOUND));
+    bench.give_up();
+    // each as the parent, on the disk and then in the stage: the parent wins over lower places and over higher ones
+    for (place, contract) in [(0, A), (1, B), (2, [3; 32])] {
+        assert_eq!(bench.open(contract, &Layout::default(), BUDGET), 0);
+        assert_eq!((bench.host.locate(&same), bench.host.locate(&zeros)), (at(place, 1, false), at(place, 0, false)));
+        bench.give_up();
+        bench.run(contract, &Layout::default().write(4096, b"same").write(0, b"own"));
+        assert_eq!((bench.host.locate(&same), bench.host.locate(&own)), (at(place, 1, true), at(place, 0, true)));
+        // its own zeros are overwritten: the first of the others
+        assert_eq!(bench.host.locate(&zeros), at(if place == 0 { 1 } else { 0 }, 0, false));
+        bench.give_up();
+        // two equal sectors of the parent: the lowest position, whichever of them the stage holds
+        bench.run(contract, &Layout::default().write(0, b"same"));
+        assert_eq!(bench.host.locate(&same), at(place, 0, true));
+        bench.give_up();
+        bench.run(contract, &Layout::default().numbers("Copy", &[4096, 0, 4]));
+        assert_eq!(bench.host.locate(&zeros), at(place, 0, false));
+        assert_eq!(bench.host.locate(&same), at(if place == 0 { 1 } else { 0 }, 1, false));
+        bench.give_up();
+        // past the starting size: still ahead of the others
+        bench.run(contract, &Layout::default().write(0, b"own").numbers("Truncate", &[12_288]));
+        assert_eq!(bench.host.locate(&zeros), at(place, 2, true));
+        bench.give_up();
+    }
+    // which of them is read shows where the bytes differ under equal kept roots
+    bench.host.disk_roots[bench.slots(0)[0] as usize] = same;
+    bench.host.disk_roots[bench.slots(2)[0] as usize] = same;
+    let read = |bench: &mut Bench, contract| {
+        let found = bench.run(contract, &Layout::default().read_sector(same, 0, 4))[0].5.clone();
+        bench.give_up();
+        found
+    };
+    assert_eq!((read(&mut bench, A), read(&mut bench, B), read(&mut bench, [3; 32])), (vec![0; 4], b"same".to_vec(), vec![0; 4]));
+    assert_eq!(read(&mut bench, head::read_only_word()), [0; 4]);
+}
+
+/// "1; else 0 with found, place, position, staged (0, 0, 0, no where nothing is found); a program need not be open"; "After a failure it
+/// still sees the parent's current sectors, stage included. It changes nothing."
+fn located() {
+    assert_eq!(host::fresh(4096, 0, 0).1.locate(&[0; 32]), (1, None));
+    let mut bench = bench(8, 4, &[B, A]);
+    let (zeros, nuts, new) = (sector_root(b""), sector_root(b"nuts"), sector_root(b"new"));
+    assert_eq!((bench.host.locate(&[0; 32]), bench.host.locate(&zeros)), (NOT_FOUND, NOT_FOUND));
+    bench.run_and_commit(A, &grow(&[1, 2]).write(4096, b"nuts"));
+    assert_eq!(
+        (bench.host.locate(&nuts), bench.host.locate(&zeros), bench.host.locate(&new)),
+        (at(1, 1, false), at(1, 0, false), NOT_FOUND)
+    );
+    // every byte of the root counts
+    for j in 0..32 {
+        let mut near = nuts;
+        near[j] ^= 1;
+        assert_eq!(bench.host.locate(&near), NOT_FOUND);
+        assert_eq!(numbers(&bench.run(A, &Layout::default().read_sector(near, 0, 1))), [25]);
+        bench.give_up();
+    }
+    // opened, waiting for data, half run, ended, failed, interrupted
+    let layout = Layout::default().write(0, b"new").numbers("Truncate", &[12_288]);
+    assert_eq!(bench.open(A, &layout, BUDGET), 0);
+    let all = |bench: &Bench| [nuts, zeros, new].map(|root| bench.host.locate(&root));
+    assert_eq!(all(&bench), [at(1, 1, false), at(1, 0, false), NOT_FOUND]);
+    assert_eq!(bench.piece(&layout.data[..19]), 0);
+    assert_eq!(all(&bench), [at(1, 1, false), NOT_FOUND, at(1, 0, true)]);
+    assert_eq!(bench.piece(&layout.data[19..]), 0);
+    assert_eq!(all(&bench), [at(1, 1, false), at(1, 2, true), at(1, 0, true)]);
+    bench.give_up();
+    assert_eq!(numbers(&bench.run(A, &Layout::default().write(0, b"new").numbers("Truncate", &[9]))), [0, 26]);
+    assert!(bench.host.program.failed);
+    assert_eq!(all(&bench), [at(1, 1, false), NOT_FOUND, at(1, 0, true)]);
+    bench.give_up();
+    assert_eq!(bench.open(A, &layout, BUDGET), 0);
+    assert_eq!((bench.piece(&layout.data[..19]), bench.host.interrupt(&bench.disk, &mut bench.output)), (0, 0));
+    assert_eq!(all(&bench), [at(1, 1, false), NOT_FOUND, at(1, 0, true)]);
+    bench.give_up();
+    // cut off before a failure: the running size counts, not the starting one
+    assert_eq!(numbers(&bench.run(A, &Layout::default().numbers("Truncate", &[4096]).numbers("Truncate", &[9]))), [0, 26]);
+    assert_eq!(all(&bench), [NOT_FOUND, at(1, 0, false), NOT_FOUND]);
+    bench.give_up();
+    // read-only mode, failed too: all committed sectors
+    assert_eq!(
+        numbers(&bench.run(head::read_only_word(), &Layout::default().read_sector(nuts, 0, 1).read_sector(new, 0, 1))),
+        [0, 25]
+    );
+    assert_eq!(all(&bench), [at(1, 1, false), at(1, 0, false), NOT_FOUND]);
+    bench.give_up();
+    // 1 on each host that is not in order, with a program and without
+    bench.run(A, &layout);
+    let damages: [fn(&mut Host); 7] = [
+        |h| h.sector = 6_144,
+        |h| h.disk_sectors = 1,
+        |h| h.stage_sectors = 17,
+        |h| h.places[0].id = A,
+        |h| h.places[1].size += 1,
+        |h| h.program.running = 4096,
+        |h| h.program.staged[0] = h.program.staged[2],
+    ];
+    for (i, damage) in damages.iter().enumerate() {
+        let mut host = bench.host.clone();
+        damage(&mut host);
+        assert_eq!([nuts, zeros, [0; 32]].map(|root| host.locate(&root)), [(1, None); 3], "damage {i}");
+    }
+    bench.give_up();
+    for damage in &damages[..5] {
+        let mut host = bench.host.clone();
+        damage(&mut host);
+        assert_eq!(host.locate(&nuts), (1, None));
+    }
+    zero_id_held();
+}
+
+/// "no contract counts as the parent, a held zero id neither"
+fn zero_id_held() {
+    let mut bench = bench(8, 4, &[A, B]);
+    hold(&mut bench, 2, [0; 32]);
+    let (same, own) = (sector_root(b"same"), sector_root(b"own"));
+    for contract in [B, [0; 32]] {
+        bench.run_and_commit(contract, &grow(&[1]).write(0, b"same"));
+    }
+    bench.run_and_commit([0; 32], &grow(&[2]).write(4096, b"own"));
+    // no program: by place, and all committed sectors of the zero id
+    assert!(!bench.host.program.open && bench.host.program.head.contract == [0; 32]);
+    assert_eq!((bench.host.locate(&same), bench.host.locate(&own)), (at(1, 0, false), at(2, 1, false)));
+    // whatever the record of the closed program holds
+    (bench.host.program.running, bench.host.program.staged, bench.host.program.failed) = (8192, [NONE; 64], true);
+    assert_eq!((bench.host.locate(&same), bench.host.locate(&own)), (at(1, 0, false), at(2, 1, false)));
+    (bench.host.program.head.contract, bench.host.stage_roots[3], bench.host.program.staged) = (B, own, [3; 64]);
+    assert_eq!((bench.host.locate(&same), bench.host.locate(&own)), (at(1, 0, false), at(2, 1, false)));
+    bench.host.program = host::closed_program();
+    // opened, it is a parent like any other
+    bench.run([0; 32], &Layout::default().write(4096, b"O"));
+    assert_eq!((bench.host.locate(&same), bench.host.locate(&own)), (at(2, 0, false), NOT_FOUND));
+    bench.give_up();
+    // in read-only mode too it is one of the others
+    bench.open(head::read_only_word(), &Layout::default(), BUDGET);
+    assert_eq!((bench.host.locate(&same), bench.host.locate(&own)), (at(1, 0, false), at(2, 1, false)));
+}
+
+/// Kept roots alone: of disk and stage, all 32 bytes, also where they are not their sectors'.
+fn located_by_wrong_roots() {
+    let mut bench = bench(8, 4, &[A, B]);
+    bench.run_and_commit(A, &grow(&[1, 2]).write(0, b"one").write(4096, b"two"));
+    bench.run_and_commit(B, &grow(&[1]).write(0, b"three"));
+    let (one, two, three) = (sector_root(b"one"), sector_root(b"two"), sector_root(b"three"));
+    let mut near = one;
+    near[31] ^= 1;
+    let mut front = [7; 32];
+    front[..4].copy_from_slice(&one[..4]);
+    // roots that agree in all but the last byte, and in the first four bytes alone: each finds its own sector
+    for other in [near, front] {
+        for slots in [[0, 1, 2], [1, 0, 2], [2, 0, 1], [1, 2, 0]] {
+            let kept = [(0, 0), (0, 1), (1, 0)];
+            bench.host.disk_roots[slots[0]] = one;
+            bench.host.disk_roots[slots[1]] = other;
+            bench.host.disk_roots[slots[2]] = [9; 32];
+            for contract in [None, Some(A), Some(B), Some(head::read_only_word())] {
+                let words = [&b"one"[..], b"two", b"thr"];
+                for (slot, root) in [(slots[0], one), (slots[1], other), (slots[2], [9; 32])] {
+                    let found = at(kept[slot].0, kept[slot].1, false);
+                    assert_eq!(bench.host.locate(&root), found);
+                    if let Some(contract) = contract {
+                        assert_eq!(bench.run(contract, &Layout::default().read_sector(root, 0, 3))[0].5, words[slot]);
+                        assert_eq!((bench.host.locate(&root), bench.give_up().answer), (found, 0));
+                    }
+                }
+                assert_eq!((bench.host.locate(&two), bench.host.locate(&three)), (NOT_FOUND, NOT_FOUND));
+            }
+        }
+    }
+    (bench.host.disk_roots[0], bench.host.disk_roots[1], bench.host.disk_roots[2]) = (one, two, three);
+    // of the stage: the kept root of the copy's slot, not of its bytes, nor the disk's under it; the proof is from the bytes
+    let layout = Layout::default().write(0, b"One").read_sector(near, 0, 64).proved().read_sector(one, 0, 3);
+    bench.open(A, &layout, BUDGET);
+    assert_eq!(bench.piece(&layout.data[..19]), 0);
+    assert_eq!([sector_root(b"One"), one, near].map(|root| bench.host.locate(&root)), [at(0, 0, true), NOT_FOUND, NOT_FOUND]);
+    bench.host.stage_roots[0] = near;
+    assert_eq!([sector_root(b"One"), one, near].map(|root| bench.host.locate(&root)), [NOT_FOUND, NOT_FOUND, at(0, 0, true)]);
+    assert_eq!(bench.piece(&layout.data[19..]), 0);
+    let records = bench.records();
+    assert_eq!((numbers(&records), &records[1].5[..3]), (vec![0, 0, 25], &b"One"[..]));
+    assert!(tree::check(&sector_root(b"One"), 64, 0, 1, &records[1].5, &records[1].4));
+    // roots of slots that no position has: free ones of disk and stage
+    (bench.host.stage_roots[1], bench.host.disk_roots[5]) = ([5; 32], [6; 32]);
+    assert_eq!([[5; 32], [6; 32], [0; 32]].map(|root| bench.host.locate(&root)), [NOT_FOUND; 3]);
+    // another program's stage slots, once it is closed: nothing is staged
+    bench.give_up();
+    assert_eq!([near, one].map(|root| bench.host.locate(&root)), [NOT_FOUND, at(0, 0, false)]);
+    // the root of zeros is a root like any other: a held sector whose kept root was never set
+    bench.host.disk_roots[1] = [0; 32];
+    assert_eq!((bench.host.locate(&[0; 32]), bench.host.locate(&two)), (at(0, 1, false), NOT_FOUND));
+    assert_eq!(bench.run(B, &Layout::default().read_sector([0; 32], 0, 3))[0].5, *b"two");
+}
+
+/// `l`: "root (32 bytes)"; "answer, found (0 or 1), 0; then place, position, staged (0 or 1), 8 bytes each", then host and digests.
+fn locate_in_scripts() {
+    let locate = |root: tree::Hash| calls::item_bytes(&Item::Locate { root });
+    assert_eq!(locate([7; 32]), [&b"l"[..], &[7; 32]].concat());
+    let fresh = calls::item_bytes(&Item::Fresh { disk: 8 * 4096, stage: 4 * 4096, fill: 9 });
+    let base = 3 * 8 + 3 * 8 + 8 * 8 + 8 + 6 * 32;
+    // no host yet: 1, and zeros
+    let out = calls::play(&locate([0; 32]));
+    assert_eq!((out.len(), &out[..8], &out[8..48]), (base + 24, &1u64.to_le_bytes()[..], &[0; 40][..]));
+    // the host's part and the digests stand behind the three numbers, as they would without them
+    let asked = calls::play(&[&fresh[..], &locate([0; 32])].concat());
+    let beside = calls::play(&[&fresh[..], &calls::item_bytes(&Item::Sound { disk: 0, stage: 0 })].concat());
+    assert_eq!((&asked[base..base + 48], asked[base + 48..].to_vec()), (&[0; 48][..], beside[base + 24..].to_vec()));
+    // cut short: malformed
+    assert_eq!(calls::play(&[&fresh[..], &locate([0; 32])[..32]].concat()).len(), base);
+    // a contract of two sectors, a program that writes to the second
+    let layout = grow(&[1, 2]).write(4096, b"nuts");
+    let program = |layout: &Layout| {
+        let head = head::encoded(&head(A, &layout.instructions, layout.data.len() as u64));
+        let open = Item::Open { output_length: 4096, budget: BUDGET, prices: PRICES, head };
+        let input = layout.data.len() as u64;
+        let piece = Item::Piece { disk: 8 * 4096, stage: 4 * 4096, input, output: 4096, piece: layout.data.clone() };
+        [calls::item_bytes(&open), calls::item_bytes(&piece)].concat()
+    };
+    let size = 8192;
+    let root = tree::joined(&[sector_root(b""), sector_root(b"nuts")]);
+    let agree = calls::item_bytes(&Item::Agree { disk: 8 * 4096, stage: 4 * 4096, size, root });
+    let form = [calls::item_bytes(&Item::Form { id: B }), calls::item_bytes(&Item::Form { id: A })].concat();
+    let ready = [fresh, form, program(&layout), agree, program(&Layout::default().write(4096, b"Nuts"))].concat();
+    let before = calls::play(&ready).len();
+    for (word, numbers) in [
+        (&b"Nuts"[..], [0, 1, 0, 1, 1, 1]),
+        (b"", [0, 1, 0, 1, 0, 0]),
+        (b"nuts", [0, 0, 0, 0, 0, 0]),
+        (b"none", [0, 0, 0, 0, 0, 0]),
+    ] {
+        let out = calls::play(&[&ready[..], &locate(sector_root(word))].concat());
+        assert_eq!(out[before..before + 48], numbers.map(u64::to_le_bytes).concat());
+        let lines = show::report_lines(&out[before..], &Item::Locate { root: [0; 32] });
+        assert_eq!(
+            lines[1..6],
+            ["found", "growth", "found at place", "found at position", "found in the stage"]
+                .iter()
+                .zip(&numbers[1..])
+                .map(|(name, number)| format!("{name} {number}"))
+                .collect::<Vec<String>>()
+        );
+        // twice: the same again, so that the first has changed nothing that shows
+        let twice = calls::play(&[&ready[..], &locate(sector_root(word)), &locate(sector_root(word))].concat());
+        assert_eq!(twice[out.len()..], out[before..]);
+    }
+}
+
+/// Every sector that a look-up sees, with its root, in its order, from a list that is sorted: the parent's ahead of the others, by place,
+/// by position.
+fn sectors_in_order(host: &Host) -> Vec<(tree::Hash, Spot)> {
+    let mut all = Vec::new();
+    let program = &host.program;
+    for (place, position) in (0..8).rev().flat_map(|place| (0..64u64).rev().map(move |position| (place, position))) {
+        let contract = &host.places[place];
+        let own = program.open && contract.held && contract.id == program.head.contract;
+        let size = if own { program.running } else { contract.size };
+        if !contract.held || position * host.sector >= size {
+            continue;
+        }
+        let staged = own && program.staged[position as usize] != 255;
+        let root = match staged {
+            true => host.stage_roots[program.staged[position as usize] as usize],
+            false => host.disk_roots[contract.slots[position as usize] as usize],
+        };
+        all.push((!own, place, position, root, staged));
+    }
+    all.sort();
+    all.into_iter().map(|(_, place, position, root, staged)| (root, Spot { place, position, staged })).collect()
+}
+
+/// After each call of random scripts: each kept root, of slots that positions have and of others, and roots beside it.
+fn looked_up_otherwise() {
+    let (mut asked, mut found) = (0, 0);
+    for number in (1..1_200).step_by(2) {
+        let mut player = calls::new_player();
+        let bytes = gen::input(110, number).bytes;
+        let mut reader = head::Reader { rest: &bytes };
+        while let Some(item) = calls::read_item(&mut reader) {
+            player.call(&item);
+            let host = &player.host;
+            let mut roots: Vec<tree::Hash> = host.disk_roots.iter().chain(&host.stage_roots).copied().collect();
+            roots.extend(
+                host.disk_roots
+                    .iter()
+                    .map(|root| [&root[..31], &[root[31] ^ 1]].concat().try_into().unwrap())
+                    .collect::<Vec<tree::Hash>>(),
+            );
+            roots.sort();
+            roots.dedup();
+            let order = if host.in_order() { sectors_in_order(host) } else { vec![] };
+            for root in roots {
+                let expected = order.iter().find(|sector| sector.0 == root).map(|sector| sector.1);
+                assert_eq!(
+                    host.locate(&root),
+                    (if host.in_order() { 0 } else { 1 }, expected),
+                    "input {number}, {}",
+                    show::item_text(&item)
+                );
+                asked += 1;
+                found += expected.is_some() as u64;
+            }
+        }
+    }
+    assert!(asked > 50_000 && found > 10_000, "{asked} asked, {found} found");
 }

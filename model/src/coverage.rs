@@ -23,6 +23,11 @@ pub fn uncounted<Given>(function: impl FnOnce() -> Given) -> Given {
     given
 }
 
+/// Whether nothing is counted just now.
+pub fn is_off() -> bool {
+    OFF.get()
+}
+
 fn count<Key: Ord>(counts: &'static std::thread::LocalKey<Counts<Key>>, key: Key) {
     if !OFF.get() {
         counts.with(|counts| *counts.borrow_mut().entry(key).or_insert(0) += 1);
@@ -52,7 +57,7 @@ pub fn disorder(condition: &'static str) {
 }
 
 /// The answers that each call can give.
-const ANSWERS_POSSIBLE: [(&str, &[u64]); 15] = [
+const ANSWERS_POSSIBLE: [(&str, &[u64]); 16] = [
     ("fresh", &[0, 2]),
     ("fresh of a size", &[0, 2]),
     ("form", &[0, 1, 3, 5, 6, 8, 15]),
@@ -64,6 +69,7 @@ const ANSWERS_POSSIBLE: [(&str, &[u64]); 15] = [
     ("agree", &[0, 1, 2, 4, 13, 14]),
     ("reached", &[0, 1, 2, 4]),
     ("sound", &[0, 1, 2]),
+    ("locate", &[0, 1]),
     ("poke", &[0]),
     ("check", &[0, 1]),
     ("(malformed item)", &[0]),
@@ -81,13 +87,9 @@ const RECORDS_POSSIBLE: [(&str, &[u64]); 7] = [
     ("(unknown)", &[20, 21]),
 ];
 
-const EVENTS_POSSIBLE: [&str; 96] = [
+const EVENTS_POSSIBLE: [&str; 137] = [
     "Read of the parent",
     "Read of another contract",
-    "ReadSector found in another contract",
-    "ReadSector found in the parent",
-    "ReadSector found in the parent, position staged",
-    "ReadSector found in the parent, position cut off",
     "proof of all of one sector, no hashes",
     "proof in one sector",
     "proof in 2, 4, 8, 16, 32 or 64 sectors",
@@ -178,6 +180,51 @@ const EVENTS_POSSIBLE: [&str; 96] = [
     "made sound by an agreement",
     "made sound by giving up",
     "made sound by dropping",
+    "ReadSector found in the stage",
+    "ReadSector found in the stage, past the starting size",
+    "ReadSector found in the parent, on the disk",
+    "ReadSector found in another contract",
+    "ReadSector found in read-only mode",
+    "ReadSector not found, not in read-only mode",
+    "ReadSector not found in read-only mode",
+    "ReadSector of two equal sectors of the parent",
+    "ReadSector passes over an equal sector at a lower place",
+    "ReadSector of the parent, an equal sector at a higher place",
+    "ReadSector: overwritten, not found",
+    "ReadSector: cut off, not found",
+    "ReadSector: overwritten, found in another contract",
+    "ReadSector: cut off, found in another contract",
+    "ReadSector: overwritten or cut off, found in the stage",
+    "ReadSector not found, 31 bytes alike",
+    "ReadSector not found, four bytes alike",
+    "ReadSector passes over four bytes alike",
+    "l found in the stage",
+    "l found in the stage, past the starting size",
+    "l found in the parent, on the disk",
+    "l found in another contract, a writer open",
+    "l found in read-only mode",
+    "l not found, a writer open",
+    "l not found in read-only mode",
+    "l of two equal sectors of the parent",
+    "l passes over an equal sector at a lower place",
+    "l of the parent, an equal sector at a higher place",
+    "l: overwritten, not found",
+    "l: cut off, not found",
+    "l: overwritten, found in another contract",
+    "l: cut off, found in another contract",
+    "l: overwritten or cut off, found in the stage",
+    "l not found, 31 bytes alike",
+    "l not found, four bytes alike",
+    "l passes over four bytes alike",
+    "l found, no program open",
+    "l not found, no program open",
+    "l found under the zero id, no program open",
+    "l found in the stage, after a failure",
+    "l found on the disk, after a failure",
+    "l not found, after a failure",
+    "unsound: l finds what the bytes do not have",
+    "unsound: l does not find what the bytes have",
+    "unsound: l finds another sector",
 ];
 
 const DISORDERS_POSSIBLE: [&str; 24] = [
@@ -272,7 +319,8 @@ fn print_sized(counts: &BTreeMap<(u64, &'static str, u64), u64>) {
         "     others: calls done {}, refused {}; instructions run {}, failed {}",
         others[0], others[1], others[2], others[3]
     );
-    let on_hosts = ["fresh of a size", "form", "drop", "open", "piece", "interrupt", "give up", "agree", "reached", "sound"];
+    let on_hosts =
+        ["fresh of a size", "form", "drop", "open", "piece", "interrupt", "give up", "agree", "reached", "sound", "locate"];
     for sector in SIZES {
         let calls = ANSWERS_POSSIBLE.iter().filter(|(call, _)| on_hosts.contains(call));
         let missing: Vec<String> = calls

@@ -19,6 +19,10 @@ pub struct Scene {
     pub others: Vec<([u8; 32], u64)>,
     /// The kept roots of all committed sectors, and the roots of their bytes where those are others.
     pub roots: Vec<[u8; 32]>,
+    /// The kept roots of the parent's sectors, by position, and of the other contracts'; some of the others' sectors.
+    pub parent_roots: Vec<[u8; 32]>,
+    pub other_roots: Vec<[u8; 32]>,
+    pub other_sectors: Vec<Vec<u8>>,
     /// The position in the parent whose kept root is not its sector's, the first one.
     pub unsound: Option<u64>,
 }
@@ -41,8 +45,14 @@ enum Kind {
 }
 
 /// Weights of the six instructions in a program.
-const MOODS: [[u64; 6]; 5] =
-    [[14, 10, 26, 14, 14, 22], [55, 20, 10, 3, 3, 9], [6, 2, 12, 5, 5, 70], [5, 2, 13, 35, 35, 10], [10, 10, 60, 5, 5, 10]];
+const MOODS: [[u64; 6]; 6] = [
+    [14, 10, 26, 14, 14, 22],
+    [55, 20, 10, 3, 3, 9],
+    [6, 2, 12, 5, 5, 70],
+    [5, 2, 13, 35, 35, 10],
+    [10, 10, 60, 5, 5, 10],
+    [4, 40, 30, 6, 6, 14],
+];
 
 /// What stands on a host in order. Where the disk is shorter than the host's, none of its bytes are looked at.
 pub fn scene(host: &Host, disk: &[u8], contract: [u8; 32]) -> Scene {
@@ -50,14 +60,23 @@ pub fn scene(host: &Host, disk: &[u8], contract: [u8; 32]) -> Scene {
     let read_only = contract == head::read_only_word();
     let parent = host.find(&contract);
     let held: Vec<usize> = (0..8).filter(|&p| host.places[p].held).collect();
-    let other_sectors: u64 = held.iter().filter(|&&p| Some(p) != parent).map(|&p| host.places[p].size / sector).sum();
+    let others_hold: u64 = held.iter().filter(|&&p| Some(p) != parent).map(|&p| host.places[p].size / sector).sum();
     let seen = host.disk_length() <= disk.len() as u64;
     let mut roots = Vec::new();
+    let (mut parent_roots, mut other_roots, mut other_sectors) = (Vec::new(), Vec::new(), Vec::new());
     let mut unsound = None;
     for &place in held.iter().filter(|_| seen) {
         for (position, kept) in host.committed_roots(place).into_iter().enumerate() {
             let root = tree::root(host.committed_sector(disk, place, position as u64));
             roots.push(kept);
+            if Some(place) == parent {
+                parent_roots.push(kept);
+            } else {
+                other_roots.push(kept);
+                if sector <= 16_384 && other_sectors.len() < 4 {
+                    other_sectors.push(host.committed_sector(disk, place, position as u64).to_vec());
+                }
+            }
             if kept != root {
                 roots.push(root);
                 unsound = unsound.or(Some(position as u64).filter(|_| Some(place) == parent));
@@ -71,15 +90,19 @@ pub fn scene(host: &Host, disk: &[u8], contract: [u8; 32]) -> Scene {
         read_only,
         bytes: parent_seen.map_or(vec![], |p| host.committed_sectors(disk, p).concat()),
         size: parent_seen.map_or(0, |p| host.places[p].size),
-        most_sectors: host.disk_sectors.saturating_sub(other_sectors),
+        most_sectors: host.disk_sectors.saturating_sub(others_hold),
         stage_sectors: host.stage_sectors,
         others: held.iter().filter(|&&p| Some(p) != parent).map(|&p| (host.places[p].id, host.places[p].size)).collect(),
         roots,
+        parent_roots,
+        other_roots,
+        other_sectors,
         unsound,
     }
 }
 
-/// A program being made: the size it would have reached and the sectors it would have staged.
+/// A program being made: the size it would have reached and the sectors it would have staged; the bytes of all its sectors then, and the
+/// roots of those that it no longer has.
 struct Draft<'a> {
     random: &'a mut Random,
     scene: &'a Scene,
@@ -88,12 +111,19 @@ struct Draft<'a> {
     upward: u64,
     size: u64,
     staged: [bool; 65],
+    sectors: Vec<Vec<u8>>,
+    gone: Vec<[u8; 32]>,
     bytes: usize,
+}
+
+fn new_draft<'a>(random: &'a mut Random, scene: &'a Scene, mood: [u64; 6], upward: u64) -> Draft<'a> {
+    let sectors = scene.bytes.chunks(scene.sector as usize).map(<[u8]>::to_vec).collect();
+    Draft { random, scene, mood, upward, size: scene.size, staged: [false; 65], sectors, gone: vec![], bytes: 0 }
 }
 
 /// A random program: its head and its data.
 pub fn program(random: &mut Random, scene: &Scene) -> (Head, Vec<u8>) {
-    let mood = MOODS[random.weighted(&[60, 12, 10, 12, 6])];
+    let mood = MOODS[random.weighted(&[52, 11, 9, 11, 5, 12])];
     let steps = match random.weighted(&[4, 60, 25, 8, 3]) {
         0 => 0,
         1 => random.within(1, 6),
@@ -102,7 +132,7 @@ pub fn program(random: &mut Random, scene: &Scene) -> (Head, Vec<u8>) {
         _ => 32,
     };
     let upward = random.pick(&[850, 600, 250]);
-    let mut draft = Draft { random, scene, mood, upward, size: scene.size, staged: [false; 65], bytes: 0 };
+    let mut draft = new_draft(random, scene, mood, upward);
     let mut made = Vec::new();
     for _ in 0..steps {
         let step = draft.step();
@@ -136,6 +166,11 @@ pub fn filling_program(random: &mut Random, scene: &Scene, sectors: u64) -> (Hea
     }
     for sector in before..before + sectors {
         let whole = if sector_size <= 16_384 { sector_size } else { LEAST_SECTOR };
+        if !scene.other_sectors.is_empty() && random.chance(200) {
+            let data = random.pick(&scene.other_sectors);
+            step("Write", vec![(sector * sector_size).to_le_bytes().to_vec(), [&sector_size.to_le_bytes()[..], &data].concat()]);
+            continue;
+        }
         let length = random.pick(&[whole, 100, 64]);
         let data = contents(random, length as usize);
         let edge = random.below(sector_size / LEAST_SECTOR) * LEAST_SECTOR;
@@ -202,6 +237,27 @@ pub fn still_program(random: &mut Random, scene: &Scene) -> (Head, Vec<u8>) {
     lay_out(random, scene.contract, &steps)
 }
 
+/// A program without a fault, but for its last instruction now and then, that changes sectors and looks them up by their roots (M-110):
+/// those that it has written, cut off and grown again, and those of other contracts that are equal to one that it had.
+pub fn looking_program(random: &mut Random, scene: &Scene) -> (Head, Vec<u8>) {
+    let upward = random.pick(&[700, 400]);
+    let mut draft = new_draft(random, scene, MOODS[0], upward);
+    let mut steps = Vec::new();
+    let count = draft.random.within(2, 9);
+    for _ in 0..count {
+        steps.push(draft.looking_step());
+        draft.bytes += steps[steps.len() - 1].inputs.iter().map(Vec::len).sum::<usize>();
+        if draft.bytes > 40_000 {
+            break;
+        }
+    }
+    if !draft.gone.is_empty() && draft.random.chance(400) {
+        let root = draft.random.pick(&draft.gone);
+        steps.push(draft.look(root));
+    }
+    lay_out(random, scene.contract, &steps)
+}
+
 /// A program that writes these bytes at an offset, and nothing else.
 pub fn writing_program(random: &mut Random, scene: &Scene, offset: u64, bytes: &[u8]) -> (Head, Vec<u8>) {
     let inputs = vec![offset.to_le_bytes().to_vec(), [&(bytes.len() as u64).to_le_bytes()[..], bytes].concat()];
@@ -214,6 +270,8 @@ pub fn unsound_program(random: &mut Random, scene: &Scene) -> (Head, Vec<u8>) {
     let at = scene.unsound.unwrap_or(0);
     let positions = scene.size / scene.sector;
     let number = |n: u64| n.to_le_bytes().to_vec();
+    let times = |root: &[u8; 32]| scene.roots.iter().filter(|other| *other == root).count();
+    let twice: Vec<[u8; 32]> = scene.roots.iter().copied().filter(|root| times(root) > 1).collect();
     let mut steps = Vec::new();
     for _ in 0..random.within(1, 6) {
         let position = if random.chance(600) { at } else { random.below(positions.max(1)) };
@@ -222,7 +280,10 @@ pub fn unsound_program(random: &mut Random, scene: &Scene) -> (Head, Vec<u8>) {
         let kind = random.weighted(&[30, 30, 20, 8, 8, 4]);
         let (name, inputs) = match kind {
             0 => ("Read", vec![scene.contract.to_vec(), number(offset), number(64)]),
-            1 if !scene.roots.is_empty() => ("ReadSector", vec![random.pick(&scene.roots).to_vec(), number(inner), number(128)]),
+            1 if !scene.roots.is_empty() => {
+                let among = if twice.is_empty() || random.chance(500) { &scene.roots } else { &twice };
+                ("ReadSector", vec![random.pick(among).to_vec(), number(inner), number(128)])
+            }
             3 => ("Copy", vec![number(offset), number(random.below(positions.max(1)) * scene.sector), number(64)]),
             4 => ("Swap", vec![number(offset), number(random.below(positions.max(1)) * scene.sector), number(64)]),
             5 => ("Truncate", vec![number(scene.size)]),
@@ -238,6 +299,54 @@ pub fn unsound_program(random: &mut Random, scene: &Scene) -> (Head, Vec<u8>) {
 }
 
 impl Draft<'_> {
+    /// A change of a sector or of the size, or a look-up that finds something.
+    fn looking_step(&mut self) -> Step {
+        let z = self.scene.sector;
+        let elsewhere: Vec<[u8; 32]> = self.gone.iter().copied().filter(|root| self.scene.other_roots.contains(root)).collect();
+        let kind = self.random.weighted(&[35, 17, 25, 12, 8, 15]);
+        let positions: Vec<usize> = (0..self.sectors.len()).filter(|&at| kind != 2 || self.staged[at]).collect();
+        match kind {
+            0 if self.size > 0 => {
+                let position = self.position();
+                let whole: Vec<Vec<u8>> = self.scene.other_sectors.iter().chain(&self.sectors).cloned().collect();
+                let whole = self.random.pick(&whole);
+                let data = if z <= 8_192 && self.random.chance(450) { whole } else { contents(self.random, 100) };
+                let offset = position * z + if data.len() == 100 { self.random.below(2) * (z - 100) } else { 0 };
+                self.staged[position as usize] |= self.has_room(position);
+                let inputs = vec![self.number(offset), [&(data.len() as u64).to_le_bytes()[..], &data].concat()];
+                self.follow(Kind::Write, &inputs);
+                Step { name: filled(b"Write"), inputs, proof: false }
+            }
+            2 | 3 if !positions.is_empty() => {
+                let position = self.random.pick(&positions);
+                let root = self.root_at(position);
+                self.look(root)
+            }
+            4 if !self.scene.other_roots.is_empty() => {
+                let root = self.random.pick(&self.scene.other_roots);
+                self.look(root)
+            }
+            5 if !elsewhere.is_empty() => {
+                let root = self.random.pick(&elsewhere);
+                self.look(root)
+            }
+            _ => {
+                let inputs = self.truncate();
+                self.follow(Kind::Truncate, &inputs);
+                Step { name: filled(b"Truncate"), inputs, proof: false }
+            }
+        }
+    }
+
+    /// A ReadSector of this root, of a few segments.
+    fn look(&mut self, root: [u8; 32]) -> Step {
+        let first = self.random.below(self.scene.sector / 64 - 1) * 64;
+        let length = self.random.pick(&[64, 128]);
+        let offset = if self.random.chance(500) { first } else { 0 };
+        let inputs = vec![root.to_vec(), self.number(offset), self.number(length)];
+        Step { name: filled(b"ReadSector"), inputs, proof: self.random.chance(500) }
+    }
+
     fn step(&mut self) -> Step {
         let kind = self.kind();
         let proof = match kind {
@@ -252,6 +361,7 @@ impl Draft<'_> {
             Kind::Swap => self.two_spans(true),
             Kind::Truncate => self.truncate(),
         };
+        self.follow(kind, &inputs);
         Step { name: filled(word(kind).as_bytes()), inputs, proof }
     }
 
@@ -262,7 +372,7 @@ impl Draft<'_> {
         }
         let kind = KINDS[self.random.weighted(&self.mood)];
         let vain = match kind {
-            Kind::ReadSector => self.scene.roots.is_empty(),
+            Kind::ReadSector => self.scene.roots.is_empty() && self.size == 0,
             Kind::Truncate => false,
             _ => self.size == 0,
         };
@@ -351,17 +461,97 @@ impl Draft<'_> {
 
     fn read_sector(&mut self, proof: bool) -> Vec<Vec<u8>> {
         let (offset, length) = self.span_to_read(self.scene.sector, proof);
-        let real = !self.scene.roots.is_empty();
-        let root = match self.random.weighted(&[900, 40, 15, 10]) {
-            0 if real => self.random.pick(&self.scene.roots),
-            1 if real => {
+        let root = self.root_to_find();
+        vec![root.to_vec(), self.number(offset), self.number(length)]
+    }
+
+    /// The root of a sector that the program has written, that its parent has, or that another contract has (M-110); now and then of one
+    /// that it has no longer, of one that differs in a byte, or of none.
+    fn root_to_find(&mut self) -> [u8; 32] {
+        let kind = self.random.weighted(&[350, 230, 330, 30, 40, 12, 8]);
+        let positions: Vec<usize> = (0..self.sectors.len()).filter(|&at| kind > 0 || self.staged[at]).collect();
+        match kind {
+            0 | 1 if !positions.is_empty() && !self.scene.read_only => {
+                let position = self.random.pick(&positions);
+                self.root_at(position)
+            }
+            2 if !self.scene.other_roots.is_empty() => self.random.pick(&self.scene.other_roots),
+            3 if !self.gone.is_empty() => {
+                let elsewhere: Vec<[u8; 32]> =
+                    self.gone.iter().copied().filter(|root| self.scene.other_roots.contains(root)).collect();
+                let among = if elsewhere.is_empty() || self.random.chance(500) { &self.gone } else { &elsewhere };
+                self.random.pick(among)
+            }
+            4 if !positions.is_empty() => {
+                let position = self.random.pick(&positions);
+                let root = self.root_at(position);
+                near(self.random, root)
+            }
+            4 if !self.scene.roots.is_empty() => {
                 let root = self.random.pick(&self.scene.roots);
                 near(self.random, root)
             }
-            2 => self.random.bytes(32).try_into().unwrap(),
-            _ => tree::root(&vec![0; self.scene.sector as usize]),
+            5 => self.random.bytes(32).try_into().unwrap(),
+            6 => tree::zeros_root(self.scene.sector),
+            _ if !positions.is_empty() => {
+                let position = self.random.pick(&positions);
+                self.root_at(position)
+            }
+            _ if !self.scene.other_roots.is_empty() => self.random.pick(&self.scene.other_roots),
+            _ if !self.scene.roots.is_empty() => self.random.pick(&self.scene.roots),
+            _ => tree::zeros_root(self.scene.sector),
+        }
+    }
+
+    /// The root by which the program would find its parent's sector: of the bytes where it has staged them, else the kept one.
+    fn root_at(&self, position: usize) -> [u8; 32] {
+        if self.staged[position] {
+            return tree::root(&self.sectors[position]);
+        }
+        self.scene.parent_roots[position]
+    }
+
+    /// Does to the sectors what the instruction will do, if it is a good one.
+    fn follow(&mut self, kind: Kind, inputs: &[Vec<u8>]) {
+        let z = self.scene.sector;
+        let number = |i: usize| u64::from_le_bytes(inputs[i][..8].try_into().unwrap());
+        if kind == Kind::Truncate {
+            let positions = (self.size / z) as usize;
+            while self.sectors.len() > positions {
+                let last = self.sectors.pop().unwrap();
+                self.gone.push(tree::root(&last));
+            }
+            self.sectors.resize(positions, vec![0; z as usize]);
+            return;
+        }
+        let writes = match kind {
+            Kind::Write => vec![(number(0), inputs[1][8..].to_vec())],
+            Kind::Copy => self.span_bytes(number(1), number(2)).map_or(vec![], |bytes| vec![(number(0), bytes)]),
+            Kind::Swap => match (self.span_bytes(number(0), number(2)), self.span_bytes(number(1), number(2))) {
+                (Some(first), Some(second)) => vec![(number(1), first), (number(0), second)],
+                _ => vec![],
+            },
+            _ => vec![],
         };
-        vec![root.to_vec(), self.number(offset), self.number(length)]
+        for (offset, bytes) in writes {
+            let position = (offset / z) as usize;
+            if self.span_bytes(offset, bytes.len() as u64).is_none() || !self.staged[position] {
+                continue;
+            }
+            if self.gone.len() < 8 {
+                self.gone.push(tree::root(&self.sectors[position]));
+            }
+            let from = (offset % z) as usize;
+            self.sectors[position][from..from + bytes.len()].copy_from_slice(&bytes);
+        }
+    }
+
+    /// The bytes of a span of the parent, if it is one within a sector.
+    fn span_bytes(&self, offset: u64, length: u64) -> Option<Vec<u8>> {
+        let z = self.scene.sector;
+        let sector = self.sectors.get((offset / z) as usize)?;
+        let end = (offset % z).checked_add(length)?;
+        sector.get((offset % z) as usize..end as usize).map(<[u8]>::to_vec)
     }
 
     /// A position to write to: mostly one that has a copy or can get one.
@@ -391,7 +581,12 @@ impl Draft<'_> {
             length = self.random.within(1, 300);
         }
         self.staged[position as usize] |= self.has_room(position);
-        let data = contents(self.random, length as usize);
+        let mut data = contents(self.random, length as usize);
+        if !self.scene.other_sectors.is_empty() && self.random.chance(50) {
+            // equal to another contract's sector
+            offset = position * self.scene.sector;
+            data = self.random.pick(&self.scene.other_sectors);
+        }
         vec![self.number(offset), [&(data.len() as u64).to_le_bytes()[..], &data].concat()]
     }
 
@@ -509,7 +704,7 @@ fn bad_span(random: &mut Random, z: u64, size: u64) -> (u64, u64) {
 }
 
 /// An id or root that differs in one byte, often a late one.
-fn near(random: &mut Random, mut bytes: [u8; 32]) -> [u8; 32] {
+pub fn near(random: &mut Random, mut bytes: [u8; 32]) -> [u8; 32] {
     let at = if random.chance(600) { 31 } else { random.below(32) as usize };
     bytes[at] ^= 1 << random.below(8);
     bytes

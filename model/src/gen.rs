@@ -161,7 +161,9 @@ fn depot_input(random: &mut Random) -> Vec<u8> {
         1 => some_id(random),
         _ => head::read_only_word(),
     };
-    let (head, mut data) = draft::program(random, &draft::scene(&host, &disk, contract));
+    let scene = draft::scene(&host, &disk, contract);
+    let looks = !scene.read_only && random.chance(80);
+    let (head, mut data) = if looks { draft::looking_program(random, &scene) } else { draft::program(random, &scene) };
     let head_bytes = draft::head_bytes(random, &head);
     let prices = prices(random);
     let records = dry_run(&host, &disk, prices, &head_bytes, &data);
@@ -489,6 +491,37 @@ impl Script<'_> {
         (answered.tally, answered.root.unwrap())
     }
 
+    /// Looks a root up (M-110): of a sector that the parent has, in the stage or on the disk, that it has no longer, or that another
+    /// contract has; one that any slot keeps, free or not; one beside it, or none.
+    fn locate(&mut self) {
+        let root = self.some_root();
+        self.push(Item::Locate { root });
+    }
+
+    fn some_root(&mut self) -> [u8; 32] {
+        let groups = root_groups(&self.player.host);
+        let random = &mut *self.random;
+        let group = &groups[random.weighted(&[28, 14, 12, 8, 22, 6, 4, 6])];
+        let all: Vec<[u8; 32]> = groups[..5].concat();
+        let root = match (group.is_empty(), all.is_empty()) {
+            (false, _) => random.pick(group),
+            (true, false) => random.pick(&all),
+            (true, true) => random.bytes(32).try_into().unwrap(),
+        };
+        match random.weighted(&[800, 120, 80]) {
+            0 => root,
+            1 => draft::near(random, root),
+            _ => four_bytes_alike(random, root),
+        }
+    }
+
+    /// Looks some roots up.
+    fn look_around(&mut self) {
+        for _ in 0..self.random.within(1, 3) {
+            self.locate();
+        }
+    }
+
     fn sound(&mut self, wrong_of_1000: u64) {
         let [disk, stage, ..] = self.lengths(wrong_of_1000);
         self.push(Item::Sound { disk, stage });
@@ -532,11 +565,12 @@ impl Script<'_> {
 
     /// A call that does not belong where it stands.
     fn noise(&mut self) {
-        match self.random.below(10) {
+        match self.random.below(11) {
             0 | 1 => {
                 let id = some_id(self.random);
                 self.push(Item::Form { id });
             }
+            10 => self.locate(),
             2 => {
                 let id = if self.random.chance(150) { head::read_only_word() } else { some_id(self.random) };
                 self.push(Item::Drop { id });
@@ -583,6 +617,9 @@ impl Script<'_> {
         if self.random.chance(25) {
             self.sound(100);
         }
+        if self.random.chance(60) {
+            self.locate();
+        }
         if self.wrong_roots && self.player.host.program.open && self.random.chance(200) {
             self.write_over_roots();
         }
@@ -602,6 +639,9 @@ impl Script<'_> {
             self.push(Item::Form { id });
         }
         self.form_held();
+        if self.random.chance(if self.player.host.find(&[0; 32]).is_some() { 500 } else { 120 }) {
+            self.look_around();
+        }
         if self.random.chance(10) {
             self.fresh();
             self.form_some();
@@ -634,6 +674,8 @@ impl Script<'_> {
             draft::unsound_program(self.random, &scene)
         } else if still {
             draft::still_program(self.random, &scene)
+        } else if !scene.read_only && self.random.chance(150) {
+            draft::looking_program(self.random, &scene)
         } else {
             draft::program(self.random, &scene)
         };
@@ -655,8 +697,16 @@ impl Script<'_> {
         if self.random.chance(200) {
             self.reached();
         }
+        let failed = self.player.host.program.failed;
+        if self.random.chance(if failed { 400 } else { 250 }) {
+            self.look_around();
+        }
         self.sometimes();
+        let root = self.some_root();
         self.close();
+        if self.random.chance(100) {
+            self.push(Item::Locate { root });
+        }
         if self.random.chance(if self.wrong_roots { 300 } else { 20 }) {
             self.sound(20);
         }
@@ -794,6 +844,10 @@ impl Script<'_> {
         let (field, kept) = if of_stage { (27, host.stage_roots[slot as usize]) } else { (26, host.disk_roots[slot as usize]) };
         let root = self.another_root(kept, &used);
         self.keep(field, slot, root);
+        if self.random.chance(350) {
+            let root = self.random.pick(&[root, kept]);
+            self.push(Item::Locate { root });
+        }
         self.sound(60);
         if self.random.chance(150) {
             self.keep(field, slot, kept);
@@ -835,14 +889,22 @@ impl Script<'_> {
         self.sound(0);
     }
 
-    /// Another root than the kept one, or the same: a byte that differs, mostly; now and then the root of another sector or of zeros, or
-    /// zeros.
+    /// Another root than the kept one, or the same: a byte that differs, mostly; now and then the root of another sector, or one beside
+    /// it, the root of zeros, or zeros.
     fn another_root(&mut self, kept: [u8; 32], used: &[u8]) -> [u8; 32] {
         let (host, random) = (&self.player.host, &mut *self.random);
-        match random.weighted(&[80, 14, 3, 3]) {
+        match random.weighted(&[60, 19, 3, 3, 8, 7]) {
             1 if !used.is_empty() => host.disk_roots[random.pick(used) as usize],
             2 => tree::zeros_root(host.sector),
             3 => [0; 32],
+            4 if !used.is_empty() => {
+                let other = host.disk_roots[random.pick(used) as usize];
+                draft::near(random, other)
+            }
+            5 if !used.is_empty() => {
+                let other = host.disk_roots[random.pick(used) as usize];
+                four_bytes_alike(random, other)
+            }
             _ => {
                 let mut root = kept;
                 let j = if random.chance(500) { 31 } else { random.below(32) as usize };
@@ -910,10 +972,11 @@ impl Script<'_> {
         if !self.player.host.in_order() {
             return self.refused_call();
         }
-        match self.random.below(5) {
+        match self.random.below(6) {
             0 => drop(self.piece(&[], 0)),
             1 => self.noise(),
             2 => self.sound(40),
+            3 => self.locate(),
             _ => drop(self.reached()),
         }
     }
@@ -921,7 +984,8 @@ impl Script<'_> {
     /// Any call: the host is not in order, so it is refused.
     fn refused_call(&mut self) {
         let [disk, stage, ..] = self.right_lengths();
-        match self.random.below(9) {
+        match self.random.below(10) {
+            6 => self.locate(),
             0 => drop(self.push(Item::Agree { disk, stage, size: 0, root: [0; 32] })),
             1 => drop(self.push(Item::GiveUp { disk, stage })),
             2 => drop(self.piece(&[1, 2, 3], 0)),
@@ -981,6 +1045,40 @@ impl Script<'_> {
         let value = poke_value(random, &host, field, now);
         (field, i, j, value)
     }
+}
+
+/// Kept roots, by what a look-up should do with them: the parent's in the stage, its others, those of its sectors that are overwritten and
+/// cut off, the other contracts'; those of all slots; that of zeros, and zeros.
+fn root_groups(host: &Host) -> [Vec<[u8; 32]>; 8] {
+    let mut groups: [Vec<[u8; 32]>; 8] = Default::default();
+    if host.in_order() {
+        let first = host.searched_first();
+        let current = if first.is_some() { host.running_roots() } else { vec![] };
+        for (position, root) in current.iter().enumerate() {
+            groups[(host.program.staged[position] == NONE) as usize].push(*root);
+        }
+        for place in (0..8).filter(|&p| host.places[p].held) {
+            for (position, root) in host.committed_roots(place).into_iter().enumerate() {
+                match current.get(position) {
+                    _ if Some(place) != first => groups[4].push(root),
+                    Some(now) if *now != root => groups[2].push(root),
+                    Some(_) => {}
+                    None => groups[3].push(root),
+                }
+            }
+        }
+        groups[6].push(tree::zeros_root(host.sector));
+    }
+    groups[5] = host.disk_roots.iter().chain(&host.stage_roots).copied().filter(|root| *root != [0; 32]).collect();
+    groups[7].push([0; 32]);
+    groups
+}
+
+/// A root that agrees with this one in its first four bytes, or in some more.
+fn four_bytes_alike(random: &mut Random, root: [u8; 32]) -> [u8; 32] {
+    let alike = random.pick(&[4, 4, 5, 8, 30, 31]);
+    let rest = random.bytes(32 - alike);
+    [&root[..alike], &rest].concat().try_into().unwrap()
 }
 
 /// A poke that makes an id the ReadOnly word or another's.

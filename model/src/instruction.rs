@@ -3,6 +3,7 @@
 use crate::coverage;
 use crate::head::{filled, Instruction};
 use crate::host::*;
+use crate::lookup;
 use crate::roots;
 use crate::tree;
 
@@ -124,9 +125,9 @@ fn inputs(name: Name, instruction: &Instruction, input: &[u8]) -> Result<Inputs,
     })
 }
 
-/// 25: "contract or sector root not found". What a Read or ReadSector reads: the parent as it runs, "ReadSector, and Read of
-/// another contract, see committed sectors only; a root is found at the first match by contract place, then position." M-105: the
-/// look-up of ReadSector "follows from kept roots".
+/// 25: "contract or sector root not found". What a Read or ReadSector reads: the parent as it runs, and "Read of another contract" sees
+/// "committed sectors only". M-110: "ReadSector reads what it found, from the stage or the disk; its proof is of that sector; 25 where
+/// nothing is found." M-105: the look-up of ReadSector "follows from kept roots".
 fn source<'a>(host: &Host, disk: &'a [u8], stage: &'a [u8], inputs: &Inputs) -> Result<Option<Source<'a>>, u64> {
     match inputs {
         Inputs::Read { contract, .. } => {
@@ -143,30 +144,12 @@ fn source<'a>(host: &Host, disk: &'a [u8], stage: &'a [u8], inputs: &Inputs) -> 
             }))
         }
         Inputs::ReadSector { root, .. } => {
-            for place in (0..8).filter(|&p| host.places[p].held) {
-                for position in 0..host.places[place].size / host.sector {
-                    if host.root_looked_up(disk, place, position) == *root {
-                        note_sector_found(host, place, position);
-                        let sector = host.committed_sector(disk, place, position);
-                        return Ok(Some(Source { sectors: vec![sector], roots: vec![*root] }));
-                    }
-                }
-            }
-            Err(25)
+            let found = host.look_up(root, |spot| host.root_looked_up(disk, stage, spot));
+            lookup::note(host, root, found, lookup::By::ReadSector);
+            let sector = host.sector_at(disk, stage, found.ok_or(25u64)?);
+            Ok(Some(Source { sectors: vec![sector], roots: vec![*root] }))
         }
         _ => Ok(None),
-    }
-}
-
-fn note_sector_found(host: &Host, place: usize, position: u64) {
-    if host.parent() != Some(place) {
-        coverage::event("ReadSector found in another contract");
-    } else if position * host.sector >= host.program.running {
-        coverage::event("ReadSector found in the parent, position cut off");
-    } else if host.program.staged[position as usize] != NONE {
-        coverage::event("ReadSector found in the parent, position staged");
-    } else {
-        coverage::event("ReadSector found in the parent");
     }
 }
 

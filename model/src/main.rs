@@ -11,6 +11,7 @@ mod gen;
 mod head;
 mod host;
 mod instruction;
+mod lookup;
 mod memo;
 mod mixes;
 mod program;

@@ -4,6 +4,7 @@
 //! that needs a root asks here. The model's own tests ask for document 01's roots, worked out from all the bytes, and compare.
 
 use crate::host::*;
+use crate::lookup::Spot;
 use crate::tree::{self, Hash};
 use std::cell::Cell;
 
@@ -64,12 +65,20 @@ impl Host {
         tree::joined(&self.running_roots())
     }
 
-    /// The root by which ReadSector finds a committed sector.
-    pub fn root_looked_up(&self, disk: &[u8], place: usize, position: u64) -> Hash {
-        if are_worked_out() {
-            return tree::root(self.committed_sector(disk, place, position));
+    /// The kept root of a sector that the look-up sees: "the stage copy's root where there is one, else the disk's".
+    pub fn kept_root(&self, spot: Spot) -> Hash {
+        if spot.staged {
+            return self.running_root(spot.position);
         }
-        self.committed_root(place, position)
+        self.committed_root(spot.place, spot.position)
+    }
+
+    /// The root by which ReadSector finds a sector.
+    pub fn root_looked_up(&self, disk: &[u8], stage: &[u8], spot: Spot) -> Hash {
+        if are_worked_out() {
+            return tree::root(self.sector_at(disk, stage, spot));
+        }
+        self.kept_root(spot)
     }
 
     /// "for each committed position of each contract the kept root of its disk slot is the root of that sector's bytes, and for each staged

@@ -63,6 +63,7 @@ pub fn item_text(item: &Item) -> String {
         Item::Agree { disk, stage, size, root } => format!("agree lent {disk}, {stage}; size {size}, root {}", hex(root)),
         Item::Reached { disk, stage } => format!("reached lent {disk}, {stage}"),
         Item::Sound { disk, stage } => format!("sound lent {disk}, {stage}"),
+        Item::Locate { root } => format!("locate root {}", hex(root)),
         Item::Poke { field, i, j, value } => format!("poke field {field}, i {i}, j {j}, value {value}"),
         Item::Check { root, count, first, end, data, tail } => {
             let (bytes, hashes) = tail.split_at(*data as usize);
@@ -82,8 +83,16 @@ pub fn script_text(bytes: &[u8]) -> Vec<String> {
         let answered = player.make(&item);
         let (tally, growth) = (answered.tally, answered.growth);
         let (sector, disk, stage) = (player.host.sector, player.host.disk_sectors, player.host.stage_sectors);
-        let answers =
-            format!("answers {}, {tally}, {growth}; sector size {sector}, {disk} of disk, {stage} of stage", answered.answer);
+        let held = |staged: bool| if staged { "in the stage" } else { "on the disk" };
+        let spot = match (answered.spot, tally) {
+            (Some(spot), 1) => format!("; found {}: place {}, position {}", held(spot.staged), spot.place, spot.position),
+            (Some(_), _) => "; not found".to_string(),
+            (None, _) => String::new(),
+        };
+        let answers = format!(
+            "answers {}, {tally}, {growth}{spot}; sector size {sector}, {disk} of disk, {stage} of stage",
+            answered.answer
+        );
         lines.push(format!("item {}: {}\n      {answers}", lines.len(), item_text(&item)));
     }
     lines
@@ -105,19 +114,30 @@ pub fn depot_text(bytes: &[u8]) -> Vec<String> {
     lines
 }
 
-/// A report's numbers and hashes by name.
-pub fn report_lines(bytes: &[u8], with_root: bool) -> Vec<String> {
+/// A report's numbers and hashes by name, for the item that it is of.
+pub fn report_lines(bytes: &[u8], item: &Item) -> Vec<String> {
     let mut lines = Vec::new();
-    let _ = fill_report_lines(&mut Reader { rest: bytes }, with_root, &mut lines);
+    let _ = fill_report_lines(&mut Reader { rest: bytes }, item, &mut lines);
     lines
 }
 
-fn fill_report_lines(reader: &mut Reader, with_root: bool, lines: &mut Vec<String>) -> Result<(), u64> {
-    for name in ["answer", "tally, size or sound", "growth"] {
+fn fill_report_lines(reader: &mut Reader, item: &Item, lines: &mut Vec<String>) -> Result<(), u64> {
+    let second = match item {
+        Item::Reached { .. } => "size",
+        Item::Sound { .. } => "sound",
+        Item::Locate { .. } => "found",
+        _ => "tally",
+    };
+    for name in ["answer", second, "growth"] {
         lines.push(format!("{name} {}", reader.number()? as i64));
     }
-    if with_root {
+    if let Item::Reached { .. } = item {
         lines.push(format!("root {}", hex(reader.bytes(32)?)));
+    }
+    if let Item::Locate { .. } = item {
+        for name in ["found at place", "found at position", "found in the stage"] {
+            lines.push(format!("{name} {}", reader.number()?));
+        }
     }
     let sector = reader.number()?;
     lines.push(format!("sector size {sector}"));

@@ -9,11 +9,10 @@ use crate::roots;
 
 /// Where a player's host holds a root that is not its sector's; none where it is sound, not in order, or too large for the areas.
 pub fn found(player: &Player) -> Option<&'static str> {
-    let host = &player.host;
-    if !host.in_order() || host.disk_length() > player.disk.len() as u64 || host.stage_length() > player.stage.len() as u64 {
+    if !player.fits() {
         return None;
     }
-    host.unsound_at(&player.disk, &player.stage)
+    player.host.unsound_at(&player.disk, &player.stage)
 }
 
 /// What the call would do, and leave, if each root were worked out from the bytes.
@@ -81,6 +80,12 @@ pub fn note(written: u64, item: &Item, done: (&Answered, &Player), by_bytes: (&A
         Item::Piece { .. } if answered.answer == 0 => note_records(written as usize, after, other_after),
         Item::Interrupt { .. } if after.output != other_after.output => event("unsound: interrupt, another root"),
         Item::Reached { .. } if answered.root != other.root => event("unsound: another root reached"),
+        Item::Locate { .. } => match (answered.tally, other.tally) {
+            (1, 0) => event("unsound: l finds what the bytes do not have"),
+            (0, 1) => event("unsound: l does not find what the bytes have"),
+            _ if answered.spot != other.spot => event("unsound: l finds another sector"),
+            _ => {}
+        },
         _ => {}
     }
     if found(after).is_none() && after.host.in_order() {
