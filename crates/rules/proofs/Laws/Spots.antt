@@ -9,7 +9,7 @@ use lib.ListN.{length, take, drop, getD, length-take, length-drop}
 use lib.Seq.{getD-take, getD-drop, length-take-le}
 use lib.Dec.{leb, ltb, eqb}
 use borrow.Author.Tests.{not-true, leb-true, ltb-true, ltb-false, lt-ltb}
-use Rattle.area.specs.Pick.{pick, either}
+use Rattle.area.specs.Pick.{pick, both, either}
 use Rattle.area.specs.Area.{same, tab}
 use Rattle.area.proofs.Laws.Pick.{by, picks, skips, never, both-left, both-right, both-join}
 use Rattle.area.proofs.Laws.Tab.{length-tab}
@@ -120,10 +120,15 @@ unfolding seated every
 seated-every P i at [] h = refl
 seated-every P i at (x ∷ xs) h = both-join _ _ (both-left _ _ h) (seated-every P i (suc at) xs (both-right _ _ h))
 
-every-both : {A : Type 0} (p : A → Bool) (l m : List A) → every p l ≡ true → every p m ≡ true → every p (l ++ m) ≡ true
-unfolding every
-every-both p [] m u v = v
-every-both p (x ∷ xs) m u v = both-join _ _ (both-left _ _ u) (every-both p xs m (both-right _ _ u) v)
+both-both : (a b c : Bool) → both a (both b c) ≡ both (both a b) c
+unfolding pick
+both-both true b c = refl
+both-both false b c = refl
+
+every-append : {A : Type 0} (p : A → Bool) (l m : List A) → every p (l ++ m) ≡ both (every p l) (every p m)
+unfolding every pick
+every-append p [] m = refl
+every-append p (x ∷ xs) m = ap (both (p x)) (every-append p xs m) ∙ both-both (p x) (every p xs) (every p m)
 
 no-seats : (Q : Seat → Bool) → every Q [] ≡ true
 unfolding every
@@ -137,14 +142,16 @@ module _ (P : Spot → Bool) (z : ℕ) (mine : Place → Bool) where
   committed-every i (p ∷ ps) h =
       let l = seated i 0 (committedSpots z p) in
       let own = seated-every P i 0 (committedSpots z p) (disk-every P (committed z p) (every-fore _ (committed z p) _ h)) in
-      every-both (λ (x : Seat). P (x .spot)) (pick (mine p) [] l) (committedSeats z mine (suc i) ps)
-      (every-pick (λ (x : Seat). P (x .spot)) (mine p) [] l (no-seats _) own)
-      (committed-every (suc i) ps (every-aft _ (committed z p) _ h))
+      rw (
+        every-append (λ (x : Seat). P (x .spot)) (pick (mine p) [] l) (committedSeats z mine (suc i) ps),
+        every-pick (λ (x : Seat). P (x .spot)) (mine p) [] l (no-seats _) own,
+        committed-every (suc i) ps (every-aft _ (committed z p) _ h),
+      ) (both-join true true refl refl)
 
   pub seats-every : (own : List Spot) (ps : List Place) → every P own ≡ true → every (λ n. P (OnDisk n)) (taken z ps) ≡ true
       → every (λ x. P (x .spot)) (seats z mine own ps) ≡ true
   unfolding seats
-  seats-every own ps u v = every-both (λ (x : Seat). P (x .spot)) _ _ (seated-every P _ 0 own u) (committed-every 0 ps v)
+  seats-every own ps u v = rw (every-append (λ (x : Seat). P (x .spot)) _ _, seated-every P _ 0 own u, committed-every 0 ps v) (both-join true true refl refl)
 
 -- what is true of the parent's sectors and of all committed ones is true of all that a program looks through
 pub program-every : (P : Spot → Bool) (z : ℕ) (s : Setting) (p : Progress) → every P (parentSpots z s p) ≡ true

@@ -67,7 +67,7 @@ module _ (r : List ℕ → List ℕ) (new : Renaming r) where
 
     seats-as : (own : List Spot) (ps : List Place) → seats z mine′ own (allAs r new ps) ≡ seats z mine own ps
     unfolding seats
-    seats-as own ps = ap₂ (λ (n : ℕ) (l : List Seat). seated n 0 own ++ l) (first-as ps) (others-as 0 ps)
+    seats-as own ps = rw (first-as ps, others-as 0 ps)
 
   pub all-seats-as : (z : ℕ) (ps : List Place) → allSeats z (allAs r new ps) ≡ allSeats z ps
   unfolding nobody
