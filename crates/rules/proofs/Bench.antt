@@ -57,7 +57,8 @@ open-sia = 0
 
 -- opens the definitions of host
 unfoldable open-host : ℕ
-unfolding HostSizes.doubled HostSizes.isSize HostLists.some HostLists.those HostLists.each HostLists.firstOf HostLists.apart HostLists.sum HostLists.count HostEmpty.noPlace HostEmpty.noPrices
+unfolding HostSizes.doubled HostSizes.isSize HostLists.some HostLists.those HostLists.each HostLists.firstOf
+    HostLists.apart HostLists.sum HostLists.count HostEmpty.noPlace HostEmpty.noPrices
     HostEmpty.noTerms HostEmpty.noProgress HostEmpty.noProgram HostEmpty.bare HostEmpty.newPlace HostEmpty.started HostWith.withPlaces
     HostWith.withProgram HostWith.withStageRoots HostWith.withCame HostWith.withProgress HostWith.withRunning HostWith.withStaged HostPlaces.hasId HostPlaces.whose
     HostPlaces.ownSize HostPlaces.others HostPlaces.committed HostPlaces.taken HostPlaces.freeCopy HostOrder.lent HostOrder.placeInOrder

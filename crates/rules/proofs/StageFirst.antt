@@ -165,7 +165,8 @@ module _ (z : ℕ) (s : Setting) (f : Spot → List ℕ) (p : Progress) (key : L
             by (leb (x .position) j)
             (λ t. leb-true _ _ t)
             (λ t. let later = leb-false (x .position) j t in
-            absurd (not-earlier (picks (eqb home (x .place)) (ltb j (x .position)) _ (eq-eqb _ _ (sym in-parent)) ∙ lt-ltb j (x .position) (omega (arith, later)))))
+            absurd (not-earlier (picks (eqb home (x .place)) (ltb j (x .position)) _ (eq-eqb _ _ (sym in-parent))
+            ∙ lt-ltb j (x .position) (omega (arith, later)))))
 
   pub looks-in : apart twins (s .places) ≡ true → (readOnlyMode (s .terms) ≡ false → whose id (s .places) .held ≡ true) → Looks z s f p key
   looks-in a held = record {
@@ -201,7 +202,9 @@ inputs-missing : (z : ℕ) (s : Setting) (f : Spot → List ℕ) (p : Progress) 
     → sourceOf z s f p ReadSector (argsOf ReadSector l .key) ≡ missing → judgedInputs z s f p i ReadSector l ≡ 25
 unfolding judgedInputs changes isThere pick
 inputs-missing z s f p i l well none =
-    skips (not (wellFormed ReadSector l)) 23 _ (ap not well) ∙ picks (not (isThere (sourceOf z s f p ReadSector (argsOf ReadSector l .key)))) 25 _ (ap (λ (from : Source). not (isThere from)) none)
+    let from = sourceOf z s f p ReadSector (argsOf ReadSector l .key) in
+    skips (not (wellFormed ReadSector l)) 23 _ (ap not well)
+    ∙ picks (not (isThere from)) 25 _ (ap (λ (x : Source). not (isThere x)) none)
 
 refuses : (z : ℕ) (s : Setting) (t : Turn) → NotFound z s t
 unfolding judged

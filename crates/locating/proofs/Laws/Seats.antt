@@ -31,7 +31,8 @@ module _ (h : Host) (o : inOrder h ≡ true) where
     seeks-closed = closed-seeks (h .sector) set (h .diskroots) (h .stageroots) (order-solid h _ (zeros (h .stage * h .sector)) o (blank-right h)) d e
 
     pub seeks-program : h .program .active ≡ true → length (h .program .progress .staged) ≡ 64
-        → Seeks (h .sector) (h .diskroots) (h .stageroots) (h .places) (h .program .terms .head .contract) (h .program .progress .staged) (h .program .progress .size)
+        → let g = h .program in
+        Seeks (h .sector) (h .diskroots) (h .stageroots) (h .places) (g .terms .head .contract) (g .progress .staged) (g .progress .size)
     unfolding settingBy
     seeks-program live long =
         program-seeks (h .sector) set (h .diskroots) (h .stageroots) (order-solid h _ (zeros (h .stage * h .sector)) o (blank-right h)) d e

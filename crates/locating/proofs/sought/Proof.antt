@@ -26,7 +26,8 @@ live c = let at-progress = c .before .before .before in let at-terms = at-progre
 find-root-requires : tie.Need-find-root-requires
 find-root-requires c κs =
     let s = start (closed c .before) in
-    seeks-closed (s .args .host) (s .pre) (disk-rooted (s .args .host) _ (s .good .0)) (stage-rooted (s .args .host) _ (s .good .0)) _ _
+    let h = s .args .host in
+    seeks-closed h (s .pre) (disk-rooted h _ (s .good .0)) (stage-rooted h _ (s .good .0)) _ _
 
 returns : tie.Need-returns
 returns c =
@@ -40,8 +41,8 @@ find-root-requires-2 : tie.Need-find-root-requires-2
 find-root-requires-2 c κs =
     let at-if = live c in
     let s = start (at-if .before) in
-    seeks-program (s .args .host) (s .pre) (disk-rooted (s .args .host) _ (s .good .0)) (stage-rooted (s .args .host) _ (s .good .0)) (not-false _ (at-if .if1 .left))
-    (hosted (s .args .host) _ (s .good .0))
+    let h = s .args .host in
+    seeks-program h (s .pre) (disk-rooted h _ (s .good .0)) (stage-rooted h _ (s .good .0)) (not-false _ (at-if .if1 .left)) (hosted h _ (s .good .0))
 
 returns-2 : tie.Need-returns-2
 returns-2 c =

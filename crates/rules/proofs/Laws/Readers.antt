@@ -23,11 +23,13 @@ use Rattle.rules.specs.View.{Way, kept, worked, Setting, Turn, readOnlyM
 use Rattle.rules.specs.Roots.{sectorRoot, keptRoot, rootBy, rootOf, contractRoot, rangeProof}
 use Rattle.rules.specs.Seats.{seatsOf, firstSeat}
 use Rattle.rules.specs.Inputs.{argsOf, illFormed, pastEnd, wellFormed}
-use Rattle.rules.specs.Plan.{Source, missing, seen, isThere, spots, changes, contractSource, soughtSource, sectorSource, sourceOf, judgedSource, judgedInputs, judged}
+use Rattle.rules.specs.Plan.{Source, missing, seen, isThere, spots, changes, contractSource, soughtSource, sectorSource, sourceOf}
+use Rattle.rules.specs.Plan.{judgedSource, judgedInputs, judged}
 use Rattle.rules.specs.Facts.{Solid, startOf}
 use Rattle.rules.specs.Visit.{Shaped}
 use Rattle.rules.specs.Sound.{right, stagedRight}
-use Rattle.rules.proofs.Laws.Spots.{every-get, whose-every, whose-nobody, unstaged, every-tab, every-pick, pick-spots, disk-every, program-every, sought-every}
+use Rattle.rules.proofs.Laws.Spots.{every-get, whose-every, whose-nobody, unstaged, every-tab, every-pick, pick-spots, disk-every}
+use Rattle.rules.proofs.Laws.Spots.{program-every, sought-every}
 use Rattle.rules.proofs.Laws.Rehashed.{right-at}
 use Rattle.sia.specs.declared.Op.{Op}
 use Rattle.sia.specs.declared.Op.the-variants.{Read, ReadSector, Write, Copy, Swap, Truncate, Unknown}
@@ -186,7 +188,9 @@ source-way way z s f p Swap key = refl
 source-way way z s f p Truncate key = refl
 source-way way z s f p Unknown key = refl
 
-source-agree : (z : ℕ) (s : Setting) (f g : Spot → List ℕ) (p : Progress) (op : Op) (key : List ℕ) → every (λ x. agree f g (x .spot)) (seatsOf z s p) ≡ true → sourceOf z s f p op key ≡ sourceOf z s g p op key
+source-agree : (z : ℕ) (s : Setting) (f g : Spot → List ℕ) (p : Progress) (op : Op) (key : List ℕ)
+    → every (λ x. agree f g (x .spot)) (seatsOf z s p) ≡ true
+    → sourceOf z s f p op key ≡ sourceOf z s g p op key
 unfolding sourceOf sectorSource
 source-agree z s f g p Read key h = refl
 source-agree z s f g p ReadSector key h = ap soughtSource (first-agree f g key (seatsOf z s p) h)
@@ -200,14 +204,16 @@ pub source-alike : (z : ℕ) (s : Setting) (f g : Spot → List ℕ) (p : Progre
     → sourceOf z (withWay kept s) f p op key ≡ sourceOf z (withWay worked s) g p op key
 source-alike z s f g p op key h = source-way kept z s f p op key ∙ source-agree z s f g p op key h ∙ sym (source-way worked z s g p op key)
 
-inputs-alike : (z : ℕ) (s : Setting) (f g : Spot → List ℕ) (p : Progress) (i : Instruction) (op : Op) (l : List (List ℕ)) → every (λ x. agree f g (x .spot)) (seatsOf z s p) ≡ true
+inputs-alike : (z : ℕ) (s : Setting) (f g : Spot → List ℕ) (p : Progress) (i : Instruction) (op : Op) (l : List (List ℕ))
+    → every (λ x. agree f g (x .spot)) (seatsOf z s p) ≡ true
     → judgedInputs z (withWay kept s) f p i op l ≡ judgedInputs z (withWay worked s) g p i op l
 unfolding judgedInputs judgedSource readOnlyMode freeCopies withWay
 inputs-alike z s f g p i op l h =
     ap (λ (from : Source). pick (not (wellFormed op l)) 23 (pick (both (changes op) (readOnlyMode (s .terms))) 24 (pick (not (isThere from)) 25 (judgedSource z s p (i .proof) from op (argsOf op l)))))
     (source-alike z s f g p op (argsOf op l .key) h)
 
-pub judged-alike : (z : ℕ) (s : Setting) (f g : Spot → List ℕ) (p : Progress) (i : Instruction) (l : List (List ℕ)) → every (λ x. agree f g (x .spot)) (seatsOf z s p) ≡ true
+pub judged-alike : (z : ℕ) (s : Setting) (f g : Spot → List ℕ) (p : Progress) (i : Instruction) (l : List (List ℕ))
+    → every (λ x. agree f g (x .spot)) (seatsOf z s p) ≡ true
     → judged z (withWay kept s) f p i l ≡ judged z (withWay worked s) g p i l
 unfolding judged withWay
 judged-alike z s f g p i l h = ap (λ (n : ℕ). pick (illFormed i) 21 (pick (pastEnd (s .terms .head .length) i) 22 n)) (inputs-alike z s f g p i (opOf (i .name)) l h)

@@ -179,7 +179,8 @@ module _ (f : Spot → List ℕ) (key : List ℕ) (z : ℕ) (mine : Place → Bo
   own i p = firstSeat f key (pick (mine p) [] (seated i 0 (committedSpots z p)))
 
   -- one place and those behind it
-  one-more : (i : ℕ) (p : Place) (ps : List Place) → firstSeat f key (committedSeats z mine i (p ∷ ps)) ≡ orElse (own i p) (firstSeat f key (committedSeats z mine (suc i) ps))
+  one-more : (i : ℕ) (p : Place) (ps : List Place)
+      → firstSeat f key (committedSeats z mine i (p ∷ ps)) ≡ orElse (own i p) (firstSeat f key (committedSeats z mine (suc i) ps))
   unfolding committedSeats
   one-more i p ps = first-both f key (pick (mine p) [] (seated i 0 (committedSpots z p))) (committedSeats z mine (suc i) ps)
 
@@ -190,7 +191,8 @@ module _ (f : Spot → List ℕ) (key : List ℕ) (z : ℕ) (mine : Place → Bo
       (λ t. (t, seated-at f key i 0 (committedSpots z p) x (sym (ap (firstSeat f key) (skips (mine p) [] (seated i 0 (committedSpots z p)) t)) ∙ e)))
 
   own-none : (i : ℕ) (p : Place) (ps : List Place) → own i p ≡ Nowhere → Passed (p ∷ ps) 0
-  own-none i p ps e t j h = seated-none f key i 0 (committedSpots z p) (sym (ap (firstSeat f key) (skips (mine p) [] (seated i 0 (committedSpots z p)) t)) ∙ e) j h
+  own-none i p ps e t j h =
+      seated-none f key i 0 (committedSpots z p) (sym (ap (firstSeat f key) (skips (mine p) [] (seated i 0 (committedSpots z p)) t)) ∙ e) j h
 
   pub committed-at : (i : ℕ) (ps : List Place) (x : Seat) → firstSeat f key (committedSeats z mine i ps) ≡ At x → There i ps x
   unfolding committedSeats orElse

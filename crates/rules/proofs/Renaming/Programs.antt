@@ -1,5 +1,5 @@
--- Pieces, interrupts, what a program has reached and the look-up of a root, under new ids: down the two chains of each call side by side, and what runs then runs
--- alike. Assumes nothing.
+-- Pieces, interrupts, what a program has reached and the look-up of a root, under new ids: down the two chains of each call side by side, and
+-- what runs then runs alike. Assumes nothing.
 use mathlib.Core.Path.{_≡_, refl, sym, ap, ap₂, _∙_}
 use mathlib.Core.Bool.{Bool, true, not}
 use mathlib.Core.List.{List, []}

@@ -51,7 +51,8 @@ pub sound-disk : (disk : List ℕ) (h : Host) (stage : List ℕ) → sound disk 
 unfolding sound rootsRight
 sound-disk disk h stage e = both-left _ _ (both-right _ _ e)
 
-pub sound-stage : (disk : List ℕ) (h : Host) (stage : List ℕ) → sound disk h stage ≡ true → h .program .active ≡ true → stagedRight (h .sector) stage (h .stageroots) (h .program .progress .staged) ≡ true
+pub sound-stage : (disk : List ℕ) (h : Host) (stage : List ℕ) → sound disk h stage ≡ true → h .program .active ≡ true
+    → stagedRight (h .sector) stage (h .stageroots) (h .program .progress .staged) ≡ true
 unfolding sound rootsRight
 sound-stage disk h stage e live = either-second (h .program .active) _ (both-right _ _ (both-right _ _ e)) live
 

@@ -34,7 +34,8 @@ use Rattle.rules.proofs.Laws.Trails.{trail-zero, trail-go, trail-stop}
 use Rattle.rules.proofs.Laws.Wrote.{Wrote, wrote-effect}
 use Rattle.rules.proofs.Laws.Rehashed.{rehashed-right}
 use Rattle.rules.proofs.Laws.Areas.{rehashed-length}
-use Rattle.rules.proofs.Laws.Readers.{agree, every-none, root-agree, proof-agree, all-start, all-seats, all-parent, all-source, withWay, Known, known-disk, known-stage, source-alike, judged-alike}
+use Rattle.rules.proofs.Laws.Readers.{agree, every-none, root-agree, proof-agree, all-start, all-seats, all-parent, all-source}
+use Rattle.rules.proofs.Laws.Readers.{withWay, Known, known-disk, known-stage, source-alike, judged-alike}
 use Rattle.sia.specs.declared.Op.{Op}
 use Rattle.sia.specs.declared.Op.the-variants.{Read, ReadSector, Write, Copy, Swap, Truncate, Unknown}
 use Rattle.sia.specs.declared.Instruction.{Instruction}

@@ -24,16 +24,20 @@ loop-holds c =
 
 returns : tie.Need-returns Inv-loop μ-loop
 returns c =
-    let l = c .before .before .before .before .loop in
-    let s = c .before .before .before .before .before in
+    let at-place = c .before .before in
+    let at-loop = at-place .before .before in
+    let l = at-loop .loop in
+    let s = at-loop .before in
     let here = first-here (hasId (s .args .id)) (s .args .t1) (l .i) 8 blank (s .good .0 .1 .0 .1) (omega arith) (omega arith)
     (sym (c .before .has-id .ensures) ∙ c .if1 .taken) in
     omega (arith, here, l .inv)
 
 loop-again : tie.Need-loop-again Inv-loop μ-loop
 loop-again c =
-    let l = c .before .before .before .before .loop in
-    let s = c .before .before .before .before .before in
+    let at-place = c .before .before in
+    let at-loop = at-place .before .before in
+    let l = at-loop .loop in
+    let s = at-loop .before in
     let further = first-further (hasId (s .args .id)) (s .args .t1) (l .i) 8 blank (s .good .0 .1 .0 .1) (omega arith) (omega arith)
     (sym (c .before .has-id .ensures) ∙ c .if1 .left) in
     omega (arith, further, l .inv)

@@ -22,14 +22,15 @@ enum-told c = search needs
 
 contract-source-requires : tie.Need-contract-source-requires
 contract-source-requires c κs =
-    let stand = c .before .before .before .before .pre .seeks .stand in
+    let at-match = c .before .before in
+    let stand = at-match .before .before .pre .seeks .stand in
     (stand .size, stand .order)
 
 enum-told-2 : tie.Need-enum-told-2
 enum-told-2 c = search needs
 
 sector-source-requires : tie.Need-sector-source-requires
-sector-source-requires c κs = c .before .before .before .before .pre
+sector-source-requires c κs = let at-match = c .before .before in at-match .before .before .pre
 
 enum-told-3 : tie.Need-enum-told-3
 enum-told-3 c = search needs

@@ -26,7 +26,7 @@ abbrev μ-loop : tie.MeasureT-loop
 
 -- the function's start, from where its locals are made
 abbrev start : tie.After-staged Inv-loop μ-loop → tie.Start Inv-loop μ-loop
-start c = c .before .before .before .before
+start c = let at-slices = c .before .before in at-slices .before .before
 
 loop-holds : tie.Need-loop-holds Inv-loop μ-loop
 loop-holds c = position-all _ _ _ _ _

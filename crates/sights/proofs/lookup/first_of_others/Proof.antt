@@ -3,6 +3,7 @@
 use mathlib.Core.Path.{_≡_, sym, ap, _∙_}
 use Prim.Native.Nat.{_-_}
 use native.Mathlib.Omega.{arith}
+use lib.ListN.{length}
 use lib.Seq.{slice}
 use borrow.Author.Needs.{needs}
 use Rattle.host.specs.Places.{hasId}
@@ -26,23 +27,26 @@ abbrev μ-loop : tie.MeasureT-loop
 abbrev start : tie.After-shared-slice-known2 Inv-loop μ-loop → tie.Start Inv-loop μ-loop
 start c = c .before .before
 
+long : (s : tie.Start Inv-loop μ-loop) → length (s .args .t4) ≡ 8
+long s = s .good .1 .1 .1 .0 .1 .0 .1
+
 loop-holds : tie.Need-loop-holds Inv-loop μ-loop
 loop-holds c =
     let s = start c in
     let f = keptRoot (s .args .diskroots .now) (s .args .stageroots .now) in
-    sym (ap (λ l. firstSeat f (s .args .key) (committedSeats (s .args .z) (hasId (s .args .id)) 0 l)) (slice-all (s .args .t4) (s .good .1 .1 .1 .0 .1 .0 .1)))
+    sym (ap (λ l. firstSeat f (s .args .key) (committedSeats (s .args .z) (hasId (s .args .id)) 0 l)) (slice-all (s .args .t4) (long s)))
 
 first-unless-requires : tie.Need-first-unless-requires Inv-loop μ-loop
 first-unless-requires c κs =
     let s = start (c .before .before .before) in
-    stands-at _ _ (s .args .t4) (c .before .before .loop .i) blank (omega (arith, s .good .1 .1 .1 .0 .1 .0 .1, c .before .loop-test .taken)) (s .pre)
+    stands-at _ _ (s .args .t4) (c .before .before .loop .i) blank (omega (arith, long s, c .before .loop-test .taken)) (s .pre)
 
 returns : tie.Need-returns Inv-loop μ-loop
 returns c =
     let at-first = c .before .before in
     let l = at-first .before .before .before in
     let s = start (l .before) in
-    place-here _ _ (s .args .z) (hasId (s .args .id)) (s .args .t4) (l .loop .i) 8 (s .good .1 .1 .1 .0 .1 .0 .1) (at-first .first-unless .ensures) (omega arith)
+    place-here _ _ (s .args .z) (hasId (s .args .id)) (s .args .t4) (l .loop .i) 8 (long s) (at-first .first-unless .ensures) (omega arith)
     (sym (c .before .is-found .ensures) ∙ c .if1 .taken)
     ∙ sym (l .loop .inv)
 
@@ -52,14 +56,14 @@ loop-again c =
     let l = at-first .before .before .before in
     let s = start (l .before) in
     l .loop .inv
-    ∙ place-further _ _ (s .args .z) (hasId (s .args .id)) (s .args .t4) (l .loop .i) 8 (s .good .1 .1 .1 .0 .1 .0 .1) (at-first .first-unless .ensures) (omega arith)
+    ∙ place-further _ _ (s .args .z) (hasId (s .args .id)) (s .args .t4) (l .loop .i) 8 (long s) (at-first .first-unless .ensures) (omega arith)
     (sym (c .before .is-found .ensures) ∙ c .if1 .left)
 
 returns-2 : tie.Need-returns-2 Inv-loop μ-loop
 returns-2 c =
     let l = c .before in
     let s = start (l .before) in
-    place-none _ _ (s .args .z) (hasId (s .args .id)) (s .args .t4) (l .loop .i) 8 (s .good .1 .1 .1 .0 .1 .0 .1) (omega arith) ∙ sym (l .loop .inv)
+    place-none _ _ (s .args .z) (hasId (s .args .id)) (s .args .t4) (l .loop .i) 8 (long s) (omega arith) ∙ sym (l .loop .inv)
 
 pub first-of-others-spec : {M : Type 1} → statement M
 first-of-others-spec =
