@@ -25,7 +25,7 @@ use Rattle.plan.specs.declared.Plan.{Plan}
 -- what a plan asks: the numbers of a host in order, and what its look-up asks
 pub record Plans (z : ℕ) (s : Setting) (p : Progress) (diskroots stageroots : List ℕ) : Type 0 where
   pub lent : Lent z s
-  pub sources : Sources z diskroots stageroots (s .places) (s .terms) p
+  pub sources : Sources z diskroots stageroots (s .places) (s .terms .head .contract) p
 
 -- what a plan says: of what is read, the sectors
 pub record Said : Type 0 where

@@ -79,7 +79,7 @@ fn argued<'a>(
         return Plan::failed(op, 24);
     }
     let key = args.key;
-    let source = source_of(z, diskroots, stageroots, places, terms, p, op, key);
+    let source = source_of(z, diskroots, stageroots, places, id, p, op, key);
     if !source.there {
         return Plan::failed(op, 25);
     }

@@ -2,7 +2,6 @@
 use crate::Source;
 use host::Place;
 use host::Progress;
-use host::Terms;
 use rules::Sought;
 use sia::Op;
 use view::Seen;
@@ -12,12 +11,11 @@ ghost use mathlib.Core.List.{[]};
 ghost use Rattle.area.specs.Slots.{Size};
 ghost use Rattle.sia.specs.Encode.{every};
 ghost use Rattle.host.specs.Order.{placeInOrder};
-ghost use Rattle.rules.specs.View.{setting};
 ghost use Rattle.rules.specs.Roots.{keptRoot};
 ghost use Rattle.rules.specs.Plan.{contractSource, sectorSource, sourceOf, missing};
 ghost use Rattle.rules.specs.Plan as Says;
 ghost use Rattle.view.specs.Seen.{spotsOf};
-ghost use Rattle.plan.specs.Source.{Sources, Shows};
+ghost use Rattle.plan.specs.Source.{looking, Sources, Shows};
 
 // No sectors.
 pub fn no_sectors() -> Seen
@@ -51,17 +49,15 @@ impl Source {
 }
 
 // Read: the parent as it is now, another contract as committed.
-fn contract_source(z: u64, places: [Place; 8], terms: Terms, p: Progress, key: [u8; 32]) -> Source
+fn contract_source(z: u64, places: [Place; 8], id: [u8; 32], p: Progress, key: [u8; 32]) -> Source
     requires { ⌜ Size z ⌝ }
     requires { ⌜ every (placeInOrder z) places ≡ true ⌝ }
-    ensures { λ r. ⌜ Shows r (contractSource z (setting 0 0 places terms [] []) p key) ⌝ }
+    ensures { λ r. ⌜ Shows r (contractSource z (looking places id) p key) ⌝ }
 {
     let other = host::place_of(places, key);
     if !other.held {
         return Source::missing();
     }
-    let head = terms.head;
-    let id = head.contract;
     if sia::same_id(key, id) {
         let staged = p.staged;
         let seen = sights::parent_seen(z, other, staged, p.size);
@@ -77,15 +73,13 @@ fn sector_source<'a>(
     diskroots: &'a [u8],
     stageroots: &'a [u8],
     places: [Place; 8],
-    terms: Terms,
+    id: [u8; 32],
     p: Progress,
     key: [u8; 32],
 ) -> Source
-    requires { ⌜ Sources z (now diskroots) (now stageroots) places terms p ⌝ }
-    ensures { λ r. ⌜ Shows r (sectorSource z (setting 0 0 places terms [] []) (keptRoot (now (diskroots .entry)) (now (stageroots .entry))) p key) ⌝ }
+    requires { ⌜ Sources z (now diskroots) (now stageroots) places id p ⌝ }
+    ensures { λ r. ⌜ Shows r (sectorSource z (looking places id) (keptRoot (now (diskroots .entry)) (now (stageroots .entry))) p key) ⌝ }
 {
-    let head = terms.head;
-    let id = head.contract;
     let staged = p.staged;
     let found = sights::find_root(z, diskroots, stageroots, places, id, staged, p.size, key);
     let Sought::At(seat) = found else {
@@ -96,23 +90,23 @@ fn sector_source<'a>(
     Source { there: true, seen }
 }
 
-// What an instruction reads. Where nothing is found it is not there.
+// What an instruction reads; `id` is the program's own contract. Where nothing is found it is not there.
 pub fn source_of<'a>(
     z: u64,
     diskroots: &'a [u8],
     stageroots: &'a [u8],
     places: [Place; 8],
-    terms: Terms,
+    id: [u8; 32],
     p: Progress,
     op: Op,
     key: [u8; 32],
 ) -> Source
-    requires { ⌜ Sources z (now diskroots) (now stageroots) places terms p ⌝ }
-    ensures { λ r. ⌜ Shows r (sourceOf z (setting 0 0 places terms [] []) (keptRoot (now (diskroots .entry)) (now (stageroots .entry))) p op key) ⌝ }
+    requires { ⌜ Sources z (now diskroots) (now stageroots) places id p ⌝ }
+    ensures { λ r. ⌜ Shows r (sourceOf z (looking places id) (keptRoot (now (diskroots .entry)) (now (stageroots .entry))) p op key) ⌝ }
 {
     match op {
-        Op::Read => contract_source(z, places, terms, p, key),
-        Op::ReadSector => sector_source(z, diskroots, stageroots, places, terms, p, key),
+        Op::Read => contract_source(z, places, id, p, key),
+        Op::ReadSector => sector_source(z, diskroots, stageroots, places, id, p, key),
         Op::Write => Source::nothing(),
         Op::Copy => Source::nothing(),
         Op::Swap => Source::nothing(),

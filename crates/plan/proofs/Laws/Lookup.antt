@@ -14,7 +14,7 @@ use Rattle.sia.specs.Encode.{every}
 use Rattle.host.specs.Empty.{noPlace}
 use Rattle.host.specs.Places.{hasId, whose}
 use Rattle.host.specs.Order.{placeInOrder}
-use Rattle.rules.specs.View.{Setting, setting, parent, parentSpots, committedSpots}
+use Rattle.rules.specs.View.{Setting, parent, parentSpots, committedSpots}
 use Rattle.rules.specs.Roots.{keptRoot}
 use Rattle.rules.specs.Seats.{seats, firstSeat}
 use Rattle.rules.specs.Plan.{missing, seen, spots, isThere, contractSource, soughtSource, sectorSource}
@@ -24,7 +24,6 @@ use Rattle.rules.specs.Plan as Says
 use Rattle.view.specs.Seen.{spotsOf, holds, lies}
 use Rattle.sights.specs.Asks.{Narrow, ownSpots}
 use Rattle.host.specs.declared.Place.{Place}
-use Rattle.host.specs.declared.Terms.{Terms}
 use Rattle.host.specs.declared.Progress.{Progress}
 use Rattle.rules.specs.declared.Spot.{Spot}
 use Rattle.rules.specs.declared.Spot.the-variants.{OnDisk, InStage}
@@ -32,7 +31,7 @@ use Rattle.rules.specs.declared.Seat.{Seat}
 use Rattle.rules.specs.declared.Sought.{Sought}
 use Rattle.rules.specs.declared.Sought.the-variants.{At, Nowhere}
 use Rattle.view.specs.declared.Seen.{Seen}
-use Rattle.plan.specs.Source.{Sources, Shows}
+use Rattle.plan.specs.Source.{looking, Sources, Shows}
 use Rattle.plan.specs.declared.Source.{Source}
 
 pub shows-as : (r : Source) (x y : Says.Source) → x ≡ y → Shows r x → Shows r y
@@ -88,19 +87,19 @@ unfolding lies holds
 narrow diskroots stageroots (OnDisk n) d e h = omega (arith, d, leb-true (n * 32 + 32) (length diskroots) h)
 narrow diskroots stageroots (InStage n) d e h = omega (arith, e, leb-true (n * 32 + 32) (length stageroots) h)
 
-module _ (z : ℕ) (diskroots stageroots : List ℕ) (ps : List Place) (t : Terms) (p : Progress) (a : Sources z diskroots stageroots ps t p)
+module _ (z : ℕ) (diskroots stageroots : List ℕ) (ps : List Place) (id : List ℕ) (p : Progress) (a : Sources z diskroots stageroots ps id p)
     (key : List ℕ) where
   abbrev bare : Setting
-  bare = setting 0 0 ps t [] []
+  bare = looking ps id
 
   abbrev f : Spot → List ℕ
   f = keptRoot diskroots stageroots
 
   abbrev own : List Spot
-  own = ownSpots z ps (t .head .contract) (p .staged) (p .size)
+  own = ownSpots z ps id (p .staged) (p .size)
 
   -- what the look-up comes to is the source
-  module _ {r : Sought} (e : r ≡ firstSeat f key (seats z (hasId (t .head .contract)) own ps)) where
+  module _ {r : Sought} (e : r ≡ firstSeat f key (seats z (hasId id) own ps)) where
     pub source-is : soughtSource r ≡ sectorSource z bare f p key
     unfolding sectorSource parentSpots parent
     source-is = ap soughtSource (e ∙ ap (firstSeat f key) (seats-program z bare p (a .seeks .stand .order) (a .parent)))
@@ -109,7 +108,7 @@ module _ (z : ℕ) (diskroots stageroots : List ℕ) (ps : List Place) (t : Term
     pub sought-narrow : (x : Seat) → r ≡ At x → Narrow (x .spot)
     unfolding soughtSource spots every lies
     sought-narrow x q =
-        let all = seats-every (lies 32 diskroots stageroots) z (hasId (t .head .contract)) own ps (a .seeks .own) (a .seeks .stand .slots) in
+        let all = seats-every (lies 32 diskroots stageroots) z (hasId id) own ps (a .seeks .own) (a .seeks .stand .slots) in
         let one = sought-every (lies 32 diskroots stageroots) f key _ all in
         narrow diskroots stageroots (x .spot) (a .disk) (a .stage)
         (both-left _ _ (sym (ap (λ (s : Sought). every (lies 32 diskroots stageroots) (spots (soughtSource s))) (sym e ∙ q)) ∙ one))

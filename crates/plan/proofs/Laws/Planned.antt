@@ -26,16 +26,17 @@ use Rattle.rules.specs.declared.Spot.{Spot}
 use Rattle.inputs.specs.Given.{placed, fromOf}
 use Rattle.pricing.specs.Numbers.{numbers}
 use Rattle.judging.specs.Weighed.{fine, weighed}
+use Rattle.plan.specs.Source.{looking}
 use Rattle.plan.specs.Planned.{failed, argued, runs, planOf}
 use Rattle.inputs.specs.declared.Args as code
 use Rattle.judging.specs.declared.Weighed.{Weighed}
 use Rattle.judging.proofs.Laws.Weighed.{number-judged}
 use Rattle.plan.proofs.Laws.Alike.{weighed-real}
 
--- ---- what is read looks at contracts and terms alone, and at roots by their reader
+-- ---- what is read looks at contracts and the program's id alone, and at roots by their reader
 
 pub source-same : (z : ℕ) (s : Setting) (f : Spot → List ℕ) (p : Progress) (op : Op) (key : List ℕ)
-    → sourceOf z (setting 0 0 (s .places) (s .terms) [] []) f p op key ≡ sourceOf z s f p op key
+    → sourceOf z (looking (s .places) (s .terms .head .contract)) f p op key ≡ sourceOf z s f p op key
 unfolding sourceOf contractSource parentSpots parent sectorSource seatsOf readOnlyMode
 source-same z s f p Read key = refl
 source-same z s f p ReadSector key = refl

@@ -5,7 +5,7 @@ use Rattle.plan.proofs.lookup.sector_source.Statement.{statement}
 use Rattle.plan.proofs.lookup.sector_source.Tie as tie
 
 abbrev start : tie.After-find-root → tie.Start
-start c = let at-head = c .before .before .before in at-head .before .before .before
+start c = let at-staged = c .before in at-staged .before .before .before
 
 returns : tie.Need-returns
 returns c =

@@ -1,7 +1,6 @@
 -- `plan::lookup::source_of` meets its contract, arm by arm. Assumes nothing.
 use mathlib.Core.Path.{sym, ap}
-use mathlib.Core.List.{[]}
-use Rattle.rules.specs.View.{setting}
+use Rattle.plan.specs.Source.{looking}
 use Rattle.plan.proofs.Laws.Lookup.{shows-as}
 use Rattle.rules.specs.View.{parent, parentSpots}
 use Rattle.rules.specs.Roots.{keptRoot}
@@ -14,7 +13,7 @@ use Rattle.plan.proofs.lookup.source_of.Tie as tie
 -- what is read, by the operation
 abbrev source-at : tie.Start → Op → Source
 source-at s o =
-    sourceOf (s .args .z) (setting 0 0 (s .args .places) (s .args .terms) [] []) (keptRoot (s .args .diskroots .now) (s .args .stageroots .now)) (s .args .p) o
+    sourceOf (s .args .z) (looking (s .args .places) (s .args .id)) (keptRoot (s .args .diskroots .now) (s .args .stageroots .now)) (s .args .p) o
     (s .args .key)
 
 enum-told : tie.Need-enum-told
