@@ -6,7 +6,6 @@ ghost use Rattle.host.specs.Order.{inOrder};
 ghost use Rattle.rules.specs.Roots.{keptRoot};
 ghost use Rattle.rules.specs.Seats.{firstSeat, seatsIn, notLocated, isStaged, locatedAt, located};
 use host::Host;
-use host::Progress;
 use rules::Located;
 use rules::Sought;
 use rules::Spot;
@@ -22,16 +21,14 @@ fn sought(host: Host, root: [u8; 32]) -> Sought
     let stageroots = host.stageroots;
     let program = host.program;
     if !program.active {
-        let nobody = sia::Head::READ_ONLY;
-        let none = [Progress::NONE; 64];
-        return sights::find_root(z, &diskroots, &stageroots, places, nobody, none, 0, root);
+        return sights::find_in_all(z, &diskroots, &stageroots, places, root);
     }
     let terms = program.terms;
     let head = terms.head;
     let id = head.contract;
     let progress = program.progress;
     let staged = progress.staged;
-    sights::find_root(
+    sights::find_for(
         z,
         &diskroots,
         &stageroots,

@@ -4,7 +4,6 @@ use mathlib.Core.Bool.{true}
 use mathlib.Core.List.{List, []}
 use Prim.Native.Nat.{ℕ, _*_, _≤_}
 use lib.ListN.{length}
-use Rattle.host.specs.Order.{parentInOrder}
 use Rattle.host.specs.Empty.{noPrices}
 use Rattle.rules.specs.View.{Setting, setting}
 use Rattle.rules.specs.Plan.{isThere, spots}
@@ -23,7 +22,6 @@ looking ps id =
 -- of a program in order: a root kept beside each slot in use, of which a host has at most 64 on the disk and 16 in the stage
 pub record Sources (z : ℕ) (diskroots stageroots : List ℕ) (ps : List Place) (id : List ℕ) (p : Progress) : Type 0 where
   pub seeks : Seeks z diskroots stageroots ps id (p .staged) (p .size)
-  pub parent : parentInOrder ps id (p .size) ≡ true
   pub disk : length diskroots ≤ 64 * 32
   pub stage : length stageroots ≤ 16 * 32
 

@@ -81,7 +81,7 @@ fn sector_source<'a>(
     ensures { λ r. ⌜ Shows r (sectorSource z (looking places id) (keptRoot (now (diskroots .entry)) (now (stageroots .entry))) p key) ⌝ }
 {
     let staged = p.staged;
-    let found = sights::find_root(z, diskroots, stageroots, places, id, staged, p.size, key);
+    let found = sights::find_for(z, diskroots, stageroots, places, id, staged, p.size, key);
     let Sought::At(seat) = found else {
         return Source::missing();
     };

@@ -1,47 +1,33 @@
--- What callers use: what a look-up asks, of a program in order and with no program. z is the sector size. Assumes nothing.
-use mathlib.Core.Path.{_≡_, ap}
+-- What callers use: what a look-up asks, with a program in order and with none. z is the sector size. Assumes nothing.
+use mathlib.Core.Path.{_≡_}
 use mathlib.Core.List.{List}
 use Prim.Native.Nat.{ℕ}
-use native.Mathlib.Nat.{zero-div}
 use native.Mathlib.Omega.{arith}
 use lib.ListN.{length}
-use Rattle.area.specs.Area.{tab}
-use Rattle.sia.specs.Encode.{every}
-use Rattle.host.specs.Places.{whose, taken}
-use Rattle.rules.specs.View.{Setting, parent, spotOf, parentSpots}
+use Rattle.host.specs.Places.{taken}
+use Rattle.rules.specs.View.{Setting, parent, parentSpots}
 use Rattle.rules.specs.Facts.{Solid, Good}
 use Rattle.rules.proofs.Laws.Spots.{parent-valid}
 use Rattle.rules.proofs.Sound.Steps.{few-sectors}
-use Rattle.view.specs.Seen.{lies}
 use Rattle.view.proofs.Callers.{slots-hold, every-lies}
 use Rattle.host.specs.declared.Progress.{Progress}
 use Rattle.sights.specs.Asks.{Stand, Seeks}
 
-module _ (z : ℕ) (s : Setting) (diskroots stageroots : List ℕ) (solid : Solid z s) (d : length diskroots ≡ 2048) (e : length stageroots ≡ 512) where
-  all-stand : Stand z diskroots (s .places)
+module _ (z : ℕ) (s : Setting) (diskroots : List ℕ) (solid : Solid z s) (d : length diskroots ≡ 2048) where
+  pub all-stand : Stand z diskroots (s .places)
   all-stand = record {
     size = solid .lent .size;
     order = solid .small;
     slots = slots-hold 32 diskroots (s .sectors) (taken z (s .places)) (omega (arith, solid .lent .most, d)) (solid .slots);
   }
 
-  pub program-seeks : (p : Progress) → Good z s p → Seeks z diskroots stageroots (s .places) (s .terms .head .contract) (p .staged) (p .size)
+  pub program-seeks : (stageroots : List ℕ) → length stageroots ≡ 512 → (p : Progress) → Good z s p → Seeks z diskroots stageroots (s .places) (s .terms .head .contract) (p .staged) (p .size)
   unfolding parentSpots parent
-  program-seeks p good =
+  program-seeks stageroots e p good =
       let few = few-sectors z s p (solid .lent) good in
       record {
         few = few;
         own = every-lies 32 s diskroots stageroots (omega (arith, d, solid .lent .most)) (omega (arith, e, solid .lent .few)) _
             (parent-valid z s p solid (good .orderly .staged) (omega (arith, few, good .entries)));
-        stand = all-stand;
-      }
-
-  pub closed-seeks : (id staged : List ℕ) → Seeks z diskroots stageroots (s .places) id staged 0
-  unfolding tab every
-  closed-seeks id staged =
-      let none = zero-div z in
-      record {
-        few = omega (arith, none);
-        own = ap (λ (n : ℕ). every (lies 32 diskroots stageroots) (tab 0 n (spotOf (whose id (s .places) .slots) staged))) none;
         stand = all-stand;
       }

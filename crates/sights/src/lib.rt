@@ -3,7 +3,8 @@
 mod lookup; // lookup.rt: the sector that has a root
 mod seen; // seen.rt: the parent, a committed contract, one sector
 
-pub use lookup::find_root;
+pub use lookup::find_for;
+pub use lookup::find_in_all;
 pub use seen::committed_seen;
 pub use seen::one;
 pub use seen::parent_seen;

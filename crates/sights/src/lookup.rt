@@ -5,18 +5,21 @@ ghost use mathlib.Core.Bool.{true};
 ghost use mathlib.Core.List.{[]};
 ghost use Rattle.area.specs.Pick.{pick};
 ghost use Rattle.area.specs.Area.{same};
+ghost use Rattle.sia.specs.Names.{readOnly};
 ghost use Rattle.host.specs.Places.{hasId};
 ghost use Rattle.rules.specs.View.{committedSpots};
 ghost use Rattle.rules.specs.Roots.{keptRoot};
-ghost use Rattle.rules.specs.Seats.{seated, committedSeats, seats, firstSeat};
+ghost use Rattle.rules.specs.Seats.{seated, committedSeats, seats, allSeats, firstSeat};
 ghost use Rattle.view.specs.Seen.{spotsOf, lies, Known};
 ghost use Rattle.sights.specs.Asks.{isFound, Stands, Stand, Seeks, ownSpots};
 use crate::seen;
 use host::Host;
 use host::Place;
+use host::Progress;
 use rules::Seat;
 use rules::Sought;
 use rules::Spot;
+use sia::Head;
 use view::Seen;
 
 // Whether two roots are the same, all bytes of both.
@@ -120,7 +123,7 @@ fn first_of_others<'a>(
 }
 
 // The first sector with that root: of the contract of an id, up to a size, with its copies in the stage, and then of the other contracts.
-pub fn find_root<'a>(
+fn find_root<'a>(
     z: u64,
     diskroots: &'a [u8],
     stageroots: &'a [u8],
@@ -142,4 +145,41 @@ pub fn find_root<'a>(
         return own;
     }
     first_of_others(z, diskroots, stageroots, places, id, key)
+}
+
+// The first of all committed sectors with that root. Under the ReadOnly word there is no contract, so that none is the parent.
+pub fn find_in_all<'a>(
+    z: u64,
+    diskroots: &'a [u8],
+    stageroots: &'a [u8],
+    places: [Place; 8],
+    key: [u8; 32],
+) -> Sought
+    requires { ⌜ Stand z (now diskroots) places ⌝ }
+    ensures { λ r. ⌜ r ≡ firstSeat (keptRoot (now (diskroots .entry)) (now (stageroots .entry))) key (allSeats z places) ⌝ }
+{
+    let nobody = Head::READ_ONLY;
+    let none = [Progress::NONE; 64];
+    find_root(z, diskroots, stageroots, places, nobody, none, 0, key)
+}
+
+// What a program on the contract of an id finds; in read-only mode it finds the first of all committed sectors.
+pub fn find_for<'a>(
+    z: u64,
+    diskroots: &'a [u8],
+    stageroots: &'a [u8],
+    places: [Place; 8],
+    id: [u8; 32],
+    staged: [u8; 64],
+    size: u64,
+    key: [u8; 32],
+) -> Sought
+    requires { ⌜ Seeks z (now diskroots) (now stageroots) places id staged size ⌝ }
+    ensures { λ r. ⌜ r ≡ firstSeat (keptRoot (now (diskroots .entry)) (now (stageroots .entry))) key
+        (pick (same id readOnly) (allSeats z places) (seats z (hasId id) (ownSpots z places id staged size) places)) ⌝ }
+{
+    if sia::is_read_only(id) {
+        return find_in_all(z, diskroots, stageroots, places, key);
+    }
+    find_root(z, diskroots, stageroots, places, id, staged, size, key)
 }

@@ -6,7 +6,7 @@ use borrow.Author.Tests.{not-true, not-false}
 use Rattle.host.proofs.Laws.Lengths.{hosted, disk-rooted, stage-rooted}
 use Rattle.rules.specs.Roots.{keptRoot}
 use Rattle.rules.specs.Seats.{firstSeat}
-use Rattle.locating.proofs.Laws.Seats.{seeks-closed, seeks-program, closed-seats, program-seats}
+use Rattle.locating.proofs.Laws.Seats.{stand, seeks-program, closed-seats, program-seats}
 use Rattle.locating.proofs.sought.Statement.{statement}
 use Rattle.locating.proofs.sought.Tie as tie
 
@@ -23,22 +23,21 @@ live c = let at-progress = c .before .before .before in let at-terms = at-progre
 
 -- ---- the needs
 
-find-root-requires : tie.Need-find-root-requires
-find-root-requires c κs =
+find-in-all-requires : tie.Need-find-in-all-requires
+find-in-all-requires c κs =
     let s = start (closed c .before) in
-    let h = s .args .host in
-    seeks-closed h (s .pre) (disk-rooted h _ (s .good .0)) (stage-rooted h _ (s .good .0)) _ _
+    stand (s .args .host) (s .pre) (disk-rooted (s .args .host) _ (s .good .0))
 
 returns : tie.Need-returns
 returns c =
     let at-if = closed (c .before) in
     let s = start (at-if .before) in
     let h = s .args .host in
-    c .find-root .ensures
-    ∙ ap (firstSeat (keptRoot (h .diskroots) (h .stageroots)) (s .args .root)) (closed-seats h (s .pre) _ (not-true _ (at-if .if1 .taken)))
+    c .find-in-all .ensures
+    ∙ ap (firstSeat (keptRoot (h .diskroots) (h .stageroots)) (s .args .root)) (closed-seats h (not-true _ (at-if .if1 .taken)))
 
-find-root-requires-2 : tie.Need-find-root-requires-2
-find-root-requires-2 c κs =
+find-for-requires : tie.Need-find-for-requires
+find-for-requires c κs =
     let at-if = live c in
     let s = start (at-if .before) in
     let h = s .args .host in
@@ -49,8 +48,8 @@ returns-2 c =
     let at-if = live (c .before) in
     let s = start (at-if .before) in
     let h = s .args .host in
-    c .find-root2 .ensures
-    ∙ ap (firstSeat (keptRoot (h .diskroots) (h .stageroots)) (s .args .root)) (program-seats h (s .pre) (not-false _ (at-if .if1 .left)))
+    c .find-for .ensures
+    ∙ ap (firstSeat (keptRoot (h .diskroots) (h .stageroots)) (s .args .root)) (program-seats h (not-false _ (at-if .if1 .left)))
 
 pub sought-spec : {M : Type 1} → statement M
 sought-spec =
@@ -58,9 +57,9 @@ sought-spec =
     (tie.spec
     (λ c. search needs)
     (λ c. search needs)
-    find-root-requires
+    find-in-all-requires
     returns
     (λ c. search needs)
     (λ c. search needs)
-    find-root-requires-2
+    find-for-requires
     returns-2)

@@ -10,16 +10,16 @@ use Rattle.area.specs.Pick.{pick}
 use Rattle.area.specs.Area.{same}
 use Rattle.area.proofs.Laws.Pick.{yes, no, by, picks, skips, both-left, both-right}
 use Rattle.area.proofs.Laws.Same.{same-eq}
+use Rattle.sia.specs.Names.{readOnly}
 use Rattle.sia.specs.Encode.{every}
 use Rattle.host.specs.Empty.{noPlace}
 use Rattle.host.specs.Places.{hasId, whose}
 use Rattle.host.specs.Order.{placeInOrder}
-use Rattle.rules.specs.View.{Setting, parent, parentSpots, committedSpots}
+use Rattle.rules.specs.View.{Setting, readOnlyMode, parent, parentSpots, committedSpots}
 use Rattle.rules.specs.Roots.{keptRoot}
-use Rattle.rules.specs.Seats.{seats, firstSeat}
+use Rattle.rules.specs.Seats.{seats, allSeats, seatsOf, firstSeat}
 use Rattle.rules.specs.Plan.{missing, seen, spots, isThere, contractSource, soughtSource, sectorSource}
-use Rattle.rules.proofs.Laws.Spots.{seats-every, sought-every}
-use Rattle.rules.proofs.Laws.Homes.{seats-program}
+use Rattle.rules.proofs.Laws.Spots.{program-every, sought-every}
 use Rattle.rules.specs.Plan as Says
 use Rattle.view.specs.Seen.{spotsOf, holds, lies}
 use Rattle.sights.specs.Asks.{Narrow, ownSpots}
@@ -99,16 +99,16 @@ module _ (z : ℕ) (diskroots stageroots : List ℕ) (ps : List Place) (id : Lis
   own = ownSpots z ps id (p .staged) (p .size)
 
   -- what the look-up comes to is the source
-  module _ {r : Sought} (e : r ≡ firstSeat f key (seats z (hasId id) own ps)) where
+  module _ {r : Sought} (e : r ≡ firstSeat f key (pick (same id readOnly) (allSeats z ps) (seats z (hasId id) own ps))) where
     pub source-is : soughtSource r ≡ sectorSource z bare f p key
-    unfolding sectorSource parentSpots parent
-    source-is = ap soughtSource (e ∙ ap (firstSeat f key) (seats-program z bare p (a .seeks .stand .order) (a .parent)))
+    unfolding sectorSource seatsOf readOnlyMode parentSpots parent
+    source-is = ap soughtSource e
 
     -- and the sector that is found is in a slot that a byte names
     pub sought-narrow : (x : Seat) → r ≡ At x → Narrow (x .spot)
-    unfolding soughtSource spots every lies
+    unfolding soughtSource spots every lies seatsOf readOnlyMode parentSpots parent
     sought-narrow x q =
-        let all = seats-every (lies 32 diskroots stageroots) z (hasId id) own ps (a .seeks .own) (a .seeks .stand .slots) in
+        let all = program-every (lies 32 diskroots stageroots) z bare p (a .seeks .own) (a .seeks .stand .slots) in
         let one = sought-every (lies 32 diskroots stageroots) f key _ all in
         narrow diskroots stageroots (x .spot) (a .disk) (a .stage)
         (both-left _ _ (sym (ap (λ (s : Sought). every (lies 32 diskroots stageroots) (spots (soughtSource s))) (sym e ∙ q)) ∙ one))

@@ -3,24 +3,21 @@
 use mathlib.Core.Path.{_≡_, refl, sym, ap, ap₂, _∙_}
 use mathlib.Core.Bool.{Bool, true, false, not}
 use mathlib.Core.List.{List, [], _∷_, _++_}
-use Prim.Native.Nat.{ℕ, zero, suc, _/_}
-use native.Mathlib.Nat.{zero-div}
+use Prim.Native.Nat.{ℕ, zero, suc}
 use native.Mathlib.Omega.{arith}
 use lib.ListN.{getD}
-use lib.Dec.{eqb}
-use borrow.Author.Tests.{not-true, eqb-true}
+use borrow.Author.Tests.{not-true}
 use Rattle.area.specs.Pick.{pick}
-use Rattle.area.specs.Area.{same, tab}
+use Rattle.area.specs.Area.{same}
 use Rattle.area.proofs.Laws.Pick.{by, picks, skips, never, both-left, both-right}
-use Rattle.area.proofs.Laws.Same.{same-eq}
 use Rattle.sia.specs.Names.{readOnly}
 use Rattle.sia.specs.Encode.{every}
 use Rattle.host.specs.Lists.{apart, firstOf}
 use Rattle.host.specs.Empty.{noPlace}
 use Rattle.host.specs.Places.{hasId, whose}
-use Rattle.host.specs.Order.{placeInOrder, twins, parentInOrder}
-use Rattle.rules.specs.View.{Setting, readOnlyMode, parent, spotOf, parentSpots, committedSpots}
-use Rattle.rules.specs.Seats.{seated, committedSeats, seats, nobody, allSeats, seatsOf}
+use Rattle.host.specs.Order.{placeInOrder, twins}
+use Rattle.rules.specs.View.{Setting, parent, committedSpots}
+use Rattle.rules.specs.Seats.{seated, committedSeats, seats, nobody, allSeats}
 use Rattle.rules.specs.StageFirst.{writing, reading}
 use Rattle.rules.proofs.Laws.Search.{Apart}
 use Rattle.rules.proofs.Laws.Split.{none-has}
@@ -93,19 +90,3 @@ none-left-out z i (p ∷ ps) h =
 pub seats-of-all : (z : ℕ) (ps : List Place) → every (placeInOrder z) ps ≡ true → seats z (hasId readOnly) [] ps ≡ allSeats z ps
 unfolding seats seated
 seats-of-all z ps h = none-left-out z 0 ps h
-
--- what a program looks through, whatever its mode: in read-only mode its size is 0
-pub seats-program : (z : ℕ) (s : Setting) (p : Progress) → every (placeInOrder z) (s .places) ≡ true
-    → parentInOrder (s .places) (s .terms .head .contract) (p .size) ≡ true
-    → seats z (hasId (s .terms .head .contract)) (parentSpots z s p) (s .places) ≡ seatsOf z s p
-unfolding seatsOf readOnlyMode parentInOrder parentSpots tab
-seats-program z s p h o =
-    let id = s .terms .head .contract in
-    let now = seats z (hasId id) (parentSpots z s p) (s .places) in
-    by (same id readOnly)
-    (λ e. let size = eqb-true (p .size) 0 (sym (picks (same id readOnly) (eqb (p .size) 0) (whose id (s .places) .held) e) ∙ o) in
-    let none : p .size / z ≡ 0 = ap (λ (n : ℕ). n / z) size ∙ zero-div z in
-    ap₂ (λ (k : List ℕ) (n : ℕ). seats z (hasId k) (tab 0 n (spotOf (parent s .slots) (p .staged))) (s .places)) (same-eq id readOnly e) none
-    ∙ seats-of-all z (s .places) h
-    ∙ sym (picks (same id readOnly) (allSeats z (s .places)) now e))
-    (λ e. sym (skips (same id readOnly) (allSeats z (s .places)) now e))

@@ -5,21 +5,24 @@ use mathlib.Core.Bool.{Bool, true, false}
 use mathlib.Core.List.{List, [], _∷_, _++_}
 use Prim.Native.Nat.{ℕ, zero, suc, _+_, _-_, _≤_, _<_}
 use native.Mathlib.Numerals.{add-one}
+use native.Mathlib.Nat.{zero-div}
 use native.Mathlib.Omega.{arith}
 use lib.ListN.{length, getD}
 use lib.Seq.{slice}
 use Rattle.area.specs.Pick.{pick}
 use Rattle.area.specs.Area.{same, tab}
 use Rattle.area.proofs.Laws.Pick.{never}
+use Rattle.sia.specs.Names.{readOnly}
 use Rattle.sia.specs.Encode.{every, joined}
 use Rattle.host.specs.Lists.{firstOf}
-use Rattle.host.specs.Places.{committed, taken}
+use Rattle.host.specs.Places.{hasId, whose, committed, taken}
 use Rattle.host.specs.Order.{placeInOrder}
 use Rattle.host.proofs.Laws.Slices.{slice-one, slice-none}
 use Rattle.host.proofs.Laws.Places.{blank}
-use Rattle.rules.specs.View.{committedSpots}
-use Rattle.rules.specs.Seats.{seated, committedSeats, seats, firstSeat}
+use Rattle.rules.specs.View.{spotOf, committedSpots}
+use Rattle.rules.specs.Seats.{seated, committedSeats, seats, allSeats, firstSeat}
 use Rattle.rules.proofs.Laws.Sought.{first-here, first-further, first-none, first-both, orElse}
+use Rattle.rules.proofs.Laws.Homes.{seats-of-all}
 use Rattle.rules.proofs.Laws.Spots.{every-get, every-fore, every-aft, disk-every}
 use Rattle.view.specs.Seen.{spotsOf, holds, lies, Known}
 use Rattle.host.specs.declared.Place.{Place}
@@ -28,7 +31,7 @@ use Rattle.rules.specs.declared.Seat.{Seat}
 use Rattle.rules.specs.declared.Sought.{Sought}
 use Rattle.rules.specs.declared.Sought.the-variants.{At, Nowhere}
 use Rattle.view.specs.declared.Seen.{Seen}
-use Rattle.sights.specs.Asks.{isFound, Stands, Stand}
+use Rattle.sights.specs.Asks.{isFound, Stands, Stand, ownSpots, Seeks}
 
 -- ---- found here, or else behind
 
@@ -140,6 +143,24 @@ stands-at z diskroots l i d h s = record {
   order = every-get (placeInOrder z) l i d h (s .order);
   slots = taken-at (holds 32 diskroots) z l i d h (s .slots);
 }
+
+-- ---- no parent: of size 0 nothing is its own, and under the ReadOnly word there is no contract
+
+module _ (z : ℕ) (diskroots : List ℕ) (ps : List Place) (s : Stand z diskroots ps) (staged : List ℕ) where
+  none-own : (id : List ℕ) → ownSpots z ps id staged 0 ≡ []
+  unfolding tab
+  none-own id = ap (λ (n : ℕ). tab 0 n (spotOf (whose id ps .slots) staged)) (zero-div z)
+
+  pub seeks-none : (stageroots id : List ℕ) → Seeks z diskroots stageroots ps id staged 0
+  unfolding every
+  seeks-none stageroots id = let none = zero-div z in record {
+    few = omega (arith, none);
+    own = ap (every (lies 32 diskroots stageroots)) (none-own id);
+    stand = s;
+  }
+
+  pub seats-none : seats z (hasId readOnly) (ownSpots z ps readOnly staged 0) ps ≡ allSeats z ps
+  seats-none = ap (λ (own : List Spot). seats z (hasId readOnly) own ps) (none-own readOnly) ∙ seats-of-all z ps (s .order)
 
 -- a root is kept beside all that is seen of a contract that stands
 pub committed-known : (z : ℕ) (diskroots stageroots : List ℕ) (p : Place) (v : Seen) → spotsOf v ≡ committedSpots z p → v .count ≤ 64

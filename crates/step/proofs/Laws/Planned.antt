@@ -59,7 +59,7 @@ pub reads-good : (z : ℕ) (s : Setting) (g : Progress) (diskroots stageroots : 
     → length diskroots ≡ 2048 → length stageroots ≡ 512 → q ≡ parent s → Reads z diskroots stageroots q g
 unfolding parent
 reads-good z s g diskroots stageroots q solid good d e own =
-    let seeks = program-seeks z s diskroots stageroots solid d e g good in
+    let seeks = program-seeks z s diskroots solid d stageroots e g good in
     subst (λ (p : Place). Reads z diskroots stageroots p g) (sym own) (record {
       size = solid .lent .size;
       few = seeks .few;

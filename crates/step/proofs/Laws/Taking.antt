@@ -11,7 +11,6 @@ use Rattle.area.specs.Area.{put}
 use Rattle.area.proofs.Laws.Pick.{picks, skips}
 use Rattle.sia.specs.Names.{opOf}
 use Rattle.host.specs.Places.{whose}
-use Rattle.host.proofs.Laws.Order.{terms-facts}
 use Rattle.rules.specs.View.{kept, Setting, setting, Turn, turn, parent}
 use Rattle.rules.specs.Roots.{keptRoot, rootAt}
 use Rattle.rules.specs.Inputs.{argsOf}
@@ -37,7 +36,7 @@ use Rattle.rules.specs.declared.Spot.{Spot}
 module _ (z : ℕ) (s : Setting) (t : Turn) (input : List ℕ) (x : Steps z s t input) where
   -- what a look-up asks
   seeks : Seeks z (s .roots) (t .roots) (s .places) (s .terms .head .contract) (t .progress .staged) (t .progress .size)
-  seeks = program-seeks z s (s .roots) (t .roots) (x .solid) (x .diskroots) (x .stageroots) (t .progress) (x .good)
+  seeks = program-seeks z s (s .roots) (x .solid) (x .diskroots) (t .roots) (x .stageroots) (t .progress) (x .good)
 
   -- what a plan asks
   pub plans : Plans z (setting (s .sectors) (s .copies) (s .places) (s .terms) [] []) (t .progress) (s .roots) (t .roots)
@@ -45,7 +44,6 @@ module _ (z : ℕ) (s : Setting) (t : Turn) (input : List ℕ) (x : Steps z s t 
     lent = record { size = x .solid .lent .size; few = x .solid .lent .few; most = x .solid .lent .most };
     sources = record {
       seeks = seeks;
-      parent = terms-facts _ _ _ (x .good .terms) .parent;
       disk = omega (arith, x .diskroots);
       stage = omega (arith, x .stageroots);
     };
