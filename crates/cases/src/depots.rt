@@ -2,19 +2,19 @@
 ghost use Prim.Native.Nat.{_≤_};
 ghost use lib.ListN.{length};
 use host::Host;
-use intake::Reader;
+use bench_input::Reader;
 
 // Reads an input of so many bytes and plays it; answers how many bytes `depot` writes, which stand at the front of `shown`.
 pub fn play(many: u64, shown: &mut [u8]) -> usize
     ensures { λ r. ⌜ r ≤ length (now (shown .exit)) ⌝ }
 {
     let mut all = [0u8; Reader::KEPT];
-    let n = intake::gather(many, true, &mut all);
+    let n = bench_input::gather(many, true, &mut all);
     let mut disk = [0u8; 32_768];
     let mut stage = [0u8; 16_384];
     let mut input = [0u8; 65_536];
     let mut output = [0u8; 16_384];
-    let done = single::answer(
+    let done = bench_program::answer(
         Host::LEAST,
         &all[0..n],
         &mut disk,

@@ -1,11 +1,11 @@
 // The program of the bench: sectors of 4,096 bytes, disk 8 sectors, stage 4, output 16,384. It reads one input, plays it, and writes the
 // records, or a refusal's number in 8 bytes.
 use host::Host;
-use intake::Reader;
+use bench_input::Reader;
 
 fn main() {
     let mut all = [0u8; Reader::KEPT];
-    let n = intake::gather(u64::MAX, false, &mut all);
+    let n = bench_input::gather(u64::MAX, false, &mut all);
     answer(&all[0..n]);
 }
 
@@ -15,7 +15,7 @@ fn answer(all: &[u8]) {
     let mut stage = [0u8; 16_384];
     let mut input = [0u8; 65_536];
     let mut output = [0u8; 16_384];
-    let n = single::play(
+    let n = bench_program::play(
         Host::LEAST,
         all,
         &mut disk,
@@ -23,5 +23,5 @@ fn answer(all: &[u8]) {
         &mut input,
         &mut output,
     );
-    intake::show(&output, n);
+    bench_input::show(&output, n);
 }

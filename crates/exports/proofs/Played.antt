@@ -11,8 +11,8 @@ use Rattle.area.proofs.Laws.Little.{length-bytes}
 use Rattle.area.proofs.Laws.Puts.{put-all}
 use Rattle.area.proofs.Laws.Pick.{yes, no}
 use Rattle.host.specs.declared.Prices.{Prices}
-use Rattle.single.specs.Single.{leaves, run}
-use Rattle.single.specs.declared.Outcome.{Outcome}
+use Rattle.bench_program.specs.Single.{leaves, run}
+use Rattle.bench_program.specs.declared.Outcome.{Outcome}
 use Rattle.exports.specs.Programs.{shown, told, played}
 
 module _ (z : ℕ) (prices : Prices) (budget : ℕ) (ids head bytes disk stage input output count : List ℕ) where

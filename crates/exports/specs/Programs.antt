@@ -7,7 +7,7 @@ use lib.ListN.{length}
 use lib.Dec.{eqb}
 use Rattle.area.specs.Pick.{pick}
 use Rattle.area.specs.Little.{le8}
-use Rattle.single.specs.Single.{Ran, run}
+use Rattle.bench_program.specs.Single.{Ran, run}
 use Rattle.host.specs.declared.Prices.{Prices}
 
 -- the number, the four areas, and the area that takes how many bytes of the output area are records

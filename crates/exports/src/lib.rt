@@ -78,7 +78,7 @@ pub extern "C" fn candlebrood_run(
         writelength,
         truncatebase,
     };
-    let done = single::run(
+    let done = bench_program::run(
         sector,
         prices,
         budget,

@@ -1,11 +1,11 @@
 // The program of the bench on sectors of 1 MiB: disk 2 sectors, stage 2, output 65,536. These are the largest sectors of which two areas of two
 // stand on the stack that a program has by default, 8 MB. It reads one input, plays it, and writes the records, or a refusal's number in 8
 // bytes.
-use intake::Reader;
+use bench_input::Reader;
 
 fn main() {
     let mut all = [0u8; Reader::KEPT];
-    let n = intake::gather(u64::MAX, false, &mut all);
+    let n = bench_input::gather(u64::MAX, false, &mut all);
     answer(&all[0..n]);
 }
 
@@ -20,7 +20,7 @@ fn answer(all: &[u8]) {
     let mut stage = two_sectors();
     let mut input = [0u8; 65_536];
     let mut output = [0u8; 65_536];
-    let n = single::play(
+    let n = bench_program::play(
         1_048_576,
         all,
         &mut disk,
@@ -28,5 +28,5 @@ fn answer(all: &[u8]) {
         &mut input,
         &mut output,
     );
-    intake::show(&output, n);
+    bench_input::show(&output, n);
 }

@@ -46,9 +46,9 @@ fn main() {
 fn formed(front: &[u8; 96]) -> Course {
     let mut id = [0u8; 32];
     area::copy_between(front, 0, &mut id, 0, 32);
-    let made = forming::fresh(Host::LEAST, 262_144, 65_536);
+    let made = machine::fresh(Host::LEAST, 262_144, 65_536);
     let bare = made.host;
-    let told = forming::form(bare, id);
+    let told = machine::form(bare, id);
     let host = told.host;
     Course {
         on: told.number == 0,
@@ -204,9 +204,9 @@ fn idle(
     }
     let prices = prices_of(front);
     let budget = area::load(front, 32);
-    let opened = opening::open(host, head, budget, prices, output.len() as u64);
+    let opened = machine::open(host, head, budget, prices, output.len() as u64);
     let waiting = waited(opened.host, empty, &*disk, stage, input, output);
-    let done = closing::close(waiting, disk, &*stage, false, 0, [0u8; 32]);
+    let done = machine::close(waiting, disk, &*stage, false, 0, [0u8; 32]);
     done.host
 }
 
@@ -226,7 +226,7 @@ fn waited(
     let mut host = start;
     let mut left = empty;
     while 0 < left {
-        let taken = taking::piece(host, disk, stage, &mut input[0..n], output, b"");
+        let taken = machine::piece(host, disk, stage, &mut input[0..n], output, b"");
         host = taken.host;
         left = fewer(taken.number == 0, left - 1);
     }
@@ -273,7 +273,7 @@ fn played(
 ) -> Course {
     let prices = prices_of(front);
     let budget = area::load(front, 32);
-    let done = single::begin(
+    let done = bench_program::begin(
         host,
         prices,
         budget,

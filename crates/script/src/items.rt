@@ -4,7 +4,7 @@ ghost use Prim.Native.Nat.{_+_, _≤_, _<_};
 ghost use lib.ListN.{length};
 use host::Host;
 use host::Prices;
-use reports::Made;
+use script_report::Made;
 
 // The most bytes of segments and hashes that are given to the checker.
 const PROOF: usize = 131_072;
@@ -149,7 +149,7 @@ fn fresh(
     input: &mut [u8],
     output: &mut [u8],
 ) -> Made {
-    let made = forming::fresh(sector, sectors, copies);
+    let made = machine::fresh(sector, sectors, copies);
     area::fill(disk, 0, disk.len(), byte);
     area::fill(stage, 0, stage.len(), byte);
     area::fill(input, 0, input.len(), byte);
@@ -163,7 +163,7 @@ fn form(item: &[u8], host: Host) -> Made {
         return malformed(host);
     }
     let id = bytes_at(item, 1);
-    let made = forming::form(host, id);
+    let made = machine::form(host, id);
     let after = made.host;
     answered(made.number, 0, 0, after)
 }
@@ -173,7 +173,7 @@ fn drop(item: &[u8], host: Host) -> Made {
         return malformed(host);
     }
     let id = bytes_at(item, 1);
-    let made = forming::drop(host, id);
+    let made = machine::drop(host, id);
     let after = made.host;
     answered(made.number, 0, 0, after)
 }
@@ -204,13 +204,13 @@ fn prices_of(item: &[u8]) -> Prices
     requires { ⌜ 73 ≤ length (now item) ⌝ }
 {
     Prices {
-        init: pokes::low16(price(item, 0)),
-        memory: pokes::low16(price(item, 1)),
-        readbase: pokes::low16(price(item, 2)),
-        readlength: pokes::low16(price(item, 3)),
-        writebase: pokes::low16(price(item, 4)),
-        writelength: pokes::low16(price(item, 5)),
-        truncatebase: pokes::low16(price(item, 6)),
+        init: script_damage::low16(price(item, 0)),
+        memory: script_damage::low16(price(item, 1)),
+        readbase: script_damage::low16(price(item, 2)),
+        readlength: script_damage::low16(price(item, 3)),
+        writebase: script_damage::low16(price(item, 4)),
+        writelength: script_damage::low16(price(item, 5)),
+        truncatebase: script_damage::low16(price(item, 6)),
     }
 }
 
@@ -225,7 +225,7 @@ fn open(item: &[u8], host: Host) -> Made {
     let room = area::load(item, 1);
     let budget = area::load(item, 9);
     let prices = prices_of(item);
-    let made = opening::open(host, &item[81..], budget, prices, room);
+    let made = machine::open(host, &item[81..], budget, prices, room);
     let after = made.host;
     answered(made.number, made.tally, 0, after)
 }
@@ -264,7 +264,7 @@ fn piece(
     let copies = s as usize;
     let data = i as usize;
     let room = o as usize;
-    let made = taking::piece(
+    let made = machine::piece(
         host,
         &disk[0..sectors],
         &mut stage[0..copies],
@@ -291,7 +291,7 @@ fn interrupt(item: &[u8], host: Host, disk: &[u8], output: &mut [u8]) -> Made {
     }
     let sectors = d as usize;
     let room = o as usize;
-    let made = taking::interrupt(host, &disk[0..sectors], &mut output[0..room]);
+    let made = machine::interrupt(host, &disk[0..sectors], &mut output[0..room]);
     let after = made.host;
     answered(made.number, made.tally, 0, after)
 }
@@ -338,7 +338,7 @@ fn close(
     }
     let sectors = d as usize;
     let copies = s as usize;
-    let made = closing::close(
+    let made = machine::close(
         host,
         &mut disk[0..sectors],
         &stage[0..copies],
@@ -365,7 +365,7 @@ fn reached<'a>(item: &[u8], host: Host, disk: &'a [u8], stage: &'a [u8]) -> Made
     }
     let sectors = d as usize;
     let copies = s as usize;
-    let made = taking::reached(host, &disk[0..sectors], &stage[0..copies]);
+    let made = machine::reached(host, &disk[0..sectors], &stage[0..copies]);
     let rest = made.root;
     Made {
         fine: true,
@@ -393,7 +393,7 @@ fn sound(item: &[u8], host: Host, disk: &[u8], stage: &[u8]) -> Made {
     }
     let sectors = d as usize;
     let copies = s as usize;
-    let asked = sounding::sound(host, &disk[0..sectors], &stage[0..copies]);
+    let asked = machine::sound(host, &disk[0..sectors], &stage[0..copies]);
     answered(asked.number, as_number(asked.sound), 0, host)
 }
 
@@ -403,7 +403,7 @@ fn locate(item: &[u8], host: Host) -> Made {
         return malformed(host);
     }
     let root = bytes_at(item, 1);
-    let found = locating::locate(host, root);
+    let found = machine::locate(host, root);
     let mut rest = [0u8; 32];
     area::store(&mut rest, 0, 8, found.place);
     area::store(&mut rest, 8, 8, found.position);
@@ -438,7 +438,7 @@ fn check(item: &[u8], host: Host) -> Made {
         return malformed(host);
     }
     let to = 73 + data as usize;
-    let yes = checking::check(
+    let yes = tree::check(
         &item[1..33],
         count as usize,
         first as usize,
@@ -460,9 +460,9 @@ fn poke(item: &[u8], host: Host) -> Made {
     let i = area::load(item, 9);
     let j = area::load(item, 17);
     let value = area::load(item, 25);
-    if !pokes::fits(field, i, j, value) {
+    if !script_damage::fits(field, i, j, value) {
         return malformed(host);
     }
-    let after = pokes::poked(host, field, i, j, value);
+    let after = script_damage::poked(host, field, i, j, value);
     answered(0, 0, 0, after)
 }

@@ -26,7 +26,7 @@ pub struct Played {
 
 // The host of a refused fresh, which stands before the first item.
 pub fn no_host() -> Host {
-    let made = forming::fresh(0, 0, 0);
+    let made = machine::fresh(0, 0, 0);
     made.host
 }
 
@@ -90,7 +90,7 @@ fn play(
     if !made.fine {
         return malformed(left, host);
     }
-    let written = reports::write(made, &*disk, &*stage, &*input, &*output, report);
+    let written = script_report::write(made, &*disk, &*stage, &*input, &*output, report);
     let after = made.host;
     Played {
         fine: true,

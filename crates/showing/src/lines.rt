@@ -3,7 +3,7 @@ ghost use Prim.Native.Nat.{_≤_};
 ghost use lib.ListN.{length};
 use crate::words;
 use libc::STDOUT_FILENO;
-use rules::class::Class;
+use machine_rules::class::Class;
 
 // The most bytes of an output that are shown.
 const SHOWN: usize = 64;
@@ -52,7 +52,7 @@ pub fn record_line(place: u64, ahead: &[u8], hashes: &[u8], output: &[u8])
 
 // A record's number: a failure's with its class and its words.
 fn number(n: u64) {
-    let class = rules::class::class_of(n);
+    let class = machine_rules::class::class_of(n);
     match class {
         Class::Done => text(b"done"),
         Class::Interrupted => failed(n, b" (interrupted)"),

@@ -83,7 +83,7 @@ fn answer(yes: bool) {
 
 // A line for one case. `out` and `fresh` are as long as each other.
 fn show(bytes: &[u8], out: &mut [u8], fresh: &[u8]) {
-    let told = reading::read_head(bytes);
+    let told = sia_read::read_head(bytes);
     let head = told.head;
     decimal(told.number);
     if told.number != 0 {
@@ -193,7 +193,7 @@ fn show_operand(o: Operand) {
 // The head over the area: number and length, whether the bytes are those that were read, whether the rest stays.
 fn written(head: Head, bytes: &[u8], out: &mut [u8], fresh: &[u8]) {
     area::fill(out, 0, out.len(), BEFORE);
-    let answered = writing::write_head(head, out);
+    let answered = sia_write::write_head(head, out);
     let n = answered.length;
     text(b" written ");
     decimal(answered.number);
@@ -216,7 +216,7 @@ fn too_short(head: Head, length: usize, out: &mut [u8], fresh: &[u8]) {
     let n = length - 1;
     area::fill(out, 0, out.len(), BEFORE);
     if n <= out.len() {
-        let answered = writing::write_head(head, &mut out[0..n]);
+        let answered = sia_write::write_head(head, &mut out[0..n]);
         text(b" short ");
         decimal(answered.number);
         text(b" ");
@@ -250,7 +250,7 @@ fn above(head: Head, out: &mut [u8], fresh: &[u8]) {
 // Number and length, whether the area stays.
 fn refused(head: Head, out: &mut [u8], fresh: &[u8]) {
     area::fill(out, 0, out.len(), BEFORE);
-    let answered = writing::write_head(head, out);
+    let answered = sia_write::write_head(head, out);
     text(b" ");
     decimal(answered.number);
     text(b" ");

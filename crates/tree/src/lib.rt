@@ -1,14 +1,23 @@
-// The tree of RFC 6962, 2.1, over 64-byte segments or over parts' 32-byte roots: roots, and the count of a range's hashes. What a proof
-// and the checker's verdict are stands here too; crate proving writes proofs, crate checking checks them.
+// The tree of RFC 6962, 2.1, over 64-byte segments or over parts' 32-byte roots: roots, the proofs of ranges, of segments
+// and within one part of several, and the checker of such proofs. Rests on `blake2b`'s promise.
 // No call has a `requires`: lengths and ranges that are not as stated are refused with document 01's 2. The functions of the modules below
-// are inner ones, which those crates call too, and what they require their callers prove.
+// are inner ones, and what they require their callers prove.
 ghost use mathlib.Core.Path.{_≡_};
 ghost use Rattle.tree.specs.Answers.{rootGiven, rooted, joined, noCount, countGiven, counted};
 
-pub mod asked;
-pub mod doubling;
-pub mod hashing;
-pub mod walks;
+mod asked; // asked.rt: whether a range or a proof can be asked
+mod checking; // checking.rt: the checker
+pub mod doubling; // doubling.rt: the root of zeros, by doubling
+mod hashes; // hashes.rt: the hashes of a proof, written
+mod hashing; // hashing.rt: leaves and nodes
+mod parts; // parts.rt: the hashes of a proof within one part of several
+mod proving; // proving.rt: the proofs of ranges
+mod walks; // walks.rt: down the tree
+
+pub use checking::Checker;
+pub use checking::check;
+pub use proving::prove;
+pub use proving::prove_in;
 
 pub enum Answer {
     Done,

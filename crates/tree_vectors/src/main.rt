@@ -102,7 +102,7 @@ fn accepted(
     bytes: &[u8],
     hashes: &[u8],
 ) -> bool {
-    checking::check(root, n, first, end, bytes, hashes)
+    tree::check(root, n, first, end, bytes, hashes)
 }
 
 fn label(text: &[u8], a: usize, b: usize, c: usize, d: usize) {
@@ -125,7 +125,7 @@ fn range_line(bytes: &[u8], n: usize, first: usize, end: usize, out: &mut [u8]) 
         return;
     }
     let all = 64 * n;
-    let proved = proving::prove(&bytes[0..all], first, end, out);
+    let proved = tree::prove(&bytes[0..all], first, end, out);
     let count = proved.count;
     if out.len() / 32 < count {
         return;
@@ -223,7 +223,7 @@ fn within_roots(bytes: &[u8], roots: &[u8], at: usize, first: usize, end: usize,
         return;
     }
     let from = 4096 * at;
-    let proved = proving::prove_in(roots, at, &bytes[from..from + 4096], first, end, out);
+    let proved = tree::prove_in(roots, at, &bytes[from..from + 4096], first, end, out);
     join_word(roots);
     front_line(out, proved.count);
 }
@@ -285,7 +285,7 @@ fn taken(
     }
     let to = 32 + given;
     let total = 160 + hashes;
-    let yes = checking::check(&all[0..root], n, first, end, &all[32..to], &all[160..total]);
+    let yes = tree::check(&all[0..root], n, first, end, &all[32..to], &all[160..total]);
     if yes {
         return 1;
     }
@@ -471,7 +471,7 @@ fn lay(bytes: &[u8], n: usize, first: usize, end: usize, all: &mut [u8]) -> usiz
     let whole = 64 * n;
     lay_root(&bytes[0..whole], all, 0);
     area::copy_between(bytes, 64 * first, all, 32, 128);
-    let proved = proving::prove(&bytes[0..whole], first, end, &mut all[160..]);
+    let proved = tree::prove(&bytes[0..whole], first, end, &mut all[160..]);
     let count = proved.count;
     if 32 < count {
         return 0;

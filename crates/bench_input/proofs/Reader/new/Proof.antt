@@ -1,0 +1,12 @@
+-- `bench_input::Reader::new` meets its contract. Assumes nothing.
+use mathlib.Core.Path.{refl}
+use Rattle.bench_input.specs.Reader.{fresh}
+use Rattle.bench_input.proofs.Reader.new.Statement.{statement}
+use Rattle.bench_input.proofs.Reader.new.Tie as tie
+
+returns : tie.Need-returns
+unfolding fresh
+returns c = refl
+
+pub new-spec : {M : Type 1} → statement M
+new-spec = tie.close (tie.spec returns)

@@ -1,0 +1,135 @@
+-- The whole input in its bytes: what is known of one that is not refused with 9, and the loop over the prices. Assumes nothing.
+use mathlib.Core.Path.{_≡_, refl, sym, ap, _∙_}
+use mathlib.Core.Bool.{Bool, true, false}
+use mathlib.Core.List.{List}
+use Prim.Native.Nat.{ℕ, zero, suc, _+_, _-_, _*_, _/_, _≤_, _<_}
+use native.Mathlib.Numerals.{add-one}
+use native.Mathlib.Nat.{div-add-mod', mod-lt}
+use native.Mathlib.Omega.{arith}
+use lib.ListN.{length, take, drop}
+use lib.Dec.{leb, ltb}
+use borrow.Author.Tests.{leb-true, ltb-false, not-false, lt-ltb, le-ltb}
+use Rattle.area.specs.Area.{tab}
+use Rattle.area.proofs.Laws.Pick.{yes, no, both-left, both-right, either-left, either-right}
+use Rattle.area.proofs.Laws.Parts.{part-is}
+use Rattle.area.proofs.Laws.Lent.{rest-take}
+use Rattle.sia.specs.Encode.{every}
+use Rattle.host.specs.Calls.{freshed}
+use Rattle.machine.proofs.Laws.Hosts.{rest-less}
+use Rattle.bench_program.specs.Single.{Ran, ran, leaves, run}
+use Rattle.bench_program.specs.Input.{numberAt, pricesIn, budgetIn, idsEnd, headEnd, idsBytes, headBytes, dataBytes, pricesRight, cutShort, wrong, answered}
+use Rattle.bench_program.proofs.Laws.Plays.{without}
+use Rattle.host.specs.declared.Prices.{Prices}
+use Rattle.host.specs.declared.Answer.{Answer}
+use Rattle.bench_program.specs.declared.Outcome.{Outcome}
+
+-- ---- a list by its index, every entry of which passes a test
+
+module _ (p : ℕ → Bool) (f : ℕ → ℕ) where
+  tab-at : (at n i : ℕ) → every p (tab at n f) ≡ true → i < n → p (f (at + i)) ≡ true
+  unfolding every tab
+  tab-at at zero i e h = absurd (omega arith)
+  tab-at at (suc n) zero e h = ap (λ (k : ℕ). p (f k)) (let q : at + 0 ≡ at = omega arith in q) ∙ both-left _ _ e
+  tab-at at (suc n) (suc i) e h = ap (λ (k : ℕ). p (f k)) (let q : at + suc i ≡ suc at + i = omega arith in q) ∙ tab-at (suc at) n i (both-right _ _ e) (omega arith)
+
+  -- the loop: those below i were looked at
+  pub tab-stops : (i n : ℕ) → i < n → p (f i) ≡ false → false ≡ every p (tab i (n - i) f)
+  unfolding every tab
+  tab-stops i n h e = let k : n - i ≡ suc (n - (i + 1)) = omega arith in rw k (no _ _ _ e refl)
+
+  pub tab-further : (i n : ℕ) → i < n → p (f i) ≡ true → every p (tab i (n - i) f) ≡ every p (tab (i + 1) (n - (i + 1)) f)
+  unfolding every tab
+  tab-further i n h e = let k : n - i ≡ suc (n - (i + 1)) = omega arith in rw (k, add-one i) (sym (yes _ _ _ e refl))
+
+  pub tab-done : (i n : ℕ) → n ≤ i → true ≡ every p (tab i (n - i) f)
+  unfolding every tab
+  tab-done i n h = let k : n - i ≡ 0 = omega arith in rw k
+
+-- ---- an input that is not refused with 9
+
+pub record Right (all : List ℕ) : Type 0 where
+  pub front : 80 ≤ length all
+  pub prices : pricesRight all ≡ true
+  pub ids : 80 + numberAt all 72 * 32 + 8 ≤ length all
+  pub head : idsEnd all + 8 + numberAt all (idsEnd all) ≤ length all
+  pub past : 80 ≤ idsEnd all
+  pub sized : idsEnd all + 8 ≤ headEnd all
+  pub ends : headEnd all ≤ length all
+
+pub right : (all : List ℕ) → wrong all ≡ false → Right all
+unfolding wrong cutShort headEnd idsEnd
+right all e =
+    let second = either-right _ _ e in
+    let third = either-right _ _ second in
+    let fourth = either-right _ _ third in
+    record {
+      front = ltb-false _ _ (either-left _ _ e);
+      prices = not-false _ (either-left _ _ third);
+      ids = ltb-false _ _ (either-left _ _ fourth);
+      head = ltb-false _ _ (either-right _ _ fourth);
+      past = omega arith;
+      sized = omega arith;
+      ends = ltb-false _ _ (either-right _ _ fourth);
+    }
+
+pub price-within : (all : List ℕ) (i : ℕ) → pricesRight all ≡ true → i < 7 → numberAt all (8 + i * 8) ≤ 65535
+unfolding pricesRight
+price-within all i e h =
+    let q : 0 + i ≡ i = omega arith in
+    leb-true _ 65535 (ap (λ (k : ℕ). leb (numberAt all (8 + k * 8)) 65535) (sym q) ∙ tab-at (λ n. leb n 65535) (λ k. numberAt all (8 + k * 8)) 0 7 i e h)
+
+-- ---- ids, head length or head are missing
+
+-- fewer whole ids than counted
+pub ids-short : (all : List ℕ) {count : ℕ} → 80 ≤ length all → count ≡ numberAt all 72 → (length all - 80) / 32 < count → true ≡ cutShort all
+unfolding cutShort idsEnd
+ids-short all {count} h e w =
+    yes _ _ _ (lt-ltb (length all) (80 + numberAt all 72 * 32 + 8) (omega (arith, div-add-mod' (length all - 80) 32, mod-lt (length all - 80) {m = 32} (omega arith)))) refl
+
+-- so many ids, and behind them no number
+pub number-short : (all : List ℕ) {count : ℕ} → 80 ≤ length all → count ≡ numberAt all 72 → length all - 80 - count * 32 < 8 → true ≡ cutShort all
+unfolding cutShort idsEnd
+number-short all {count} h e w = yes _ _ _ (lt-ltb (length all) (80 + numberAt all 72 * 32 + 8) (omega arith)) refl
+
+-- a number, and what is behind it against the head's length
+pub head-short : (all : List ℕ) {count n : ℕ} → 80 ≤ length all → count ≡ numberAt all 72 → 8 ≤ length all - 80 - count * 32 → n ≡ numberAt all (length all - (length all - 80 - count * 32))
+    → ltb (length all - 80 - count * 32 - 8) n ≡ cutShort all
+unfolding cutShort headEnd idsEnd
+head-short all {count} {n} h e g w =
+    let at : length all - (length all - 80 - count * 32) ≡ 80 + numberAt all 72 * 32 = omega arith in
+    let rest : length all - 80 - count * 32 - 8 ≡ length all - (80 + numberAt all 72 * 32 + 8) = omega arith in
+    no _ _ _ (le-ltb (length all) (80 + numberAt all 72 * 32 + 8) (omega arith))
+    (ap (λ (k : ℕ). ltb k n) rest
+    ∙ ap (ltb _) (w ∙ ap (numberAt all) at)
+    ∙ rest-less (length all) (80 + numberAt all 72 * 32 + 8) _ (omega arith))
+
+-- ---- the sections as parts of a slice
+
+module _ (all : List ℕ) where
+  pub ids-is : {e : ℕ} → e ≡ idsEnd all → take (e - 80) (drop 80 all) ≡ idsBytes all
+  unfolding idsBytes idsEnd
+  ids-is {e} h = part-is all 80 (numberAt all 72 * 32) e h
+
+  pub head-is : {at e : ℕ} → at ≡ idsEnd all → e ≡ headEnd all → take (e - (at + 8)) (drop (at + 8) all) ≡ headBytes all
+  unfolding headBytes headEnd
+  head-is {at} {e} g h = ap (λ (k : ℕ). take (e - (k + 8)) (drop (k + 8) all)) g ∙ part-is all (idsEnd all + 8) (numberAt all (idsEnd all)) e h
+
+  pub data-is : {e : ℕ} → e ≡ headEnd all → take (length all - e) (drop e all) ≡ dataBytes all
+  unfolding dataBytes
+  data-is {e} h = rest-take all e ∙ ap (λ (k : ℕ). drop k all) h
+
+-- ---- 9, or what the input asks for
+
+module _ (z : ℕ) (all disk stage input output : List ℕ) where
+  pub answered-nine : {f : Answer} {o : Outcome} → wrong all ≡ true → f ≡ freshed z (length disk) (length stage) → o ≡ without 9 (f .host)
+      → leaves o disk stage input output ≡ answered z all disk stage input output
+  unfolding answered
+  answered-nine w e q =
+      yes _ _ _ w
+      (ap (λ (x : Outcome). leaves x disk stage input output) q ∙ ap (λ (x : Answer). ran 9 0 (x .host) disk stage input output) e)
+
+  pub answered-run : {prices : Prices} {budget : ℕ} {ids head bytes : List ℕ} {x : Ran} → wrong all ≡ false → prices ≡ pricesIn all → budget ≡ budgetIn all
+      → ids ≡ idsBytes all → head ≡ headBytes all → bytes ≡ dataBytes all → x ≡ run z prices budget ids head bytes disk stage input output
+      → x ≡ answered z all disk stage input output
+  unfolding answered
+  answered-run w p b d h t q = no _ _ _ w (q ∙ (λ i. run z (p i) (b i) (d i) (h i) (t i) disk stage input output))

@@ -1,0 +1,68 @@
+-- `bench_program::contracts::form_in_turn` meets its contract. The loop's invariant: what all ids come to is what those come to that are left, on the
+-- host that was made so far. Assumes nothing.
+use mathlib.Core.Path.{_≡_, sym, ap, _∙_}
+use Prim.Native.Nat.{ℕ, _-_, _*_, _/_}
+use native.Mathlib.Nat.{div-add-mod'}
+use native.Mathlib.Omega.{arith}
+use lib.ListN.{length}
+use Rattle.area.specs.Area.{part, tab}
+use Rattle.host.specs.Calls.{formed}
+use Rattle.bench_program.specs.Single.{idsIn, formedInTurn}
+use Rattle.bench_program.proofs.Laws.Turns.{turn-refused, turn-formed, turn-none}
+use borrow.Author.Needs.{needs}
+use Rattle.bench_program.proofs.contracts.form_in_turn.Statement.{statement}
+use Rattle.bench_program.proofs.contracts.form_in_turn.Tie as tie
+
+abbrev Inv-loop : tie.InvT-loop
+Inv-loop ids n made₀ i₀ made i = formedInTurn made₀ (tab 0 n (λ k. part ids (k * 32) 32)) ≡ formedInTurn made (tab i (n - i) (λ k. part ids (k * 32) 32))
+
+abbrev μ-loop : tie.MeasureT-loop
+μ-loop ids n made₀ i₀ made i = n - i
+
+loop-holds : tie.Need-loop-holds Inv-loop μ-loop
+loop-holds c =
+    let ids = c .before .args .ids .now in
+    let e : length ids / 32 ≡ length ids / 32 - 0 = omega arith in
+    ap (λ (n : ℕ). formedInTurn (c .before .args .host) (tab 0 n (λ k. part ids (k * 32) 32))) e
+
+mul-id-at : tie.Need-mul-id-at Inv-loop μ-loop
+mul-id-at c = omega (arith, div-add-mod' (length (c .before .before .before .args .ids .now)) 32)
+
+id-at-requires : tie.Need-id-at-requires Inv-loop μ-loop
+id-at-requires c κs = omega (arith, div-add-mod' (length (c .before .before .before .args .ids .now)) 32)
+
+form-requires : tie.Need-form-requires Inv-loop μ-loop
+form-requires c κs = search needs
+
+returns : tie.Need-returns Inv-loop μ-loop
+unfolding idsIn
+returns c = turn-refused _ _ _ _ (c .before .before .before .before .loop-test .taken) (c .before .before .form .ensures ∙ ap (formed _) (c .before .before .before .id-at .ensures)) (c .if1 .taken) ∙ sym (c .before .before .before .before .before .loop .inv)
+
+add-i : tie.Need-add-i Inv-loop μ-loop
+add-i c = omega arith
+
+loop-less : tie.Need-loop-less Inv-loop μ-loop
+loop-less c = omega arith
+
+loop-again : tie.Need-loop-again Inv-loop μ-loop
+loop-again c = c .before .before .before .before .before .before .loop .inv ∙ turn-formed _ _ _ _ (c .before .before .before .before .before .loop-test .taken) (c .before .before .before .form .ensures ∙ ap (formed _) (c .before .before .before .before .id-at .ensures)) (c .before .if1 .left)
+
+returns-2 : tie.Need-returns-2 Inv-loop μ-loop
+unfolding idsIn
+returns-2 c = turn-none _ _ _ _ (c .loop-test .left) ∙ sym (c .before .loop .inv)
+
+pub form-in-turn-spec : {M : Type 1} → statement M
+form-in-turn-spec =
+    tie.close
+    (tie.spec
+    Inv-loop
+    μ-loop
+    loop-holds
+    mul-id-at
+    id-at-requires
+    form-requires
+    returns
+    add-i
+    loop-less
+    loop-again
+    returns-2)

@@ -1,0 +1,29 @@
+-- `bench_program::reading::head_end` meets its contract. Assumes nothing.
+use mathlib.Core.Path.{ap, ap₂, _∙_}
+use Prim.Native.Nat.{ℕ, _+_}
+use native.Mathlib.Omega.{arith}
+use Rattle.bench_program.specs.Input.{numberAt, headEnd}
+use Rattle.bench_program.proofs.Laws.Input.{right}
+use borrow.Author.Needs.{needs}
+use Rattle.bench_program.proofs.reading.head_end.Statement.{statement}
+use Rattle.bench_program.proofs.reading.head_end.Tie as tie
+
+ids-end-requires : tie.Need-ids-end-requires
+ids-end-requires c κs = search needs
+
+load-requires : tie.Need-load-requires
+load-requires c κs = omega (arith, right _ (c .before .before .pre) .head, c .ids-end .ensures)
+
+add-result : tie.Need-add-result
+add-result c = omega (arith, right _ (c .before .before .before .pre) .head, c .before .ids-end .ensures)
+
+add-result-2 : tie.Need-add-result-2
+unfolding numberAt
+add-result-2 c = let n = c .load .ensures ∙ ap (numberAt (c .before .before .before .args .all .now)) (c .before .ids-end .ensures) in omega (arith, right _ (c .before .before .before .pre) .head, c .before .ids-end .ensures, n)
+
+returns : tie.Need-returns
+unfolding headEnd numberAt
+returns c = ap₂ (λ (at n : ℕ). at + 8 + n) (c .before .ids-end .ensures) (c .load .ensures ∙ ap (numberAt (c .before .before .before .args .all .now)) (c .before .ids-end .ensures))
+
+pub head-end-spec : {M : Type 1} → statement M
+head-end-spec = tie.close (tie.spec ids-end-requires load-requires add-result add-result-2 returns)

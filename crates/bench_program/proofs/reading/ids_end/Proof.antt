@@ -1,0 +1,26 @@
+-- `bench_program::reading::ids_end` meets its contract. Assumes nothing.
+use mathlib.Core.Path.{ap}
+use Prim.Native.Nat.{ℕ, _+_, _*_}
+use native.Mathlib.Omega.{arith}
+use Rattle.bench_program.specs.Input.{numberAt, idsEnd}
+use Rattle.bench_program.proofs.Laws.Input.{right}
+use Rattle.bench_program.proofs.reading.ids_end.Statement.{statement}
+use Rattle.bench_program.proofs.reading.ids_end.Tie as tie
+
+load-requires : tie.Need-load-requires
+load-requires c κs = right _ (c .before .pre) .front
+
+mul-result : tie.Need-mul-result
+unfolding numberAt
+mul-result c = omega (arith, right _ (c .before .before .pre) .ids, c .load .ensures)
+
+add-result : tie.Need-add-result
+unfolding numberAt
+add-result c = omega (arith, right _ (c .before .before .pre) .ids, c .load .ensures)
+
+returns : tie.Need-returns
+unfolding numberAt idsEnd
+returns c = ap (λ (n : ℕ). 80 + n * 32) (c .load .ensures)
+
+pub ids-end-spec : {M : Type 1} → statement M
+ids-end-spec = tie.close (tie.spec load-requires mul-result add-result returns)

@@ -1,2 +1,0 @@
--- What closing leaves. What it means is crate rules'.
-pub mod Asks

@@ -1,7 +1,0 @@
--- The laws, a file for each subject.
-pub mod Marks
-pub mod Filled
-pub mod Turns
-pub mod Bytes
-pub mod Growth
-pub mod Shapes

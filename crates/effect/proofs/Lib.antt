@@ -1,2 +1,0 @@
--- The laws that tie the code to the definitions.
-pub mod Laws

@@ -1,0 +1,81 @@
+-- `host_contracts::formed_at` meets its contract. The loop's invariant: the first i places are held, and stay as they are. Assumes nothing.
+use mathlib.Core.Path.{_≡_, sym, ap, _∙_}
+use mathlib.Core.List.{_++_}
+use Prim.Native.Nat.{_-_}
+use native.Mathlib.Omega.{arith}
+use lib.ListN.{take, set}
+use lib.Seq.{slice}
+use borrow.Author.Tests.{not-true, not-false}
+use Rattle.host.specs.Calls.{formedAt}
+use Rattle.host.proofs.Laws.Slices.{slice-all}
+use Rattle.host.proofs.Laws.Places.{blank}
+use Rattle.host.proofs.Laws.Forming.{formed-here, formed-further, formed-done}
+use borrow.Author.Needs.{needs}
+use Rattle.host_contracts.proofs.formed_at.Statement.{statement}
+use Rattle.host_contracts.proofs.formed_at.Tie as tie
+
+abbrev Inv-loop : tie.InvT-loop
+Inv-loop id places i₀ i = formedAt id places ≡ take i places ++ formedAt id (slice i 8 places)
+
+abbrev μ-loop : tie.MeasureT-loop
+μ-loop id places i₀ i = 8 - i
+
+loop-holds : tie.Need-loop-holds Inv-loop μ-loop
+loop-holds c = ap (formedAt (c .args .id)) (sym (slice-all (c .args .t1) (c .good .0 .1 .0 .1)))
+
+mul-p : tie.Need-mul-p Inv-loop μ-loop
+mul-p c = search needs
+
+array-copy-out-p : tie.Need-array-copy-out-p Inv-loop μ-loop
+array-copy-out-p c = search needs
+
+new-place-requires : tie.Need-new-place-requires Inv-loop μ-loop
+new-place-requires c κs = tt
+
+mul-ps : tie.Need-mul-ps Inv-loop μ-loop
+mul-ps c = search needs
+
+array-set-from-ps : tie.Need-array-set-from-ps Inv-loop μ-loop
+array-set-from-ps c = search needs
+
+returns : tie.Need-returns Inv-loop μ-loop
+returns c =
+    let l = c .before .before .before .before .before .loop in
+    let s = c .before .before .before .before .before .before in
+    ap (set (s .args .t1) (l .i)) (c .new-place .ensures)
+    ∙ formed-here (s .args .id) (s .args .t1) (l .i) 8 (s .good .0 .1 .0 .1) blank (omega arith) (not-true _ (c .before .if1 .taken)) ∙ sym (l .inv)
+
+add-i : tie.Need-add-i Inv-loop μ-loop
+add-i c = search needs
+
+loop-less : tie.Need-loop-less Inv-loop μ-loop
+loop-less c = search needs
+
+loop-again : tie.Need-loop-again Inv-loop μ-loop
+loop-again c =
+    let l = c .before .before .before .before .loop in
+    let s = c .before .before .before .before .before in
+    l .inv ∙ formed-further (s .args .id) (s .args .t1) (l .i) 8 (s .good .0 .1 .0 .1) blank (omega arith) (not-false _ (c .if1 .left))
+
+returns-2 : tie.Need-returns-2 Inv-loop μ-loop
+returns-2 c =
+    let s = c .before .before in
+    formed-done (s .args .id) (s .args .t1) (c .before .loop .i) 8 (s .good .0 .1 .0 .1) (omega arith) ∙ sym (c .before .loop .inv)
+
+pub formed-at-spec : {M : Type 1} → statement M
+formed-at-spec =
+    tie.close
+    (tie.spec
+    Inv-loop
+    μ-loop
+    loop-holds
+    mul-p
+    array-copy-out-p
+    new-place-requires
+    mul-ps
+    array-set-from-ps
+    returns
+    add-i
+    loop-less
+    loop-again
+    returns-2)

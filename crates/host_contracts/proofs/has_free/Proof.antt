@@ -1,0 +1,67 @@
+-- `host_contracts::has_free` meets its contract. The loop's invariant: the answer is that of the places that are left to look at.
+-- Assumes nothing.
+use mathlib.Core.Path.{_≡_, sym, ap, _∙_}
+use mathlib.Core.Bool.{not}
+use Prim.Native.Nat.{_-_}
+use native.Mathlib.Omega.{arith}
+use lib.Seq.{slice}
+use Rattle.host.specs.Lists.{some}
+use Rattle.host.specs.declared.Place.{Place}
+use Rattle.host.proofs.Laws.Slices.{slice-all, some-here, some-further, some-done}
+use Rattle.host.proofs.Laws.Places.{blank}
+use borrow.Author.Needs.{needs}
+use Rattle.host_contracts.proofs.has_free.Statement.{statement}
+use Rattle.host_contracts.proofs.has_free.Tie as tie
+
+abbrev Inv-loop : tie.InvT-loop
+Inv-loop places i₀ i = some (λ p. not (p .held)) places ≡ some (λ p. not (p .held)) (slice i 8 places)
+
+abbrev μ-loop : tie.MeasureT-loop
+μ-loop places i₀ i = 8 - i
+
+loop-holds : tie.Need-loop-holds Inv-loop μ-loop
+loop-holds c = ap (some (λ (p : Place). not (p .held))) (sym (slice-all (c .args .t1) (c .good .0 .1 .0 .1)))
+
+mul-p : tie.Need-mul-p Inv-loop μ-loop
+mul-p c = search needs
+
+array-copy-out-p : tie.Need-array-copy-out-p Inv-loop μ-loop
+array-copy-out-p c = search needs
+
+returns : tie.Need-returns Inv-loop μ-loop
+returns c =
+    let l = c .before .before .before .before .loop in
+    let s = c .before .before .before .before .before in
+    some-here (λ (p : Place). not (p .held)) (s .args .t1) (l .i) 8 blank (s .good .0 .1 .0 .1) (omega arith) (omega arith) (c .if1 .taken) ∙ sym (l .inv)
+
+add-i : tie.Need-add-i Inv-loop μ-loop
+add-i c = search needs
+
+loop-less : tie.Need-loop-less Inv-loop μ-loop
+loop-less c = search needs
+
+loop-again : tie.Need-loop-again Inv-loop μ-loop
+loop-again c =
+    let l = c .before .before .before .before .loop in
+    let s = c .before .before .before .before .before in
+    l .inv ∙ some-further (λ (p : Place). not (p .held)) (s .args .t1) (l .i) 8 blank (s .good .0 .1 .0 .1) (omega arith) (omega arith) (c .if1 .left)
+
+returns-2 : tie.Need-returns-2 Inv-loop μ-loop
+returns-2 c =
+    let s = c .before .before in
+    some-done (λ (p : Place). not (p .held)) (s .args .t1) (c .before .loop .i) 8 (omega arith) ∙ sym (c .before .loop .inv)
+
+pub has-free-spec : {M : Type 1} → statement M
+has-free-spec =
+    tie.close
+    (tie.spec
+    Inv-loop
+    μ-loop
+    loop-holds
+    mul-p
+    array-copy-out-p
+    returns
+    add-i
+    loop-less
+    loop-again
+    returns-2)

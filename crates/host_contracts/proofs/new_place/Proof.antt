@@ -1,0 +1,12 @@
+-- `host_contracts::new_place` meets its contract. Assumes nothing.
+use mathlib.Core.Path.{refl}
+use Rattle.host.specs.Empty.{newPlace}
+use Rattle.host_contracts.proofs.new_place.Statement.{statement}
+use Rattle.host_contracts.proofs.new_place.Tie as tie
+
+returns : tie.Need-returns
+unfolding newPlace
+returns c = refl
+
+pub new-place-spec : {M : Type 1} → statement M
+new-place-spec = tie.close (tie.spec returns)

@@ -1,0 +1,75 @@
+-- `host_order::each_in_order` meets its contract. The loop's invariant: the answer is that of the places that are left to look at.
+-- Assumes nothing.
+use mathlib.Core.Path.{_≡_, sym, ap, _∙_}
+use Prim.Native.Nat.{_-_}
+use native.Mathlib.Omega.{arith}
+use lib.Seq.{slice}
+use borrow.Author.Tests.{not-true, not-false}
+use Rattle.sia.specs.Encode.{every}
+use Rattle.host.specs.Order.{placeInOrder}
+use Rattle.host.proofs.Laws.Slices.{slice-all, every-stops, every-further, every-done}
+use Rattle.host.proofs.Laws.Places.{blank}
+use borrow.Author.Needs.{needs}
+use Rattle.host_order.proofs.each_in_order.Statement.{statement}
+use Rattle.host_order.proofs.each_in_order.Tie as tie
+
+abbrev Inv-loop : tie.InvT-loop
+Inv-loop z places i₀ i = every (placeInOrder z) places ≡ every (placeInOrder z) (slice i 8 places)
+
+abbrev μ-loop : tie.MeasureT-loop
+μ-loop z places i₀ i = 8 - i
+
+loop-holds : tie.Need-loop-holds Inv-loop μ-loop
+loop-holds c = ap (every (placeInOrder (c .args .z))) (sym (slice-all (c .args .t2) (c .good .1 .0 .1 .0 .1)))
+
+mul-p : tie.Need-mul-p Inv-loop μ-loop
+mul-p c = search needs
+
+array-copy-out-p : tie.Need-array-copy-out-p Inv-loop μ-loop
+array-copy-out-p c = search needs
+
+place-in-order-requires : tie.Need-place-in-order-requires Inv-loop μ-loop
+place-in-order-requires c κs = search needs
+
+returns : tie.Need-returns Inv-loop μ-loop
+returns c =
+    let l = c .before .before .before .before .loop in
+    let s = c .before .before .before .before .before in
+    every-stops (placeInOrder (s .args .z)) (s .args .t2) (l .i) 8 blank (s .good .1 .0 .1 .0 .1) (omega arith) (omega arith)
+    (sym (c .before .place-in-order .ensures) ∙ not-true _ (c .if1 .taken))
+    ∙ sym (l .inv)
+
+add-i : tie.Need-add-i Inv-loop μ-loop
+add-i c = search needs
+
+loop-less : tie.Need-loop-less Inv-loop μ-loop
+loop-less c = search needs
+
+loop-again : tie.Need-loop-again Inv-loop μ-loop
+loop-again c =
+    let l = c .before .before .before .before .loop in
+    let s = c .before .before .before .before .before in
+    l .inv
+    ∙ every-further (placeInOrder (s .args .z)) (s .args .t2) (l .i) 8 blank (s .good .1 .0 .1 .0 .1) (omega arith) (omega arith)
+    (sym (c .before .place-in-order .ensures) ∙ not-false _ (c .if1 .left))
+
+returns-2 : tie.Need-returns-2 Inv-loop μ-loop
+returns-2 c =
+    let s = c .before .before in
+    every-done (placeInOrder (s .args .z)) (s .args .t2) (c .before .loop .i) 8 (omega arith) ∙ sym (c .before .loop .inv)
+
+pub each-in-order-spec : {M : Type 1} → statement M
+each-in-order-spec =
+    tie.close
+    (tie.spec
+    Inv-loop
+    μ-loop
+    loop-holds
+    mul-p
+    array-copy-out-p
+    place-in-order-requires
+    returns
+    add-i
+    loop-less
+    loop-again
+    returns-2)

@@ -1,0 +1,70 @@
+-- `host_order::has_twin` meets its contract. The loop's invariant: the answer is that of the places that are left to look at.
+-- Assumes nothing.
+use mathlib.Core.Path.{_≡_, refl, sym, _∙_}
+use Prim.Native.Nat.{_-_}
+use native.Mathlib.Omega.{arith}
+use lib.Seq.{slice}
+use Rattle.host.specs.Lists.{some}
+use Rattle.host.specs.Order.{twins}
+use Rattle.host.proofs.Laws.Slices.{some-here, some-further, some-done}
+use Rattle.host.proofs.Laws.Places.{blank}
+use borrow.Author.Needs.{needs}
+use Rattle.host_order.proofs.has_twin.Statement.{statement}
+use Rattle.host_order.proofs.has_twin.Tie as tie
+
+abbrev Inv-loop : tie.InvT-loop
+Inv-loop from p places i₀ i = some (twins p) (slice from 8 places) ≡ some (twins p) (slice i 8 places)
+
+abbrev μ-loop : tie.MeasureT-loop
+μ-loop from p places i₀ i = 8 - i
+
+loop-holds : tie.Need-loop-holds Inv-loop μ-loop
+loop-holds c = refl
+
+mul-q : tie.Need-mul-q Inv-loop μ-loop
+mul-q c = search needs
+
+array-copy-out-q : tie.Need-array-copy-out-q Inv-loop μ-loop
+array-copy-out-q c = search needs
+
+are-twins-requires : tie.Need-are-twins-requires Inv-loop μ-loop
+are-twins-requires c κs = tt
+
+returns : tie.Need-returns Inv-loop μ-loop
+returns c =
+    let l = c .before .before .before .before .loop in
+    let s = c .before .before .before .before .before in
+    some-here (twins _) (s .args .t1) (l .i) 8 blank (s .good .0 .1 .0 .1) (omega arith) (omega arith) (sym (c .before .are-twins .ensures) ∙ c .if1 .taken) ∙ sym (l .inv)
+
+add-i : tie.Need-add-i Inv-loop μ-loop
+add-i c = search needs
+
+loop-less : tie.Need-loop-less Inv-loop μ-loop
+loop-less c = search needs
+
+loop-again : tie.Need-loop-again Inv-loop μ-loop
+loop-again c =
+    let l = c .before .before .before .before .loop in
+    let s = c .before .before .before .before .before in
+    l .inv ∙ some-further (twins _) (s .args .t1) (l .i) 8 blank (s .good .0 .1 .0 .1) (omega arith) (omega arith) (sym (c .before .are-twins .ensures) ∙ c .if1 .left)
+
+returns-2 : tie.Need-returns-2 Inv-loop μ-loop
+returns-2 c =
+    let s = c .before .before in
+    some-done (twins _) (s .args .t1) (c .before .loop .i) 8 (omega arith) ∙ sym (c .before .loop .inv)
+
+pub has-twin-spec : {M : Type 1} → statement M
+has-twin-spec =
+    tie.close
+    (tie.spec
+    Inv-loop
+    μ-loop
+    loop-holds
+    mul-q
+    array-copy-out-q
+    are-twins-requires
+    returns
+    add-i
+    loop-less
+    loop-again
+    returns-2)

@@ -1,0 +1,28 @@
+-- `host_order::parent_in_order` meets its contract. Assumes nothing.
+use mathlib.Core.Path.{refl, sym, ap, _∙_}
+use Rattle.area.proofs.Laws.Pick.{yes, no}
+use Rattle.host.specs.Order.{parentInOrder}
+use Rattle.host.specs.declared.Place.{Place}
+use borrow.Author.Needs.{needs}
+use Rattle.host_order.proofs.parent_in_order.Statement.{statement}
+use Rattle.host_order.proofs.parent_in_order.Tie as tie
+
+is-read-only-requires : tie.Need-is-read-only-requires
+is-read-only-requires c κs = search needs
+
+returns : tie.Need-returns
+unfolding parentInOrder
+returns c = yes _ _ _ (sym (c .before .is-read-only .ensures) ∙ c .if1 .taken) refl
+
+place-of-requires : tie.Need-place-of-requires
+place-of-requires c κs = search needs
+
+returns-2 : tie.Need-returns-2
+unfolding parentInOrder
+returns-2 c =
+    let at-is-read-only = c .before .before in
+    no _ _ _ (sym (at-is-read-only .is-read-only .ensures) ∙ c .before .if1 .left) (ap (λ (p : Place). p .held) (c .place-of .ensures))
+
+pub parent-in-order-spec : {M : Type 1} → statement M
+parent-in-order-spec =
+    tie.close (tie.spec is-read-only-requires returns place-of-requires returns-2)

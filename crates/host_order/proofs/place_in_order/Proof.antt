@@ -1,0 +1,48 @@
+-- `host_order::place_in_order` meets its contract: a walk down the definition. Assumes nothing.
+use mathlib.Core.Path.{refl, sym, ap, _∙_}
+use mathlib.Core.Bool.{not}
+use borrow.Author.Tests.{eq-eqb, ne-eqb}
+use Rattle.area.proofs.Laws.Pick.{yes, no}
+use Rattle.host.specs.Order.{placeInOrder}
+use borrow.Author.Needs.{needs}
+use Rattle.host_order.proofs.place_in_order.Statement.{statement}
+use Rattle.host_order.proofs.place_in_order.Tie as tie
+
+returns : tie.Need-returns
+unfolding placeInOrder
+returns c = yes _ _ _ (c .if1 .taken) refl
+
+is-read-only-requires : tie.Need-is-read-only-requires
+is-read-only-requires c κs = search needs
+
+returns-2 : tie.Need-returns-2
+unfolding placeInOrder
+returns-2 c =
+    let at-if1 = c .before .before .before in
+    no _ _ _ (at-if1 .if1 .left) (no _ _ _ (ap not (sym (c .before .is-read-only .ensures) ∙ c .if2 .taken)) refl)
+
+rem-if3 : tie.Need-rem-if3
+rem-if3 c = search needs
+
+returns-3 : tie.Need-returns-3
+unfolding placeInOrder
+returns-3 c =
+    let at-if2 = c .before .before in
+    let at-is-read-only = at-if2 .before in
+    let at-if1 = at-is-read-only .before .before in
+    no _ _ _ (at-if1 .if1 .left) (yes _ _ _ (ap not (sym (at-is-read-only .is-read-only .ensures) ∙ at-if2 .if2 .left)) (no _ _ _ (ne-eqb _ _ (c .if3 .taken)) refl))
+
+div-result : tie.Need-div-result
+div-result c = search needs
+
+returns-4 : tie.Need-returns-4
+unfolding placeInOrder
+returns-4 c =
+    let at-if2 = c .before .before .before in
+    let at-is-read-only = at-if2 .before in
+    let at-if1 = at-is-read-only .before .before in
+    no _ _ _ (at-if1 .if1 .left) (yes _ _ _ (ap not (sym (at-is-read-only .is-read-only .ensures) ∙ at-if2 .if2 .left)) (yes _ _ _ (eq-eqb _ _ (c .before .if3 .left)) refl))
+
+pub place-in-order-spec : {M : Type 1} → statement M
+place-in-order-spec =
+    tie.close (tie.spec returns is-read-only-requires returns-2 rem-if3 returns-3 div-result returns-4)

@@ -1,0 +1,40 @@
+-- `host_order::program_in_order` meets its contract: a walk down the definition. Assumes nothing.
+use mathlib.Core.Path.{refl, sym, _∙_}
+use borrow.Author.Tests.{not-true, not-false, le-leb, lt-leb}
+use Rattle.area.proofs.Laws.Pick.{yes, no}
+use Rattle.host.specs.Order.{programInOrder}
+use borrow.Author.Needs.{needs}
+use Rattle.host_order.proofs.program_in_order.Statement.{statement}
+use Rattle.host_order.proofs.program_in_order.Tie as tie
+
+terms-in-order-requires : tie.Need-terms-in-order-requires
+terms-in-order-requires c κs = search needs
+
+returns : tie.Need-returns
+unfolding programInOrder
+returns c = no _ _ _ (sym (c .before .terms-in-order .ensures) ∙ not-true _ (c .if1 .taken)) refl
+
+returns-2 : tie.Need-returns-2
+unfolding programInOrder
+returns-2 c =
+    let at-if1 = c .before .before .before .before in
+    let at-terms-in-order = at-if1 .before in
+    yes _ _ _ (sym (at-terms-in-order .terms-in-order .ensures) ∙ not-false _ (at-if1 .if1 .left))
+    (no _ _ _ (lt-leb _ _ (c .if2 .taken)) refl)
+
+progress-in-order-requires : tie.Need-progress-in-order-requires
+progress-in-order-requires c κs = search needs
+
+returns-3 : tie.Need-returns-3
+unfolding programInOrder
+returns-3 c =
+    let at-if1 = c .before .before .before .before .before in
+    let at-terms-in-order = at-if1 .before in
+    yes _ _ _ (sym (at-terms-in-order .terms-in-order .ensures) ∙ not-false _ (at-if1 .if1 .left))
+    (yes _ _ _ (le-leb _ _ (c .before .if2 .left))
+    (c .progress-in-order .ensures))
+
+pub program-in-order-spec : {M : Type 1} → statement M
+program-in-order-spec =
+    tie.close
+    (tie.spec terms-in-order-requires returns returns-2 progress-in-order-requires returns-3)

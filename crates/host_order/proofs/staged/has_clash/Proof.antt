@@ -1,0 +1,65 @@
+-- `host_order::staged::has_clash` meets its contract. The loop's invariant: the answer is that of the entries that are left to look at.
+-- Assumes nothing.
+use mathlib.Core.Path.{_≡_, refl, sym, _∙_}
+use Prim.Native.Nat.{_-_}
+use native.Mathlib.Omega.{arith}
+use lib.Seq.{slice}
+use Rattle.host.specs.Lists.{some}
+use Rattle.host.specs.Order.{clash}
+use Rattle.host.proofs.Laws.Slices.{some-here, some-further, some-done}
+use borrow.Author.Needs.{needs}
+use Rattle.host_order.proofs.staged.has_clash.Statement.{statement}
+use Rattle.host_order.proofs.staged.has_clash.Tie as tie
+
+abbrev Inv-loop : tie.InvT-loop
+Inv-loop from x staged i₀ i = some (clash x) (slice from 64 staged) ≡ some (clash x) (slice i 64 staged)
+
+abbrev μ-loop : tie.MeasureT-loop
+μ-loop from x staged i₀ i = 64 - i
+
+loop-holds : tie.Need-loop-holds Inv-loop μ-loop
+loop-holds c = refl
+
+array-read-clashes : tie.Need-array-read-clashes Inv-loop μ-loop
+array-read-clashes c = search needs
+
+clashes-requires : tie.Need-clashes-requires Inv-loop μ-loop
+clashes-requires c κs = tt
+
+returns : tie.Need-returns Inv-loop μ-loop
+returns c =
+    let l = c .before .before .before .loop in
+    let s = c .before .before .before .before in
+    some-here (clash _) (s .args .t1) (l .i) 64 0 (s .good .0 .1 .0 .1) (omega arith) (omega arith) (sym (c .before .clashes .ensures) ∙ c .if1 .taken) ∙ sym (l .inv)
+
+add-i : tie.Need-add-i Inv-loop μ-loop
+add-i c = search needs
+
+loop-less : tie.Need-loop-less Inv-loop μ-loop
+loop-less c = search needs
+
+loop-again : tie.Need-loop-again Inv-loop μ-loop
+loop-again c =
+    let l = c .before .before .before .loop in
+    let s = c .before .before .before .before in
+    l .inv ∙ some-further (clash _) (s .args .t1) (l .i) 64 0 (s .good .0 .1 .0 .1) (omega arith) (omega arith) (sym (c .before .clashes .ensures) ∙ c .if1 .left)
+
+returns-2 : tie.Need-returns-2 Inv-loop μ-loop
+returns-2 c =
+    let s = c .before .before in
+    some-done (clash _) (s .args .t1) (c .before .loop .i) 64 (omega arith) ∙ sym (c .before .loop .inv)
+
+pub has-clash-spec : {M : Type 1} → statement M
+has-clash-spec =
+    tie.close
+    (tie.spec
+    Inv-loop
+    μ-loop
+    loop-holds
+    array-read-clashes
+    clashes-requires
+    returns
+    add-i
+    loop-less
+    loop-again
+    returns-2)

@@ -1,0 +1,63 @@
+-- `host_order::staged::none_from` meets its contract. The loop's invariant: the answer is that of the entries that are left to look at.
+-- Assumes nothing.
+use mathlib.Core.Path.{_≡_, refl, sym, _∙_}
+use Prim.Native.Nat.{_-_}
+use native.Mathlib.Omega.{arith}
+use lib.Seq.{slice}
+use lib.Dec.{eqb}
+use borrow.Author.Tests.{eq-eqb, ne-eqb}
+use Rattle.sia.specs.Encode.{every}
+use Rattle.host.specs.Empty.{none}
+use Rattle.host.proofs.Laws.Slices.{every-stops, every-further, every-done}
+use borrow.Author.Needs.{needs}
+use Rattle.host_order.proofs.staged.none_from.Statement.{statement}
+use Rattle.host_order.proofs.staged.none_from.Tie as tie
+
+abbrev Inv-loop : tie.InvT-loop
+Inv-loop from staged i₀ i = every (λ n. eqb n none) (slice from 64 staged) ≡ every (λ n. eqb n none) (slice i 64 staged)
+
+abbrev μ-loop : tie.MeasureT-loop
+μ-loop from staged i₀ i = 64 - i
+
+loop-holds : tie.Need-loop-holds Inv-loop μ-loop
+loop-holds c = refl
+
+array-read-if1 : tie.Need-array-read-if1 Inv-loop μ-loop
+array-read-if1 c = search needs
+
+returns : tie.Need-returns Inv-loop μ-loop
+returns c =
+    let l = c .before .before .loop in
+    let s = c .before .before .before in
+    every-stops (λ n. eqb n none) (s .args .t1) (l .i) 64 0 (s .good .0 .1 .0 .1) (omega arith) (omega arith) (ne-eqb _ none (c .if1 .taken)) ∙ sym (l .inv)
+
+add-i : tie.Need-add-i Inv-loop μ-loop
+add-i c = search needs
+
+loop-less : tie.Need-loop-less Inv-loop μ-loop
+loop-less c = search needs
+
+loop-again : tie.Need-loop-again Inv-loop μ-loop
+loop-again c =
+    let l = c .before .before .loop in
+    let s = c .before .before .before in
+    l .inv ∙ every-further (λ n. eqb n none) (s .args .t1) (l .i) 64 0 (s .good .0 .1 .0 .1) (omega arith) (omega arith) (eq-eqb _ none (c .if1 .left))
+
+returns-2 : tie.Need-returns-2 Inv-loop μ-loop
+returns-2 c =
+    let s = c .before .before in
+    every-done (λ n. eqb n none) (s .args .t1) (c .before .loop .i) 64 (omega arith) ∙ sym (c .before .loop .inv)
+
+pub none-from-spec : {M : Type 1} → statement M
+none-from-spec =
+    tie.close
+    (tie.spec
+    Inv-loop
+    μ-loop
+    loop-holds
+    array-read-if1
+    returns
+    add-i
+    loop-less
+    loop-again
+    returns-2)

@@ -1,0 +1,27 @@
+-- `host_order::staged::slot_in_order` meets its contract. Assumes nothing.
+use mathlib.Core.Path.{refl, ap}
+use Prim.Native.Nat.{ℕ}
+use lib.Dec.{ltb}
+use borrow.Author.Tests.{eq-eqb, ne-eqb}
+use Rattle.area.proofs.Laws.Pick.{yes, no}
+use Rattle.host.specs.Empty.{none}
+use Rattle.host.specs.Order.{slotInOrder}
+use borrow.Author.Needs.{needs}
+use Rattle.host_order.proofs.staged.slot_in_order.Statement.{statement}
+use Rattle.host_order.proofs.staged.slot_in_order.Tie as tie
+
+returns : tie.Need-returns
+unfolding slotInOrder
+returns c = yes _ _ _ (eq-eqb _ none (c .if1 .taken)) refl
+
+wide-requires : tie.Need-wide-requires
+wide-requires c κs = search needs
+
+returns-2 : tie.Need-returns-2
+unfolding slotInOrder
+returns-2 c =
+    let s = c .before .before in
+    no _ _ _ (ne-eqb _ none (c .before .if1 .left)) (ap (λ (n : ℕ). ltb n (s .args .stage)) (c .wide .ensures))
+
+pub slot-in-order-spec : {M : Type 1} → statement M
+slot-in-order-spec = tie.close (tie.spec returns wide-requires returns-2)

@@ -1,0 +1,66 @@
+-- `host_order::staged::slots_in_order` meets its contract. The loop's invariant: the answer is that of the entries that are left to look at.
+-- Assumes nothing.
+use mathlib.Core.Path.{_≡_, sym, ap, _∙_}
+use Prim.Native.Nat.{_-_}
+use native.Mathlib.Omega.{arith}
+use lib.Seq.{slice}
+use borrow.Author.Tests.{not-true, not-false}
+use Rattle.sia.specs.Encode.{every}
+use Rattle.host.specs.Order.{slotInOrder}
+use Rattle.host.proofs.Laws.Slices.{slice-all, every-stops, every-further, every-done}
+use borrow.Author.Needs.{needs}
+use Rattle.host_order.proofs.staged.slots_in_order.Statement.{statement}
+use Rattle.host_order.proofs.staged.slots_in_order.Tie as tie
+
+abbrev Inv-loop : tie.InvT-loop
+Inv-loop stage staged i₀ i = every (slotInOrder stage) staged ≡ every (slotInOrder stage) (slice i 64 staged)
+
+abbrev μ-loop : tie.MeasureT-loop
+μ-loop stage staged i₀ i = 64 - i
+
+loop-holds : tie.Need-loop-holds Inv-loop μ-loop
+loop-holds c = ap (every (slotInOrder (c .args .stage))) (sym (slice-all (c .args .t1) (c .good .0 .1 .0 .1)))
+
+array-read-slot-in-order : tie.Need-array-read-slot-in-order Inv-loop μ-loop
+array-read-slot-in-order c = search needs
+
+slot-in-order-requires : tie.Need-slot-in-order-requires Inv-loop μ-loop
+slot-in-order-requires c κs = tt
+
+returns : tie.Need-returns Inv-loop μ-loop
+returns c =
+    let l = c .before .before .before .loop in
+    let s = c .before .before .before .before in
+    every-stops (slotInOrder (s .args .stage)) (s .args .t1) (l .i) 64 0 (s .good .0 .1 .0 .1) (omega arith) (omega arith) (sym (c .before .slot-in-order .ensures) ∙ not-true _ (c .if1 .taken)) ∙ sym (l .inv)
+
+add-i : tie.Need-add-i Inv-loop μ-loop
+add-i c = search needs
+
+loop-less : tie.Need-loop-less Inv-loop μ-loop
+loop-less c = search needs
+
+loop-again : tie.Need-loop-again Inv-loop μ-loop
+loop-again c =
+    let l = c .before .before .before .loop in
+    let s = c .before .before .before .before in
+    l .inv ∙ every-further (slotInOrder (s .args .stage)) (s .args .t1) (l .i) 64 0 (s .good .0 .1 .0 .1) (omega arith) (omega arith) (sym (c .before .slot-in-order .ensures) ∙ not-false _ (c .if1 .left))
+
+returns-2 : tie.Need-returns-2 Inv-loop μ-loop
+returns-2 c =
+    let s = c .before .before in
+    every-done (slotInOrder (s .args .stage)) (s .args .t1) (c .before .loop .i) 64 (omega arith) ∙ sym (c .before .loop .inv)
+
+pub slots-in-order-spec : {M : Type 1} → statement M
+slots-in-order-spec =
+    tie.close
+    (tie.spec
+    Inv-loop
+    μ-loop
+    loop-holds
+    array-read-slot-in-order
+    slot-in-order-requires
+    returns
+    add-i
+    loop-less
+    loop-again
+    returns-2)

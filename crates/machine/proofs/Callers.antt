@@ -1,0 +1,221 @@
+-- What callers use: what a host in order with an open program gives the functions of this crate, and that what they make together is the
+-- definition's commit. z is the sector size. Assumes nothing.
+use mathlib.Core.Path.{_≡_, refl, sym, ap, _∙_}
+use mathlib.Core.Bool.{true, false}
+use mathlib.Core.List.{List, [], _∷_, _++_}
+use Prim.Native.Nat.{ℕ, zero, suc, _+_, _-_, _*_, _/_, _≤_, _<_}
+use native.Mathlib.Nat.{zero-div, mul-le-mul-right, div-le-of-le-mul}
+use native.Mathlib.Omega.{arith}
+use lib.ListN.{length, getD}
+use lib.IntN.{ℤ, pos, _-ℤ_}
+use lib.Dec.{ltb, eqb}
+use borrow.Author.Tests.{ltb-true, eqb-true}
+use Rattle.area.specs.Pick.{pick}
+use Rattle.area.specs.Area.{same, part, put, zeros}
+use Rattle.area.proofs.Laws.Pick.{by, picks, skips, never, both-left, both-right}
+use Rattle.area.proofs.Laws.Slots.{slot-ends}
+use Rattle.sia.specs.Names.{readOnly}
+use Rattle.sia.specs.Encode.{every}
+use Rattle.host.specs.Empty.{none, noPlace, noProgram}
+use Rattle.host.specs.With.{withPlaces, withProgram, withDiskRoots, withSize, withSlots}
+use Rattle.host.specs.Places.{hasId, whose, taken}
+use Rattle.host.specs.Order.{placeInOrder, inOrder, slotInOrder, parentInOrder, termsInOrder}
+use Rattle.host.specs.Calls.{replaced}
+use Rattle.machine_rules.specs.View.{settingOf, settingBy, parent, areasRight}
+use Rattle.machine_rules.specs.Facts.{Good, Solid}
+use Rattle.machine_rules.specs.Commit.{Closed, closed, finalSlots, copiedBack, finalPlace, commit}
+use Rattle.machine_rules.specs.Visit.{Declared}
+use Rattle.machine_rules.proofs.Committing.{final, order-places, order-some, place-twins}
+use Rattle.machine_rules.proofs.Laws.Effects.{whole-sectors}
+use Rattle.machine_rules.proofs.Laws.Sizes.{place-size, whose-whole, whose-here, whose-on, has-held}
+use Rattle.machine_rules.proofs.Laws.Slots.{every-fore, every-aft}
+use Rattle.machine_rules.proofs.Laws.Split.{split}
+use Rattle.machine_rules.proofs.Laws.Spots.{every-at, every-get}
+use Rattle.machine_rules.proofs.Laws.Taking.{order-good, order-solid, areas-stage}
+use Rattle.host.specs.declared.Place.{Place}
+use Rattle.host.specs.declared.Host.{Host}
+use Rattle.machine.specs.Marks.{filled}
+use Rattle.machine.specs.Back.{Back}
+
+-- ---- zeros behind slots are read as nothing is
+
+getD-zeros : (k i : ℕ) → getD (zeros k) i 0 ≡ 0
+getD-zeros zero i = refl
+getD-zeros (suc k) zero = refl
+getD-zeros (suc k) (suc i) = getD-zeros k i
+
+getD-behind : (l : List ℕ) (k i : ℕ) → getD (l ++ zeros k) i 0 ≡ getD l i 0
+getD-behind [] k i = getD-zeros k i
+getD-behind (x ∷ l) k zero = refl
+getD-behind (x ∷ l) k (suc i) = getD-behind l k i
+
+pub slot-filled : (l : List ℕ) (i : ℕ) → getD (filled l) i 0 ≡ getD l i 0
+unfolding filled
+slot-filled l i = getD-behind l (64 - length l) i
+
+-- `copy_back` copies to the final slots
+pub back-filled : (z : ℕ) (stage staged l : List ℕ) (i n : ℕ) (disk : List ℕ)
+    → copiedBack z stage staged (filled l) i n disk ≡ copiedBack z stage staged l i n disk
+unfolding copiedBack
+back-filled z stage staged l i zero disk = refl
+back-filled z stage staged l i (suc n) disk =
+    back-filled z stage staged l (suc i) n _
+    ∙ ap (λ (m : ℕ). copiedBack z stage staged l (suc i) n
+    (pick (eqb (getD staged i none) none) disk (put disk (m * z) (part stage (getD staged i none * z) z)))) (slot-filled l i)
+
+-- `final_place` makes the final place
+pub place-filled : (p : Place) (size : ℕ) (l : List ℕ) → withSlots (withSize p size) (filled l) ≡ finalPlace p size l
+unfolding finalPlace filled
+place-filled p size l = refl
+
+-- ---- the sizes of contracts in order
+
+none-size : (z : ℕ) (id : List ℕ) → 0 < z → whose id [] .size / z ≤ 64
+unfolding whose noPlace
+none-size z id some = omega (arith, zero-div z)
+
+whose-small : (z : ℕ) (id : List ℕ) (ps : List Place) → 0 < z → every (placeInOrder z) ps ≡ true → whose id ps .size / z ≤ 64
+unfolding every
+whose-small z id [] some h = none-size z id some
+whose-small z id (p ∷ ps) some h =
+    by (hasId id p)
+    (λ e. omega (arith, ap (λ (q : Place). q .size / z) (whose-here id p ps e), place-size z p (both-left _ _ h) (has-held id p e) .1))
+    (λ e. omega (arith, ap (λ (q : Place). q .size / z) (whose-on id p ps e), whose-small z id ps some (both-right _ _ h)))
+
+-- slot n lies within an area that has m slots of z bytes
+within : (z n m : ℕ) (a : List ℕ) → n < m → m * z ≤ length a → n * z + z ≤ length a
+within z n m a lt e = omega (arith, slot-ends z n m lt)
+
+-- ---- a host in order with an open program
+
+module _ (disk : List ℕ) (h : Host) (stage : List ℕ) (sound : Declared h) (o : inOrder h ≡ true)
+    (areas : areasRight h disk stage ≡ true) (live : h .program .active ≡ true) where
+  abbrev z : ℕ
+  z = h .sector
+
+  abbrev id : List ℕ
+  id = h .program .terms .head .contract
+
+  abbrev size : ℕ
+  size = h .program .progress .size
+
+  abbrev staged : List ℕ
+  staged = h .program .progress .staged
+
+  good : Good z (settingOf h disk) (h .program .progress)
+  good = order-good h disk o live (sound .staged)
+
+  solid : Solid z (settingOf h disk)
+  solid = order-solid h disk stage o areas
+
+  -- what `final_slots` asks
+  pub few-slots : h .disk ≤ 64
+  few-slots = order-places h o .1
+
+  in-slots : size ≤ 64 * z
+  unfolding settingBy
+  in-slots = omega (arith, good .orderly .within, mul-le-mul-right z few-slots)
+
+  pub few-sectors : size / z ≤ 64
+  few-sectors = div-le-of-le-mul z (omega (arith, in-slots))
+
+  -- what `growth` asks
+  pub last-size : size ≤ 268435456
+  last-size = omega (arith, in-slots, solid .lent .size .most)
+
+  pub first-size : {p : Place} → p ≡ whose id (h .places) → p .size ≤ 268435456
+  unfolding settingBy
+  first-size e =
+      let small = whose-small z id (h .places) (order-some h o) (solid .small) in
+      let whole = whole-sectors z (whose id (h .places) .size) (whose-whole z id (h .places) (solid .small)) in
+      omega (arith, ap (λ (p : Place). p .size) e, mul-le-mul-right z small, whole, solid .lent .size .most)
+
+  -- where there is no parent, nothing is committed
+  nobody : whose id (h .places) .held ≡ false → size ≡ 0
+  unfolding parentInOrder termsInOrder settingBy
+  nobody e =
+      let t = both-left _ _ (good .terms) in
+      by (same id readOnly)
+      (λ u. eqb-true _ _ (sym (picks (same id readOnly) _ _ u) ∙ t))
+      (λ u. never (sym t ∙ skips (same id readOnly) _ _ u ∙ e))
+
+  staged-below : (j : ℕ) → eqb (getD staged j none) none ≡ false → getD staged j none < h .stage
+  unfolding slotInOrder settingBy
+  staged-below j e =
+      ltb-true _ _ (sym (skips (eqb (getD staged j none) none) true _ e)
+      ∙ every-at (slotInOrder (h .stage)) staged j none (good .orderly .staged .slots) (picks (eqb none none) true _ refl))
+
+  -- the final slots are slots of the disk
+  pub final-below : (j : ℕ) → j < size / z → getD (finalSlots z (h .disk) (h .places) (whose id (h .places)) size) j 0 < h .disk
+  unfolding settingBy
+  final-below j lt =
+      by (whose id (h .places) .held)
+      (λ e. let q = order-places h o in
+      let s = split id (h .places) (place-twins z (h .disk) (h .places) (q .0)) e in
+      let f = final z (h .disk) size id (h .places) s (order-some h o) (q .1) (q .0) (sound .places) (good .orderly .whole) (good .orderly .within) in
+      let is = ap (λ (x : Place). finalSlots z (h .disk) (h .places) x size) (s .whose-is) ∙ f .is in
+      let all : every (λ n. ltb n (h .disk)) (f .slots) ≡ true =
+      every-fore _ (f .slots) (taken z (s .behind)) (every-aft _ (taken z (s .before)) _ (f .below)) in
+      let b : getD (f .slots) j 0 < h .disk =
+      ltb-true (getD (f .slots) j 0) (h .disk) (every-get (λ n. ltb n (h .disk)) (f .slots) j 0 (omega (arith, f .long)) all) in
+      omega (arith, b, ap (λ (l : List ℕ). getD l j 0) is))
+      (λ e. absurd (omega (arith, ap (λ (n : ℕ). n / z) (nobody e) ∙ zero-div z)))
+
+  -- the staged slots and the final ones lie within areas with slots of y bytes, as many as the stage and the disk have
+  backs-at : (y : ℕ) (from to : List ℕ) {p : Place} {slots : List ℕ} → h .stage * y ≤ length from → h .disk * y ≤ length to
+      → p ≡ whose id (h .places) → slots ≡ filled (finalSlots z (h .disk) (h .places) p size) → Back y from staged slots (size / z) to
+  backs-at y from to {p} {slots} long wide e q =
+      let l = finalSlots z (h .disk) (h .places) (whose id (h .places)) size in
+      let is : slots ≡ filled l = q ∙ ap (λ (x : Place). filled (finalSlots z (h .disk) (h .places) x size)) e in
+      record {
+        few = few-sectors;
+        each = λ j lt. record {
+          source = λ u. within y (getD staged j none) (h .stage) from (staged-below j u) long;
+          target = λ u. within y (getD slots j 0) (h .disk) to
+              (omega (arith, final-below j lt, ap (λ (x : List ℕ). getD x j 0) is ∙ slot-filled l j)) wide;
+        };
+      }
+
+  -- what `copy_back` asks, of the bytes
+  pub backs : {p : Place} {slots : List ℕ} → p ≡ whose id (h .places) → slots ≡ filled (finalSlots z (h .disk) (h .places) p size)
+      → Back z stage staged slots (size / z) disk
+  unfolding settingBy
+  backs e q = backs-at z stage disk (omega (arith, areas-stage h disk stage areas)) (omega (arith, solid .disk)) e q
+
+  -- and of the roots kept beside the slots
+  pub roots-back : {p : Place} {slots : List ℕ} → p ≡ whose id (h .places) → slots ≡ filled (finalSlots z (h .disk) (h .places) p size)
+      → Back 32 (h .stageroots) staged slots (size / z) (h .diskroots)
+  unfolding settingBy
+  roots-back e q =
+      backs-at 32 (h .stageroots) (h .diskroots) (omega (arith, sound .stage, solid .lent .few)) (omega (arith, sound .disk, few-slots)) e q
+
+-- ---- a commit, from what the functions of this crate make
+
+pub commit-made : {p place : Place} {slots after roots : List ℕ} {places : List Place} {growth : ℤ}
+    (disk : List ℕ) (h : Host) (stage : List ℕ)
+    → let id = h .program .terms .head .contract in let size = h .program .progress .size in
+    p ≡ whose id (h .places) → slots ≡ filled (finalSlots (h .sector) (h .disk) (h .places) p size)
+    → place ≡ withSlots (withSize p size) slots → places ≡ replaced id place (h .places) → growth ≡ pos size -ℤ pos (p .size)
+    → after ≡ copiedBack (h .sector) stage (h .program .progress .staged) slots 0 (size / h .sector) disk
+    → roots ≡ copiedBack 32 (h .stageroots) (h .program .progress .staged) slots 0 (size / h .sector) (h .diskroots)
+    → closed 0 (h .program .progress .tally) growth (withDiskRoots (withProgram (withPlaces h places) noProgram) roots) after
+    ≡ commit disk h stage
+unfolding commit parent settingBy
+commit-made {p} {place} {slots} {after} {roots} {places} {growth} disk h stage e s q r g a b =
+    let id = h .program .terms .head .contract in
+    let size = h .program .progress .size in
+    let l : Place → List ℕ = λ x. finalSlots (h .sector) (h .disk) (h .places) x size in
+    let left : ℤ → List Place → List ℕ → List ℕ → Closed = λ n ps d m.
+    closed 0 (h .program .progress .tally) n (withDiskRoots (withProgram (withPlaces h ps) noProgram) m) d in
+    let back : ℕ → List ℕ → List ℕ → List ℕ → List ℕ = λ y from to x.
+    copiedBack y from (h .program .progress .staged) x 0 (size / h .sector) to in
+    let final : place ≡ finalPlace p size (l p) = q ∙ ap (withSlots (withSize p size)) s ∙ place-filled p size (l p) in
+    let bytes : after ≡ back (h .sector) stage disk (l p) =
+    a ∙ ap (back (h .sector) stage disk) s
+    ∙ back-filled (h .sector) stage (h .program .progress .staged) (l p) 0 (size / h .sector) disk in
+    let beside : roots ≡ back 32 (h .stageroots) (h .diskroots) (l p) =
+    b ∙ ap (back 32 (h .stageroots) (h .diskroots)) s
+    ∙ back-filled 32 (h .stageroots) (h .program .progress .staged) (l p) 0 (size / h .sector) (h .diskroots) in
+    (λ i. left (g i) ((r ∙ ap (λ (x : Place). replaced id x (h .places)) final) i) (bytes i) (beside i))
+    ∙ ap (λ (x : Place). left (pos size -ℤ pos (x .size)) (replaced id (finalPlace x size (l x)) (h .places))
+    (back (h .sector) stage disk (l x)) (back 32 (h .stageroots) (h .diskroots) (l x))) e

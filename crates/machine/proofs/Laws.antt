@@ -1,0 +1,13 @@
+-- The laws, a file for each subject.
+-- The laws, a file for each subject.
+-- The laws, a file for each subject.
+-- The laws, a file for each subject.
+pub mod Marks
+pub mod Filled
+pub mod Turns
+pub mod Bytes
+pub mod Growth
+pub mod Shapes
+pub mod Seats
+pub mod Beside
+pub mod Hosts

@@ -1,0 +1,32 @@
+-- `machine::closing::same_pair` meets its contract: the sizes, then all 32 bytes. Assumes nothing.
+use mathlib.Core.Path.{refl}
+use borrow.Author.Tests.{eq-eqb, ne-eqb}
+use Rattle.area.proofs.Laws.Pick.{yes, no}
+use Rattle.machine_rules.specs.Record.{samePair}
+use borrow.Author.Needs.{needs}
+use Rattle.machine.proofs.closing.same_pair.Statement.{statement}
+use Rattle.machine.proofs.closing.same_pair.Tie as tie
+
+returns : tie.Need-returns
+unfolding samePair
+returns c = no _ _ _ (ne-eqb _ _ (c .if1 .taken)) refl
+
+slice-aggregate-same : tie.Need-slice-aggregate-same
+slice-aggregate-same c = search needs
+
+slice-aggregate-same-2 : tie.Need-slice-aggregate-same-2
+slice-aggregate-same-2 c = search needs
+
+same-requires : tie.Need-same-requires
+same-requires c κs = search needs
+
+returns-2 : tie.Need-returns-2
+unfolding samePair
+returns-2 c =
+    let roots = c .before .before .before in
+    yes _ _ _ (eq-eqb _ _ (roots .before .before .if1 .left)) (c .same .ensures)
+
+pub same-pair-spec : {M : Type 1} → statement M
+same-pair-spec =
+    tie.close
+    (tie.spec returns slice-aggregate-same slice-aggregate-same-2 same-requires returns-2)

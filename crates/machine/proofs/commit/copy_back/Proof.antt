@@ -1,0 +1,77 @@
+-- `machine::commit::copy_back` meets its contract. The loop's invariant: the positions from i on are left to copy. Assumes nothing.
+use mathlib.Core.Path.{_≡_, refl, sym, ap, _∙_}
+use Prim.Native.Nat.{ℕ, _-_, _≤_}
+use native.Mathlib.Nat.{sub-zero}
+use native.Mathlib.Omega.{arith}
+use lib.ListN.{length}
+use Rattle.machine_rules.specs.Commit.{copiedBack}
+use Rattle.machine.proofs.Laws.Bytes.{next-lies, back-one, back-length, back-done}
+use borrow.Author.Needs.{needs}
+use Rattle.machine.proofs.commit.copy_back.Statement.{statement}
+use Rattle.machine.proofs.commit.copy_back.Tie as tie
+
+abbrev Inv-loop : tie.InvT-loop
+Inv-loop z stage n disk₀ staged slots i₀ disk i =
+    (i ≤ n) × (length disk ≡ length disk₀) × (copiedBack z stage staged slots 0 n disk₀ ≡ copiedBack z stage staged slots i (n - i) disk)
+
+abbrev μ-loop : tie.MeasureT-loop
+μ-loop z stage n disk₀ staged slots i₀ disk i = n - i
+
+loop-holds : tie.Need-loop-holds Inv-loop μ-loop
+loop-holds c =
+    let s = c .before .before in
+    (omega arith, refl, ap (λ (m : ℕ). copiedBack (s .args .z) (s .args .stage .now) (s .args .t3) (s .args .t4) 0 m (s .args .disk .now)) (sym (sub-zero _)))
+
+array-read-one-back : tie.Need-array-read-one-back Inv-loop μ-loop
+array-read-one-back c = omega arith
+
+array-read-one-back-2 : tie.Need-array-read-one-back-2 Inv-loop μ-loop
+array-read-one-back-2 c = omega arith
+
+one-back-requires : tie.Need-one-back-requires Inv-loop μ-loop
+one-back-requires c κs =
+    let l = c .before .before .loop in
+    let s = c .before .before .before .before .before in
+    next-lies (s .args .z) (s .args .stage .now) (s .args .t3) (s .args .t4) (s .args .n) (l .i)
+    (s .good .1 .1 .0 .1 .0 .1) (s .pre .few) _ _ (omega arith) (s .pre) (l .inv .1)
+
+add-i : tie.Need-add-i Inv-loop μ-loop
+add-i c = omega arith
+
+loop-less : tie.Need-loop-less Inv-loop μ-loop
+loop-less c = omega arith
+
+loop-again : tie.Need-loop-again Inv-loop μ-loop
+loop-again c =
+    let l = c .before .before .before .before .before .loop in
+    let s = c .before .before .before .before .before .before .before .before in (
+      omega arith,
+      back-length _ _ _ _ _ (l .inv .1) (c .before .before .one-back .ensures),
+      l .inv .2
+          ∙ back-one (s .args .z) (s .args .stage .now) (s .args .t3) (s .args .t4) (s .args .n) (l .i) (s .good .1 .1 .0 .1 .0 .1) (s .pre .few) (l .disk)
+          (omega arith) (c .before .before .one-back .ensures),
+    )
+
+same-length : tie.Need-same-length Inv-loop μ-loop
+same-length c = search needs
+
+returns : tie.Need-returns Inv-loop μ-loop
+returns c =
+    let l = c .before .loop in
+    sym (l .inv .2 ∙ back-done _ _ _ _ _ (l .i) (l .disk) (omega arith))
+
+pub copy-back-spec : {M : Type 1} → statement M
+copy-back-spec =
+    tie.close
+    (tie.spec
+    Inv-loop
+    μ-loop
+    loop-holds
+    array-read-one-back
+    array-read-one-back-2
+    one-back-requires
+    add-i
+    loop-less
+    loop-again
+    same-length
+    returns)

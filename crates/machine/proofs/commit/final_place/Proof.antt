@@ -1,0 +1,12 @@
+-- `machine::commit::final_place` meets its contract: two fields are changed. Assumes nothing.
+use mathlib.Core.Path.{refl}
+use Rattle.host.specs.With.{withSize, withSlots}
+use Rattle.machine.proofs.commit.final_place.Statement.{statement}
+use Rattle.machine.proofs.commit.final_place.Tie as tie
+
+returns : tie.Need-returns
+unfolding withSlots withSize
+returns c = refl
+
+pub final-place-spec : {M : Type 1} → statement M
+final-place-spec = tie.close (tie.spec returns)

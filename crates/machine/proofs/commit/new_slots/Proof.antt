@@ -1,0 +1,62 @@
+-- `machine::commit::new_slots` meets its contract. The loop's invariant: what is left to lay is laid from i on. Assumes nothing.
+use mathlib.Core.Path.{_≡_, refl, sym, _∙_}
+use Prim.Native.Nat.{_-_}
+use native.Mathlib.Omega.{arith}
+use Rattle.area.specs.Area.{put}
+use Rattle.machine.specs.Marks.{newFrom}
+use Rattle.machine.proofs.Laws.Turns.{new-one, new-done}
+use Rattle.machine.proofs.commit.new_slots.Statement.{statement}
+use Rattle.machine.proofs.commit.new_slots.Tie as tie
+
+abbrev Inv-loop : tie.InvT-loop
+Inv-loop disk from end used₀ after₀ i₀ used after i = put after₀ from (newFrom disk used₀ (end - from)) ≡ put after i (newFrom disk used (end - i))
+
+abbrev μ-loop : tie.MeasureT-loop
+μ-loop disk from end used₀ after₀ i₀ used after i = end - i
+
+loop-holds : tie.Need-loop-holds Inv-loop μ-loop
+loop-holds c = refl
+
+lowest-free-requires : tie.Need-lowest-free-requires Inv-loop μ-loop
+lowest-free-requires c κs = c .before .before .pre .0
+
+mark-requires : tie.Need-mark-requires Inv-loop μ-loop
+mark-requires c κs = tt
+
+cast-after : tie.Need-cast-after Inv-loop μ-loop
+cast-after c = omega (arith, c .before .lowest-free .ensures .1)
+
+array-write-after : tie.Need-array-write-after Inv-loop μ-loop
+array-write-after c = omega arith
+
+add-i : tie.Need-add-i Inv-loop μ-loop
+add-i c = omega arith
+
+loop-less : tie.Need-loop-less Inv-loop μ-loop
+loop-less c = omega arith
+
+loop-again : tie.Need-loop-again Inv-loop μ-loop
+loop-again c =
+    let l = c .before .before .before .loop in
+    l .inv ∙ new-one _ (l .used) (l .after) (l .i) _ (omega arith) (c .before .lowest-free .ensures .0) (c .mark .ensures)
+
+returns : tie.Need-returns Inv-loop μ-loop
+returns c =
+    let l = c .before .loop in
+    sym (l .inv ∙ new-done _ (l .used) (l .after) (l .i) _ (omega arith))
+
+pub new-slots-spec : {M : Type 1} → statement M
+new-slots-spec =
+    tie.close
+    (tie.spec
+    Inv-loop
+    μ-loop
+    loop-holds
+    lowest-free-requires
+    mark-requires
+    cast-after
+    array-write-after
+    add-i
+    loop-less
+    loop-again
+    returns)

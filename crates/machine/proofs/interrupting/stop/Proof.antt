@@ -1,0 +1,50 @@
+-- `machine::interrupting::stop` meets its contract. Assumes nothing.
+use mathlib.Core.Path.{ap, ap₂, _∙_}
+use mathlib.Core.List.{List, []}
+use Prim.Native.Nat.{ℕ}
+use Rattle.area.specs.Area.{put}
+use Rattle.host.specs.With.{withProgram, withCame, withProgress, withStageRoots}
+use Rattle.host.proofs.Laws.Lengths.{disk-rooted}
+use Rattle.machine_rules.specs.View.{settingBy, turnOf, withRun, parent}
+use Rattle.machine_rules.specs.Roots.{keptRoot, rootBy, rootOf}
+use Rattle.machine_rules.specs.Record.{pairOf, startingPair, recordBytes, failureBytes}
+use Rattle.machine_rules.specs.Run.{failing}
+use Rattle.machine_rules.specs.Calls.{Interrupted, interrupted, stoppedBy}
+use Rattle.machine_step.proofs.Laws.Hosts.{stands}
+use Rattle.machine.proofs.Laws.Hosts.{room-left}
+use Rattle.host.specs.declared.Place.{Place}
+use Rattle.host.specs.declared.Progress.{Progress}
+use borrow.Author.Needs.{needs}
+use Rattle.machine.proofs.interrupting.stop.Statement.{statement}
+use Rattle.machine.proofs.interrupting.stop.Tie as tie
+
+parent-requires : tie.Need-parent-requires
+parent-requires c κs = search needs
+
+slice-aggregate-fail : tie.Need-slice-aggregate-fail
+slice-aggregate-fail c = search needs
+
+fail-requires : tie.Need-fail-requires
+fail-requires c κs =
+    let found = c .before .before .before .before in
+    let s = found .before .before .before in
+    let h = s .args .host in
+    (stands h _ (disk-rooted h _ (s .good .0)) (found .parent .ensures) (s .pre .order), room-left h (s .pre))
+
+same-length : tie.Need-same-length
+same-length c = search needs
+
+returns : tie.Need-returns
+unfolding stoppedBy failing failureBytes startingPair parent settingBy turnOf withRun withStageRoots withProgram withProgress withCame rootOf rootBy
+returns c =
+    let failed = c .before .before in
+    let found = failed .before .before .before .before .before in
+    let a = found .before .before .before .args in
+    let e = failed .fail .ensures in
+    let read = keptRoot (a .host .diskroots) [] in
+    let out : Place → List ℕ = λ p. put (a .output .now) (a .host .program .progress .written) (recordBytes 20 0 (pairOf (a .host .sector) read p) 0 [] 0 []) in
+    let left : Progress → List ℕ → Interrupted = λ p o. interrupted 0 (p .tally) (withRun (a .host) (a .host .program .came) p (a .host .stageroots)) o in
+    ap₂ left (e .0) (e .1 ∙ ap out (found .parent .ensures))
+
+pub stop-spec : {M : Type 1} → statement M
+stop-spec = tie.close (tie.spec parent-requires slice-aggregate-fail fail-requires same-length returns)

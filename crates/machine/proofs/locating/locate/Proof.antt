@@ -1,0 +1,33 @@
+-- `locate` meets its contract: a walk down the definition. Assumes nothing.
+use mathlib.Core.Path.{_≡_, sym, ap, _∙_}
+use mathlib.Core.Bool.{true, not}
+use borrow.Author.Needs.{needs}
+use borrow.Author.Tests.{not-false}
+use Rattle.area.proofs.Laws.Pick.{yes, no}
+use Rattle.host.specs.Order.{inOrder}
+use Rattle.machine_rules.specs.View.{settingBy}
+use Rattle.machine_rules.specs.Roots.{rootBy, rootOf}
+use Rattle.machine_rules.specs.Seats.{locatedAt, locatedBy}
+use Rattle.machine.proofs.locating.locate.Statement.{statement}
+use Rattle.machine.proofs.locating.locate.Tie as tie
+
+in-order : (c : tie.Else1) → inOrder (c .before .before .args .host) ≡ true
+in-order c = sym (c .before .in-order .ensures) ∙ not-false _ (c .if1 .left)
+
+returns : tie.Need-returns
+unfolding locatedBy
+returns c = yes _ _ _ (ap not (sym (c .before .before .in-order .ensures)) ∙ c .before .if1 .taken) (c .not-located .ensures)
+
+sought-requires : tie.Need-sought-requires
+sought-requires c κs = in-order c
+
+returns-2 : tie.Need-returns-2
+unfolding locatedBy rootOf rootBy settingBy
+returns-2 c =
+    let at-sought = c .before in
+    no _ _ _ (ap not (in-order (at-sought .before))) (c .located-at .ensures ∙ ap locatedAt (at-sought .sought .ensures))
+
+pub locate-spec : {M : Type 1} → statement M
+locate-spec =
+    tie.close
+    (tie.spec (λ c κs. tt) (λ c κs. search needs) returns sought-requires (λ c κs. search needs) returns-2)

@@ -1,0 +1,25 @@
+-- `located_at` meets its contract: the seat's numbers, or zeros. Assumes nothing.
+use mathlib.Core.Path.{sym, ap, _∙_}
+use mathlib.Core.Bool.{Bool, true}
+use borrow.Author.Needs.{needs}
+use Rattle.machine_rules.specs.Seats.{locatedAt}
+use Rattle.machine_rules.specs.declared.Located.{Located}
+use Rattle.machine.proofs.locating.located_at.Statement.{statement}
+use Rattle.machine.proofs.locating.located_at.Tie as tie
+
+returns : tie.Need-returns
+unfolding locatedAt
+returns c = c .not-located .ensures ∙ sym (ap locatedAt (c .before .enum-told .given .1))
+
+returns-2 : tie.Need-returns-2
+unfolding locatedAt
+returns-2 c =
+    let at-seat = c .before .before in
+    let x = at-seat .sought .given .0 .0 in
+    let answer : Bool → Located = λ b. record { number = 0; found = true; place = x .place; position = x .position; staged = b } in
+    ap answer (c .is-staged .ensures) ∙ sym (ap locatedAt (at-seat .sought .given .1))
+
+pub located-at-spec : {M : Type 1} → statement M
+located-at-spec =
+    tie.close
+    (tie.spec (λ c. search needs) (λ c. search needs) (λ c κs. search needs) returns (λ c κs. search needs) returns-2)

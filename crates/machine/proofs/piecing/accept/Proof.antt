@@ -1,0 +1,67 @@
+-- `machine::piecing::accept` meets its contract: the piece behind the bytes already come, then instructions in turn. Assumes nothing.
+use mathlib.Core.Path.{refl, sym, ap, _∙_}
+use native.Mathlib.Omega.{arith}
+use lib.ListN.{length}
+use Rattle.area.specs.Area.{put}
+use Rattle.area.proofs.Laws.Parts.{part-whole}
+use Rattle.area.proofs.Laws.Puts.{length-put}
+use Rattle.host.specs.With.{withProgram, withCame, withProgress, withStageRoots}
+use Rattle.host.proofs.Laws.Lengths.{hosted, disk-rooted, stage-rooted}
+use Rattle.machine_rules.specs.View.{settingBy, turnOf, withRun}
+use Rattle.machine_step.proofs.Laws.Hosts.{turns-right}
+use Rattle.machine.proofs.Laws.Hosts.{input-long, accepted-is, declared-most}
+use borrow.Author.Needs.{needs}
+use Rattle.machine.proofs.piecing.accept.Statement.{statement}
+use Rattle.machine.proofs.piecing.accept.Tie as tie
+
+copy-between-requires : tie.Need-copy-between-requires
+copy-between-requires c κs = let start = c .before .before .before .before .before .before .before .before .before .before in (omega arith, omega (arith, start .pre .fits, input-long (start .args .host) _ (start .pre .inputs)))
+
+add-k : tie.Need-add-k
+add-k c = let start = c .before .before .before .before .before .before .before .before .before .before .before .before .before in omega (arith, start .pre .fits, declared-most (start .args .host) (start .pre .ready .order) (start .pre .ready .live))
+
+slice-aggregate-run : tie.Need-slice-aggregate-run
+slice-aggregate-run c = let s = c .before .before .before .before .before .before .before .before .before .before .before .before .before .before .before .before in sym (disk-rooted (s .args .host) _ (s .good .0))
+
+slice-aggregate-run-2 : tie.Need-slice-aggregate-run-2
+slice-aggregate-run-2 c = let s = c .before .before .before .before .before .before .before .before .before .before .before .before .before .before .before .before .before .before in sym (stage-rooted (s .args .host) _ (s .good .0))
+
+run-requires : tie.Need-run-requires
+unfolding settingBy turnOf
+run-requires c κs =
+    let came = c .before .before .before .before .before .before .before .before .before in
+    let s = came .before .before .before .before .before .before .before .before .before .before .before in
+    let h = s .args .host in
+    turns-right h _ _ _ _ (hosted h _ (s .good .0)) (disk-rooted h _ (s .good .0)) (stage-rooted h _ (s .good .0)) (s .pre .ready)
+    (ap length (came .copy-between .ensures) ∙ length-put _ _ _ ∙ input-long h _ (s .pre .inputs)) (s .pre .outputs)
+
+same-length : tie.Need-same-length
+same-length c = search needs
+
+same-length-2 : tie.Need-same-length-2
+same-length-2 c = search needs
+
+same-length-3 : tie.Need-same-length-3
+same-length-3 c = search needs
+
+returns : tie.Need-returns
+unfolding settingBy turnOf withRun withStageRoots withProgram withProgress withCame
+returns c =
+    let done = c .before .before .before .before .before in
+    let came = done .before .before .before .before .before .before .before .before .before .before in
+    let a = came .before .before .before .before .before .before .before .before .before .before .before .args in
+    accepted-is _ (a .host) _ _ _ _ (came .copy-between .ensures ∙ ap (put _ _) (part-whole _ _ refl)) refl (done .run .ensures)
+
+pub accept-spec : {M : Type 1} → statement M
+accept-spec =
+    tie.close
+    (tie.spec
+    copy-between-requires
+    add-k
+    slice-aggregate-run
+    slice-aggregate-run-2
+    run-requires
+    same-length
+    same-length-2
+    same-length-3
+    returns)

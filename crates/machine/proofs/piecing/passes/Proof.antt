@@ -1,0 +1,14 @@
+-- `machine::piecing::passes` meets its contract: no sum is made. Assumes nothing.
+use Rattle.machine.proofs.Laws.Hosts.{rest-less}
+use borrow.Author.Needs.{needs}
+use Rattle.machine.proofs.piecing.passes.Statement.{statement}
+use Rattle.machine.proofs.piecing.passes.Tie as tie
+
+sub-result : tie.Need-sub-result
+sub-result c = search needs
+
+returns : tie.Need-returns
+returns c = rest-less _ _ _ (c .pre)
+
+pub passes-spec : {M : Type 1} → statement M
+passes-spec = tie.close (tie.spec sub-result returns)

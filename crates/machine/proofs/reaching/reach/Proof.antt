@@ -1,0 +1,30 @@
+-- `machine::reaching::reach` meets its contract: the starting pair after a failure, else the running one. Assumes nothing.
+use mathlib.Core.Path.{refl, ap, _∙_}
+use mathlib.Core.List.{[]}
+use Rattle.area.proofs.Laws.Pick.{yes, no}
+use Rattle.machine_rules.specs.Calls.{reachedAt, reachedPairBy}
+use Rattle.machine_step.proofs.Laws.Hosts.{running-any}
+use borrow.Author.Needs.{needs}
+use Rattle.machine.proofs.reaching.reach.Statement.{statement}
+use Rattle.machine.proofs.reaching.reach.Tie as tie
+
+starting-pair-requires : tie.Need-starting-pair-requires
+starting-pair-requires c κs = c .before .before .before .pre .0
+
+returns : tie.Need-returns
+unfolding reachedPairBy
+returns c = ap (reachedAt 0) (c .before .starting-pair .ensures ∙ yes _ _ _ (c .before .before .if1 .taken) refl)
+
+running-pair-requires : tie.Need-running-pair-requires
+running-pair-requires c κs = c .before .before .before .pre
+
+returns-2 : tie.Need-returns-2
+unfolding reachedPairBy
+returns-2 c =
+    let h = c .before .before .before .before .before .args .host in
+    ap (reachedAt 0) (c .before .running-pair .ensures ∙ running-any h [] [] ∙ no _ _ _ (c .before .before .if1 .left) refl)
+
+pub reach-spec : {M : Type 1} → statement M
+reach-spec =
+    tie.close
+    (tie.spec starting-pair-requires returns running-pair-requires returns-2)

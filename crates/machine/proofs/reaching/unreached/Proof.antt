@@ -1,0 +1,12 @@
+-- `machine::reaching::unreached` meets its contract. Assumes nothing.
+use mathlib.Core.Path.{refl}
+use Rattle.machine_rules.specs.Calls.{noPair}
+use Rattle.machine.proofs.reaching.unreached.Statement.{statement}
+use Rattle.machine.proofs.reaching.unreached.Tie as tie
+
+returns : tie.Need-returns
+unfolding noPair
+returns c = refl
+
+pub unreached-spec : {M : Type 1} → statement M
+unreached-spec = tie.close (tie.spec returns)

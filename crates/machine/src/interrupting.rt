@@ -1,0 +1,58 @@
+// Interrupting a program.
+ghost use mathlib.Core.Path.{_≡_};
+ghost use mathlib.Core.List.{[]};
+ghost use Rattle.machine_rules.specs.Calls as Says;
+ghost use Rattle.machine_rules.specs.Calls.{stopped};
+ghost use Rattle.machine.specs.Asks.{Stops, interruptLeaves};
+use crate::opening;
+use host::Host;
+use machine_rules::Answer;
+
+// Record 20, for the first instruction not run. Its root comes from the roots that are kept: no area is looked at.
+fn stop(host: Host, output: &mut [u8]) -> Answer
+    requires { ⌜ Stops host (now output) ⌝ }
+    ensures { λ r. ⌜ interruptLeaves r (now (output .exit)) ≡ stopped [] host (now (output .entry)) ⌝ }
+{
+    let mut program = host.program;
+    let parent = machine_step::parent(host);
+    let progress = program.progress;
+    let diskroots = host.diskroots;
+    let failed = machine_step::fail(host.sector, 20, &diskroots, parent, progress, output);
+    program.progress = failed;
+    let mut after = host;
+    after.program = program;
+    Answer {
+        number: 0,
+        tally: failed.tally,
+        host: after,
+    }
+}
+
+// Interrupts the program: 1, 2, 4. Where it has ended or failed nothing changes.
+pub fn interrupt(host: Host, disk: &[u8], output: &mut [u8]) -> Answer
+    ensures { λ r. ⌜ interruptLeaves r (now (output .exit)) ≡ Says.interrupt (now (disk .entry)) host (now (output .entry)) ⌝ }
+{
+    if !host_order::in_order(host) {
+        return opening::refused(1, host);
+    }
+    if !host_order::lent(host.sector, host.disk, disk) {
+        return opening::refused(2, host);
+    }
+    let program = host.program;
+    let terms = program.terms;
+    if host_order::wrong(program.active, terms.room, output) {
+        return opening::refused(2, host);
+    }
+    if !program.active {
+        return opening::refused(4, host);
+    }
+    if machine_step::going(program) {
+        return stop(host, output);
+    }
+    let progress = program.progress;
+    Answer {
+        number: 0,
+        tally: progress.tally,
+        host,
+    }
+}

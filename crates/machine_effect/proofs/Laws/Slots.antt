@@ -1,0 +1,55 @@
+-- Slots of the stage: where they begin and end, and what the lowest free one is. z is the sector size. Assumes nothing.
+use mathlib.Core.Path.{_≡_, refl, sym, ap, _∙_}
+use mathlib.Core.Bool.{false}
+use mathlib.Core.List.{List, [], _∷_}
+use Prim.Native.Nat.{ℕ, zero, suc, _+_, _*_, _/_, _%_, _≤_, _<_}
+use native.Mathlib.Omega.{arith}
+use lib.ListN.{length, getD}
+use lib.Dec.{eqb}
+use borrow.Author.Tests.{eqb-false}
+use Rattle.area.proofs.Laws.Slots.{slot-ends}
+use Rattle.host.specs.Lists.{some}
+use Rattle.host.specs.Empty.{none}
+use Rattle.host.specs.Places.{freeCopy}
+use Rattle.machine_rules.specs.Effect.{Ground, Staging}
+use Rattle.machine_rules.proofs.Laws.Lists.{some-first, some-tail}
+use Rattle.machine_rules.proofs.Laws.Effects.{free-slot}
+use Rattle.machine_effect.specs.Parts.{placeOf}
+use Rattle.machine_effect.specs.Asks.{Lent, Free}
+
+-- an entry that there is, whatever stands for one that is not
+pub any-default : (l : List ℕ) (p d c : ℕ) → p < length l → getD l p d ≡ getD l p c
+any-default [] p d c h = absurd (omega arith)
+any-default (x ∷ xs) zero d c h = refl
+any-default (x ∷ xs) (suc p) d c h = any-default xs p d c (omega arith)
+
+-- the code's place of a byte
+pub place-is : {slot : ℕ} (z : ℕ) (slots : List ℕ) (at : ℕ) → length slots ≡ 64 → at / z < 64 → slot ≡ getD slots (at / z) 0
+    → slot * z + at % z ≡ placeOf z slots at
+place-is z slots at l h e = ap (λ (n : ℕ). n * z + at % z) (e ∙ any-default slots (at / z) 0 none (omega arith))
+
+-- a slot that no position has
+pub not-there : (slot : ℕ) (l : List ℕ) (p : ℕ) → some (eqb slot) l ≡ false → (slot ≡ none → ⊥) → getD l p none ≡ slot → ⊥
+not-there slot [] p h ne e = ne (sym e)
+not-there slot (x ∷ xs) zero h ne e = eqb-false slot x (some-first slot x xs h) (sym e)
+not-there slot (x ∷ xs) (suc p) h ne e = not-there slot xs p (some-tail slot x xs h) ne e
+
+-- ---- the lowest free slot
+
+-- where one is free, it is: below 16, within the stage, and no position's
+pub record New (z : ℕ) (g : Staging) (slot : ℕ) : Type 0 where
+  pub small : slot < 16
+  pub room : slot * z + z ≤ length (g .bytes)
+  pub own : (p : ℕ) → getD (g .staged) p none ≡ slot → ⊥
+
+pub new-slot : (z : ℕ) (e : Ground) (g : Staging) (slot : ℕ) → Lent z e g → Free e g → slot ≡ freeCopy (e .copies) (g .staged) → New z g slot
+unfolding freeCopy
+new-slot z e g slot lent free q =
+    let f = free-slot (e .copies) (g .staged) free in
+    let below : slot < e .copies = omega (arith, q, f .below) in
+    let ends : slot * z + z ≤ e .copies * z = slot-ends z slot (e .copies) below in
+    record {
+      small = omega (arith, lent .few, below);
+      room = omega (arith, lent .long, ends);
+      own = λ p w. not-there _ (g .staged) p (f .unused) (λ x. omega (arith, x, f .below, lent .few)) (w ∙ q);
+    }

@@ -1,0 +1,73 @@
+-- `machine_effect::effect` meets its contract: each arm does what its instruction means. Assumes nothing.
+use mathlib.Core.Path.{refl}
+use borrow.Author.Needs.{needs}
+use Rattle.machine_rules.specs.Effect.{effect}
+use Rattle.machine_effect.proofs.Laws.Cases.{arm, lent-alone, sized-alone, resized-alone}
+use Rattle.machine_effect.proofs.effect.Statement.{statement}
+use Rattle.machine_effect.proofs.effect.Tie as tie
+
+write-requires : tie.Need-write-requires
+write-requires c κs =
+    let s = c .before .before .before .before .before .before in
+    let told = c .before .enum-told3 .given .1 in
+    (s .pre .0 .lent, (s .pre .0 .write told, s .pre .1 told))
+
+copy-requires : tie.Need-copy-requires
+copy-requires c κs =
+    let s = c .before .before .before .before .before .before in
+    let told = c .before .enum-told4 .given .1 in
+    (s .pre .0 .lent, (s .pre .0 .copy told, s .pre .0 .source told))
+
+swap-requires : tie.Need-swap-requires
+swap-requires c κs =
+    let s = c .before .before .before .before .before .before in
+    (s .pre .0 .lent, s .pre .0 .swap (c .before .enum-told5 .given .1))
+
+resized-requires : tie.Need-resized-requires
+resized-requires c κs =
+    let s = c .before .before .before .before .before .before in
+    (lent-alone _ _ _ (s .pre .0 .lent), sized-alone _ _ _ _ _ (s .pre .0 .truncate (c .before .enum-told6 .given .1)))
+
+returns : tie.Need-returns
+unfolding effect
+returns c = arm _ _ _ _ _ (c .enum-told .given .1) refl
+
+returns-2 : tie.Need-returns-2
+unfolding effect
+returns-2 c = arm _ _ _ _ _ (c .enum-told2 .given .1) refl
+
+returns-3 : tie.Need-returns-3
+unfolding effect
+returns-3 c = arm _ _ _ _ _ (c .before .before .before .before .enum-told3 .given .1) (c .before .before .write .ensures)
+
+returns-4 : tie.Need-returns-4
+unfolding effect
+returns-4 c = arm _ _ _ _ _ (c .before .before .before .before .enum-told4 .given .1) (c .before .before .copy .ensures)
+
+returns-5 : tie.Need-returns-5
+unfolding effect
+returns-5 c = arm _ _ _ _ _ (c .before .before .before .before .enum-told5 .given .1) (c .before .before .swap .ensures)
+
+returns-6 : tie.Need-returns-6
+unfolding effect
+returns-6 c = arm _ _ _ _ _ (c .before .before .before .before .enum-told6 .given .1) (resized-alone _ _ _ _ _ (c .before .before .resized .ensures))
+
+returns-7 : tie.Need-returns-7
+unfolding effect
+returns-7 c = arm _ _ _ _ _ (c .enum-told7 .given .1) refl
+
+pub effect-spec : {M : Type 1} → statement M
+effect-spec =
+    tie.close
+    (tie.spec
+    (λ c. search needs) (λ c. search needs) (λ c. search needs) write-requires
+    (λ c. search needs) copy-requires
+    (λ c. search needs) swap-requires
+    (λ c. search needs) resized-requires
+    (λ c. search needs) returns
+    returns-2
+    (λ c. search needs) returns-3
+    (λ c. search needs) returns-4
+    (λ c. search needs) returns-5
+    (λ c. search needs) returns-6
+    returns-7)

@@ -1,0 +1,76 @@
+-- `machine_effect::rehashing::rehash` meets its contract: each arm does what its instruction means. Assumes nothing.
+use mathlib.Core.Path.{refl}
+use borrow.Author.Needs.{needs}
+use Rattle.machine_rules.specs.Plan.{touched}
+use Rattle.machine_rules.specs.Effect.{rehashed}
+use Rattle.machine_effect.proofs.Laws.KeptRoots.{new-laid}
+use Rattle.machine_effect.proofs.Laws.Asked.{asked-write, asked-copy, asked-swap, asked-new, arm}
+use Rattle.machine_effect.proofs.rehashing.rehash.Statement.{statement}
+use Rattle.machine_effect.proofs.rehashing.rehash.Tie as tie
+
+rehash-one-requires : tie.Need-rehash-one-requires
+rehash-one-requires c κs =
+    let s = c .before .before .before .before .before in
+    (s .pre .whole, asked-write (s .pre) (c .before .enum-told3 .given .1))
+
+rehash-one-requires-2 : tie.Need-rehash-one-requires-2
+rehash-one-requires-2 c κs =
+    let s = c .before .before .before .before .before in
+    (s .pre .whole, asked-copy (s .pre) (c .before .enum-told4 .given .1))
+
+rehash-two-requires : tie.Need-rehash-two-requires
+rehash-two-requires c κs =
+    let s = c .before .before .before .before .before in
+    (s .pre .whole, asked-swap (s .pre) (c .before .enum-told5 .given .1))
+
+rehash-new-requires : tie.Need-rehash-new-requires
+rehash-new-requires c κs =
+    let s = c .before .before .before .before .before in
+    (s .pre .whole, asked-new (s .pre) (c .before .enum-told6 .given .1))
+
+returns : tie.Need-returns
+unfolding touched rehashed
+returns c = arm _ _ _ _ _ (c .enum-told .given .1) refl
+
+returns-2 : tie.Need-returns-2
+unfolding touched rehashed
+returns-2 c = arm _ _ _ _ _ (c .enum-told2 .given .1) refl
+
+returns-3 : tie.Need-returns-3
+unfolding touched
+returns-3 c = arm _ _ _ _ _ (c .before .before .before .before .enum-told3 .given .1) (c .before .before .rehash-one .ensures)
+
+returns-4 : tie.Need-returns-4
+unfolding touched
+returns-4 c = arm _ _ _ _ _ (c .before .before .before .before .enum-told4 .given .1) (c .before .before .rehash-one2 .ensures)
+
+returns-5 : tie.Need-returns-5
+unfolding touched
+returns-5 c = arm _ _ _ _ _ (c .before .before .before .before .enum-told5 .given .1) (c .before .before .rehash-two .ensures)
+
+returns-6 : tie.Need-returns-6
+unfolding touched
+returns-6 c =
+    let told = c .before .before .before .before .enum-told6 .given .1 in
+    let s = c .before .before .before .before .before .before .before .before in
+    arm _ _ _ _ _ told (new-laid _ _ _ _ _ (s .pre .new told) (c .before .before .rehash-new .ensures))
+
+returns-7 : tie.Need-returns-7
+unfolding touched rehashed
+returns-7 c = arm _ _ _ _ _ (c .enum-told7 .given .1) refl
+
+pub rehash-spec : {M : Type 1} → statement M
+rehash-spec =
+    tie.close
+    (tie.spec
+    (λ c. search needs) (λ c. search needs) (λ c. search needs) (λ c. search needs) rehash-one-requires
+    (λ c. search needs) (λ c. search needs) rehash-one-requires-2
+    (λ c. search needs) (λ c. search needs) (λ c. search needs) rehash-two-requires
+    (λ c. search needs) rehash-new-requires
+    (λ c. search needs) returns
+    returns-2
+    (λ c. search needs) returns-3
+    (λ c. search needs) returns-4
+    (λ c. search needs) returns-5
+    (λ c. search needs) returns-6
+    returns-7)

@@ -1,0 +1,17 @@
+-- `machine_effect::rehashing::rehash_two` meets its contract: the first position, then the second where it is another. Assumes nothing.
+use borrow.Author.Needs.{needs}
+use Rattle.machine_effect.proofs.Laws.KeptRoots.{two-one, two-both}
+use Rattle.machine_effect.proofs.rehashing.rehash_two.Statement.{statement}
+use Rattle.machine_effect.proofs.rehashing.rehash_two.Tie as tie
+
+returns : tie.Need-returns
+returns c = two-one _ _ _ _ _ (c .if1 .taken) (c .before .before .before .rehash-one .ensures)
+
+returns-2 : tie.Need-returns-2
+returns-2 c =
+    let test = c .before .before .before .before in
+    two-both _ _ _ _ _ (test .if1 .left) (test .before .before .before .rehash-one .ensures) (c .before .before .rehash-one2 .ensures)
+
+pub rehash-two-spec : {M : Type 1} → statement M
+rehash-two-spec =
+    tie.close (tie.spec (λ c κs. search needs) (λ c. search needs) returns (λ c κs. search needs) (λ c. search needs) returns-2)

@@ -1,0 +1,73 @@
+-- `machine_effect::spans::swap` meets its contract: once both sectors have their copies both spans read as before, and are exchanged in place.
+-- Assumes nothing.
+use native.Mathlib.Omega.{arith}
+use borrow.Author.Needs.{needs}
+use Rattle.machine_rules.specs.Effect.{Ground}
+use Rattle.machine_effect.specs.Parts.{ground}
+use Rattle.machine_effect.proofs.Laws.Spans.{lent-made, over-first, one-fits, two-fits, swapped}
+use Rattle.machine_effect.proofs.spans.swap.Statement.{statement}
+use Rattle.machine_effect.proofs.spans.swap.Tie as tie
+
+div-copied : tie.Need-div-copied
+div-copied c = search needs
+
+copied-requires : tie.Need-copied-requires
+copied-requires c κs =
+    let s = c .before .before .before in
+    (s .pre .0, s .pre .1 .second .room)
+
+div-copied-2 : tie.Need-div-copied-2
+div-copied-2 c = search needs
+
+copied-requires-2 : tie.Need-copied-requires-2
+copied-requires-2 c κs =
+    let s = c .before .before .before .before .before .before .before in
+    let first = c .before .before .before .copied .ensures in
+    let second = s .pre .1 in
+    (lent-made _ _ _ _ _ first _ (s .pre .0) (second .second) (s .good .1 .1 .1 .1 .0 .1 .0 .1), over-first _ _ _ _ _ _ _ first second .room)
+
+place-requires : tie.Need-place-requires
+place-requires c κs =
+    let s = c .before .before .before .before .before .before .before .before .before .before .before in
+    (s .pre .0 .size, s .pre .1 .first .room .lies .entry)
+
+place-requires-2 : tie.Need-place-requires-2
+place-requires-2 c κs =
+    let s = c .before .before .before .before .before .before .before .before .before .before .before .before in
+    (s .pre .0 .size, s .pre .1 .second .room .lies .entry)
+
+swap-within-requires : tie.Need-swap-within-requires
+swap-within-requires c κs =
+    let s = c .before .before .before .before .before .before .before .before .before .before .before .before .before in
+    let e : Ground = ground (s .args .copies) (s .args .slots) (s .args .disk .now) in
+    let first = c .before .before .before .before .before .before .before .before .before .copied .ensures in
+    let second = c .before .before .before .before .before .copied2 .ensures in
+    let one = one-fits _ e _ _ _ _ _ _ first second (s .pre .0) (s .pre .1) (s .good .1 .1 .1 .1 .0 .1 .0 .1) in
+    let two = two-fits _ e _ _ _ _ _ _ first second (s .pre .0) (s .pre .1) (s .good .1 .1 .1 .1 .0 .1 .0 .1) in
+    (omega (arith, one, c .before .place .ensures), omega (arith, two, c .place2 .ensures))
+
+same-length : tie.Need-same-length
+same-length c = search needs
+
+returns : tie.Need-returns
+returns c =
+    let at-second = c .before .before .before .before .before .before .before .before in
+    let at-first = at-second .before .before .before .before in
+    let s = at-first .before .before .before .before in
+    let e : Ground = ground (s .args .copies) (s .args .slots) (s .args .disk .now) in
+    swapped _ e _ _ _ _ _ _ (at-first .copied .ensures) (at-second .copied2 .ensures) (s .pre .0) (s .pre .1) (s .good .1 .1 .1 .1 .0 .1 .0 .1)
+    (c .before .before .before .before .place .ensures) (c .before .before .before .place2 .ensures) (c .before .before .swap-within .ensures)
+
+pub swap-spec : {M : Type 1} → statement M
+swap-spec =
+    tie.close
+    (tie.spec
+    div-copied
+    copied-requires
+    div-copied-2
+    copied-requires-2
+    place-requires
+    place-requires-2
+    swap-within-requires
+    same-length
+    returns)

@@ -1,0 +1,32 @@
+-- `machine_effect::spans::write` meets its contract: the sector has a copy, and the span lies within it. Assumes nothing.
+use Rattle.machine_effect.proofs.Laws.Spans.{written, written-fits}
+use native.Mathlib.Omega.{arith}
+use borrow.Author.Needs.{needs}
+use Rattle.machine_effect.proofs.spans.write.Statement.{statement}
+use Rattle.machine_effect.proofs.spans.write.Tie as tie
+
+div-copied : tie.Need-div-copied
+div-copied c = search needs
+
+copied-requires : tie.Need-copied-requires
+copied-requires c κs = search needs
+
+place-requires : tie.Need-place-requires
+place-requires c κs = search needs
+
+copy-between-requires : tie.Need-copy-between-requires
+copy-between-requires c κs =
+    let s = c .before .before .before .before .before .before .before .before .before in
+    let fits = written-fits _ _ _ _ _ (c .before .before .before .before .copied .ensures) _ (s .pre .0) (s .pre .1 .0) (s .good .1 .1 .1 .1 .0 .1 .0 .1) in
+    (s .pre .1 .1, omega (arith, fits, c .place .ensures))
+
+same-length : tie.Need-same-length
+same-length c = search needs
+
+returns : tie.Need-returns
+returns c =
+    let made = c .before .before .before .before .before .before .before .copied .ensures in
+    written _ _ _ _ _ made _ (c .before .before .before .place .ensures) (c .before .before .copy-between .ensures)
+
+pub write-spec : {M : Type 1} → statement M
+write-spec = tie.close (tie.spec div-copied copied-requires place-requires copy-between-requires same-length returns)

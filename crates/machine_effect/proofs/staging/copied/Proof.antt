@@ -1,0 +1,86 @@
+-- `machine_effect::staging::copied` meets its contract: the position has a copy, or gets the disk's sector in the lowest free slot. Assumes nothing.
+use mathlib.Core.Path.{sym, _∙_}
+use native.Mathlib.Omega.{arith}
+use borrow.Author.Needs.{needs}
+use borrow.Author.Tests.{not-true, not-false}
+use Rattle.machine_effect.specs.Asks.{bare}
+use Rattle.machine_effect.proofs.Laws.Slots.{new-slot}
+use Rattle.machine_effect.proofs.Laws.Copies.{copied-old, laid-copy}
+use Rattle.machine_effect.proofs.staging.copied.Statement.{statement}
+use Rattle.machine_effect.proofs.staging.copied.Tie as tie
+
+is-bare-requires : tie.Need-is-bare-requires
+is-bare-requires c κs = search needs
+
+returns : tie.Need-returns
+unfolding bare
+returns c = sym (copied-old _ _ _ _ (sym (c .before .is-bare .ensures) ∙ not-true _ (c .if1 .taken)))
+
+free-copy-requires : tie.Need-free-copy-requires
+free-copy-requires c κs = tt
+
+array-read-copy-between : tie.Need-array-read-copy-between
+array-read-copy-between c = search needs
+
+cast-copy-between : tie.Need-cast-copy-between
+cast-copy-between c = search needs
+
+mul-copy-between : tie.Need-mul-copy-between
+unfolding bare
+mul-copy-between c =
+    let s = c .before .before .before .before .before in
+    omega (arith, s .pre .1 .lies .there (sym (c .before .before .is-bare .ensures) ∙ not-false _ (c .before .if1 .left)))
+
+mul-copy-between-2 : tie.Need-mul-copy-between-2
+unfolding bare
+mul-copy-between-2 c =
+    let s = c .before .before .before .before .before .before in
+    let free = s .pre .1 .free (sym (c .before .before .before .is-bare .ensures) ∙ not-false _ (c .before .before .if1 .left)) in
+    let new = new-slot _ _ _ _ (s .pre .0) free (c .before .free-copy .ensures) in
+    omega (arith, new .room)
+
+copy-between-requires : tie.Need-copy-between-requires
+unfolding bare
+copy-between-requires c κs =
+    let s = c .before .before .before .before .before .before in
+    let none = sym (c .before .before .before .is-bare .ensures) ∙ not-false _ (c .before .before .if1 .left) in
+    (s .pre .1 .lies .there none, new-slot _ _ _ _ (s .pre .0) (s .pre .1 .free none) (c .before .free-copy .ensures) .room)
+
+cast-after : tie.Need-cast-after
+unfolding bare
+cast-after c =
+    let at-if1 = c .before .before .before .before .before in
+    let s = at-if1 .before .before .before .before in
+    let free = s .pre .1 .free (sym (at-if1 .before .is-bare .ensures) ∙ not-false _ (at-if1 .if1 .left)) in
+    let new = new-slot _ _ _ _ (s .pre .0) free (c .before .before .before .before .free-copy .ensures) in
+    omega (arith, new .small)
+
+array-write-after : tie.Need-array-write-after
+array-write-after c = search needs
+
+same-length : tie.Need-same-length
+same-length c = search needs
+
+returns-2 : tie.Need-returns-2
+unfolding bare
+returns-2 c =
+    let at-if1 = c .before .before .before .before .before in
+    laid-copy _ _ _ _ (sym (at-if1 .before .is-bare .ensures) ∙ not-false _ (at-if1 .if1 .left))
+    (c .before .before .before .before .free-copy .ensures) (c .before .before .copy-between .ensures)
+
+pub copied-spec : {M : Type 1} → statement M
+copied-spec =
+    tie.close
+    (tie.spec
+    is-bare-requires
+    returns
+    free-copy-requires
+    array-read-copy-between
+    cast-copy-between
+    mul-copy-between
+    mul-copy-between-2
+    copy-between-requires
+    cast-after
+    array-write-after
+    same-length
+    returns-2)

@@ -1,0 +1,19 @@
+-- `machine_inputs::Given::malformed` meets its contract. Assumes nothing.
+use mathlib.Core.Path.{ap}
+use mathlib.Core.Bool.{false}
+use Rattle.machine_rules.specs.Inputs.{told}
+use Rattle.machine_inputs.specs.Given.{malformed}
+use Rattle.machine_inputs.specs.declared.Args.{Args}
+use borrow.Author.Needs.{needs}
+use Rattle.machine_inputs.proofs.Given.malformed.Statement.{statement}
+use Rattle.machine_inputs.proofs.Given.malformed.Tie as tie
+
+none-requires : tie.Need-none-requires
+none-requires c κs = search needs
+
+returns : tie.Need-returns
+unfolding malformed
+returns c = ap (λ (a : Args). record { told = false; args = a }) (c .none .ensures)
+
+pub malformed-spec : {M : Type 1} → statement M
+malformed-spec = tie.close (tie.spec none-requires returns)

@@ -1,0 +1,267 @@
+-- What the decoders tell, and the inputs of an instruction by its operands. Assumes nothing.
+use mathlib.Core.Path.{_≡_, refl, sym, ap, _∙_}
+use mathlib.Core.Bool.{Bool, true, false}
+use mathlib.Core.List.{List, [], _∷_}
+use Prim.Native.Nat.{ℕ, zero, suc, _+_, _-_, _≤_, _<_}
+use native.Mathlib.Omega.{arith}
+use lib.ListN.{length, take, drop, getD, length-drop}
+use lib.Seq.{length-take-le, take-all}
+use borrow.Author.Tests.{not-false, ltb-false, leb-true, le-leb, eq-eqb, ne-eqb, eqb-true}
+use Rattle.area.specs.Area.{part, zeros}
+use Rattle.area.specs.Little.{valueOf}
+use Rattle.area.proofs.Laws.Pick.{yes, no, by, picks, skips, both-join, both-left, both-right, both-not-right, either-left, either-right}
+use Rattle.area.proofs.Laws.Parts.{length-part, part-part}
+use Rattle.sia.specs.Names.{opOf}
+use Rattle.sia.specs.Number.{Decoded, decoded, number}
+use Rattle.sia.specs.Empty.{noOperand}
+use Rattle.host.specs.Lists.{some, each}
+use Rattle.machine_rules.specs.Inputs.{known, operandsOf, illFormed, pastEnd, inputsOf, nth, isTold, told, isNumber, isKey, isData, wellFormed}
+use Rattle.machine_rules.specs.Inputs.{readArgs, spanArgs, argsOf}
+use Rattle.sia.specs.declared.Operand.{Operand}
+use Rattle.sia.specs.declared.Instruction.{Instruction}
+use Rattle.sia.specs.declared.Op.{Op}
+use Rattle.sia.specs.declared.Op.the-variants.{Read, ReadSector, Write, Copy, Swap, Truncate, Unknown}
+use Rattle.machine_inputs.specs.Ends.{endsPast}
+use Rattle.machine_inputs.specs.Given.{inputAt, one, two, three, keyOf, dataOf, placed, malformed, given, dataFrom, fromOf, bytesGiven, argsGiven}
+use Rattle.machine_inputs.specs.declared.Args.{Args}
+use Rattle.machine_inputs.specs.declared.Given.{Given}
+use Rattle.machine_inputs.specs.declared.Key.{Key}
+
+-- ---- keys
+
+pub key-told : (b : List ℕ) (k : Key) → k ≡ keyOf b → k .told ≡ isKey b
+unfolding keyOf
+key-told b k e = ap (λ (x : Key). x .told) e ∙ by (isKey b)
+    (λ u. ap (λ (x : Key). x .told) (picks _ _ _ u) ∙ sym u)
+    (λ u. ap (λ (x : Key). x .told) (skips _ _ _ u) ∙ sym u)
+
+pub key-bytes : (b : List ℕ) (k : Key) → k ≡ keyOf b → isKey b ≡ true → k .bytes ≡ b
+unfolding keyOf
+key-bytes b k e u = ap (λ (x : Key). x .bytes) (e ∙ picks _ _ _ u)
+
+-- ---- numbers
+
+module _ (b : List ℕ) where
+  pub number-refused : number b ≡ decoded 23 0 → isNumber b ≡ false
+  unfolding isNumber isTold
+  number-refused e = ap isTold e
+
+  pub number-told : (n : ℕ) → number b ≡ decoded 0 n → isNumber b ≡ true
+  unfolding isNumber isTold
+  number-told n e = ap isTold e
+
+  pub number-value : (n : ℕ) → number b ≡ decoded 0 n → n ≡ told (number b)
+  unfolding told
+  number-value n e = sym (ap told e)
+
+  -- ---- data
+
+  pub data-refused : dataOf b ≡ decoded 23 0 → isData b ≡ false
+  unfolding dataOf
+  data-refused e = by (isData b) (λ u. absurd (omega (arith, ap (λ (d : Decoded). d .number) (sym (picks (isData b) _ _ u) ∙ e)))) (λ u. u)
+
+  pub data-told : (n : ℕ) → dataOf b ≡ decoded 0 n → isData b ≡ true
+  unfolding dataOf
+  data-told n e = by (isData b) (λ u. u) (λ u. absurd (omega (arith, ap (λ (d : Decoded). d .number) (sym (skips (isData b) _ _ u) ∙ e))))
+
+  pub data-value : (n : ℕ) → dataOf b ≡ decoded 0 n → n ≡ length b - 8
+  unfolding dataOf
+  data-value n e = ap (λ (d : Decoded). d .value) (sym e ∙ picks (isData b) _ _ (data-told n e))
+
+  pub data-long : isData b ≡ true → 8 ≤ length b
+  unfolding isData
+  data-long e = leb-true _ _ (both-left _ _ e)
+
+  module _ (v : ℕ) (long : 8 ≤ length b) (loaded : v ≡ valueOf (part b 0 8)) where
+    count-told : told (number (take 8 b)) ≡ v
+    unfolding told number part
+    count-told = ap told (picks _ _ _ (eq-eqb _ _ (length-take-le 8 b long))) ∙ sym loaded
+
+    -- the count is not the rest's length
+    pub data-other : (v ≡ length b - 8 → ⊥) → decoded 23 0 ≡ dataOf b
+    unfolding dataOf isData
+    data-other n = no _ _ _ (both-not-right _ _ (ne-eqb _ _ (λ q. n (sym count-told ∙ q)))) refl
+
+    pub data-right : v ≡ length b - 8 → decoded 0 (length b - 8) ≡ dataOf b
+    unfolding dataOf isData
+    data-right q = yes _ _ _ (both-join _ _ (le-leb _ _ long) (eq-eqb _ _ (count-told ∙ q))) refl
+
+-- ---- all inputs
+
+pub refused : (op : Op) (l : List (List ℕ)) (from : ℕ) → wellFormed op l ≡ false → malformed ≡ given op l from
+unfolding given
+refused op l from e = no _ _ _ e refl
+
+pub accepted : (op : Op) (l : List (List ℕ)) (from : ℕ) (a : Args) → wellFormed op l ≡ true → a ≡ placed (argsOf op l) from
+    → record { told = true; args = a } ≡ given op l from
+unfolding given
+accepted op l from a e q = yes _ _ _ e (ap (λ (x : Args). record { told = true; args = x }) q)
+
+module _ (area : List ℕ) (os : List Operand) (m n : ℕ) where
+  pub read-accepted : (k : Key) → k ≡ keyOf (inputAt area os 0) → k .told ≡ true
+      → number (inputAt area os 1) ≡ decoded 0 m → number (inputAt area os 2) ≡ decoded 0 n
+      → record { told = true; args = record { key = k .bytes; first = m; second = 0; len = n; from = 0 } } ≡ given Read (three area os) 0
+  unfolding wellFormed three argsOf readArgs placed
+  read-accepted k e t p q =
+      let right : isKey (inputAt area os 0) ≡ true = sym (key-told _ k e) ∙ t in
+      let one = key-bytes _ k e right in
+      let two = number-value _ m p in
+      let last = number-value _ n q in
+      accepted Read (three area os) 0 _ (both-join _ _ right (both-join _ _ (number-told _ m p) (number-told _ n q)))
+      (λ i. record { key = one i; first = two i; second = 0; len = last i; from = 0 })
+
+  pub span-accepted : (k : ℕ) → number (inputAt area os 0) ≡ decoded 0 k → number (inputAt area os 1) ≡ decoded 0 m → number (inputAt area os 2) ≡ decoded 0 n
+      → record { told = true; args = record { key = zeros 32; first = k; second = m; len = n; from = 0 } } ≡ given Copy (three area os) 0
+  unfolding wellFormed three argsOf spanArgs placed
+  span-accepted k e p q =
+      let one = number-value _ k e in
+      let two = number-value _ m p in
+      let last = number-value _ n q in
+      accepted Copy (three area os) 0 _ (both-join _ _ (number-told _ k e) (both-join _ _ (number-told _ m p) (number-told _ n q)))
+      (λ i. record { key = zeros 32; first = one i; second = two i; len = last i; from = 0 })
+
+  pub write-accepted : number (inputAt area os 0) ≡ decoded 0 m → dataOf (inputAt area os 1) ≡ decoded 0 n
+      → record { told = true; args = record { key = zeros 32; first = m; second = 0; len = n; from = dataFrom os } } ≡ given Write (two area os) (dataFrom os)
+  unfolding wellFormed two argsOf placed
+  write-accepted p q =
+      let one = number-value _ m p in
+      let last = data-value _ n q in
+      accepted Write (two area os) (dataFrom os) _ (both-join _ _ (number-told _ m p) (data-told _ n q))
+      (λ i. record { key = zeros 32; first = one i; second = 0; len = last i; from = dataFrom os })
+
+pub size-accepted : (area : List ℕ) (os : List Operand) (m : ℕ) → number (inputAt area os 0) ≡ decoded 0 m
+    → record { told = true; args = record { key = zeros 32; first = m; second = 0; len = 0; from = 0 } } ≡ given Truncate (one area os) 0
+unfolding wellFormed one argsOf placed
+size-accepted area os m p =
+    let new = number-value _ m p in
+    accepted Truncate (one area os) 0 _ (number-told _ m p) (λ i. record { key = zeros 32; first = new i; second = 0; len = 0; from = 0 })
+
+-- ---- operands
+
+some-at : {A : Type 0} (p : A → Bool) (l : List A) (n k : ℕ) (d : A) → some p (take n l) ≡ false → k < n → k < length l → p (getD l k d) ≡ false
+unfolding some
+some-at p l zero k d e h g = absurd (omega arith)
+some-at p [] (suc n) k d e h g = absurd (omega arith)
+some-at p (x ∷ xs) (suc n) zero d e h g = either-left _ _ e
+some-at p (x ∷ xs) (suc n) (suc k) d e h g = some-at p xs n k d (either-right _ _ e) (omega arith) (omega arith)
+
+-- operand k of n ends within the input
+pub ends-within : (declared : ℕ) (l : List Operand) (n k : ℕ) → length l ≡ 4 → some (endsPast declared) (take n l) ≡ false → k < n → k < 4
+    → getD l k noOperand .offset + getD l k noOperand .len ≤ declared
+ends-within declared l n k long e h g = ltb-false _ _ (some-at (endsPast declared) l n k noOperand e h (omega arith))
+
+-- the operand count of a well-formed instruction
+pub count-right : (i : Instruction) (op : Op) → op ≡ opOf (i .name) → illFormed i ≡ false → i .count ≡ operandsOf op
+unfolding illFormed
+count-right i op q e = eqb-true _ _ (not-false _ (either-right _ _ e)) ∙ ap operandsOf (sym q)
+
+pub name-known : (i : Instruction) (op : Op) → op ≡ opOf (i .name) → illFormed i ≡ false → known op ≡ true
+unfolding illFormed
+name-known i op q e = ap known q ∙ not-false _ (either-left _ _ e)
+
+pub within-count : (declared : ℕ) (i : Instruction) (n : ℕ) → i .count ≡ n → pastEnd declared i ≡ false
+    → some (endsPast declared) (take n (i .operands)) ≡ false
+unfolding pastEnd
+within-count declared i n q e = ap (λ (k : ℕ). some (endsPast declared) (take k (i .operands))) (sym q) ∙ e
+
+module _ (area : List ℕ) where
+  abbrev input : Operand → List ℕ
+  input o = part area (o .offset) (o .len)
+
+  first-one : (os : List Operand) → length os ≡ 4 → each input (take 1 os) ≡ one area os
+  unfolding each one
+  first-one [] e = absurd (omega arith)
+  first-one (a ∷ os) e = refl
+
+  first-two : (os : List Operand) → length os ≡ 4 → each input (take 2 os) ≡ two area os
+  unfolding each two
+  first-two [] e = absurd (omega arith)
+  first-two (a ∷ []) e = absurd (omega arith)
+  first-two (a ∷ b ∷ os) e = refl
+
+  first-three : (os : List Operand) → length os ≡ 4 → each input (take 3 os) ≡ three area os
+  unfolding each three
+  first-three [] e = absurd (omega arith)
+  first-three (a ∷ []) e = absurd (omega arith)
+  first-three (a ∷ b ∷ []) e = absurd (omega arith)
+  first-three (a ∷ b ∷ d ∷ os) e = refl
+
+  module _ (i : Instruction) (long : length (i .operands) ≡ 4) where
+    pub inputs-one : i .count ≡ 1 → one area (i .operands) ≡ inputsOf i area
+    unfolding inputsOf
+    inputs-one e = sym (ap (λ (n : ℕ). each input (take n (i .operands))) e ∙ first-one (i .operands) long)
+
+    pub inputs-two : i .count ≡ 2 → two area (i .operands) ≡ inputsOf i area
+    unfolding inputsOf
+    inputs-two e = sym (ap (λ (n : ℕ). each input (take n (i .operands))) e ∙ first-two (i .operands) long)
+
+    pub inputs-three : i .count ≡ 3 → three area (i .operands) ≡ inputsOf i area
+    unfolding inputsOf
+    inputs-three e = sym (ap (λ (n : ℕ). each input (take n (i .operands))) e ∙ first-three (i .operands) long)
+
+-- Read and ReadSector, and Copy and Swap, have the same inputs
+pub reads-alike : (l : List (List ℕ)) → given Read l 0 ≡ given ReadSector l 0
+unfolding given wellFormed argsOf
+reads-alike l = refl
+
+pub swaps-alike : (l : List (List ℕ)) → given Copy l 0 ≡ given Swap l 0
+unfolding given wellFormed argsOf
+swaps-alike l = refl
+
+-- ---- what the decoder tells is what the definitions say of the inputs
+
+-- the bytes behind the count
+data-part : (area : List ℕ) (at n : ℕ) → at + n ≤ length area → 8 ≤ length (part area at n)
+    → part area (at + 8) (length (part area at n) - 8) ≡ drop 8 (part area at n)
+unfolding part
+data-part area at n h g =
+    let long = length-part area at n h in
+    let rest : length (drop 8 (part area at n)) ≡ n - 8 = length-drop 8 (part area at n) ∙ ap (λ (k : ℕ). k - 8) long in
+    ap (λ (k : ℕ). part area (at + 8) (k - 8)) long
+    ∙ sym (part-part area at n 8 (n - 8) (omega arith)) ∙ whole (drop 8 (part area at n)) (n - 8) (sym rest) where
+      whole : (l : List ℕ) (k : ℕ) → k ≡ length l → take k l ≡ l
+      whole l k e = take-all k l (omega arith)
+
+data-given : (area : List ℕ) (i : Instruction) → length (i .operands) ≡ 4 → i .count ≡ operandsOf Write → pastEnd (length area) i ≡ false
+    → wellFormed Write (inputsOf i area) ≡ true
+    → part area (dataFrom (i .operands)) (length (nth (inputsOf i area) 1) - 8) ≡ drop 8 (nth (inputsOf i area) 1)
+unfolding operandsOf wellFormed two
+data-given area i long right g w =
+    let o = getD (i .operands) 1 noOperand in
+    let l : nth (inputsOf i area) 1 ≡ inputAt area (i .operands) 1 = ap (λ (x : List (List ℕ)). nth x 1) (sym (inputs-two area i long right)) in
+    let within : o .offset + o .len ≤ length area = ends-within (length area) (i .operands) 2 1 long (within-count (length area) i 2 right g) (omega arith)
+    (omega arith) in
+    let eight : 8 ≤ length (inputAt area (i .operands) 1) = rw l at (data-long (nth (inputsOf i area) 1) (both-right _ _ w)) in
+    ap (λ (b : List ℕ). part area (o .offset + 8) (length b - 8)) l ∙ data-part area (o .offset) (o .len) within eight ∙ ap (drop 8) (sym l)
+
+pub given-args : (op : Op) (i : Instruction) (area : List ℕ) → op ≡ opOf (i .name) → illFormed i ≡ false → pastEnd (length area) i ≡ false
+    → length (i .operands) ≡ 4 → wellFormed op (inputsOf i area) ≡ true
+    → argsGiven op area (placed (argsOf op (inputsOf i area)) (fromOf op i)) ≡ argsOf op (inputsOf i area)
+unfolding argsGiven bytesGiven placed argsOf readArgs spanArgs fromOf
+given-args Read i area e f g long w = refl
+given-args ReadSector i area e f g long w = refl
+given-args Write i area e f g long w =
+    let bytes = data-given area i long (count-right i Write e f) g w in
+    λ k. record {
+      key = zeros 32;
+      first = told (number (nth (inputsOf i area) 0));
+      second = 0;
+      len = length (nth (inputsOf i area) 1) - 8;
+      bytes = bytes k;
+    }
+given-args Copy i area e f g long w = refl
+given-args Swap i area e f g long w = refl
+given-args Truncate i area e f g long w = refl
+given-args Unknown i area e f g long w = refl
+
+-- ---- what the decoder told
+
+pub told-is : (op : Op) (l : List (List ℕ)) (from : ℕ) (g : Given) → g ≡ given op l from → g .told ≡ wellFormed op l
+unfolding given malformed
+told-is op l from g e = ap (λ (x : Given). x .told) e ∙ by (wellFormed op l)
+    (λ u. ap (λ (x : Given). x .told) (picks _ _ _ u) ∙ sym u)
+    (λ u. ap (λ (x : Given). x .told) (skips _ _ _ u) ∙ sym u)
+
+pub args-are : (op : Op) (l : List (List ℕ)) (from : ℕ) (g : Given) → g ≡ given op l from → wellFormed op l ≡ true → g .args ≡ placed (argsOf op l) from
+unfolding given
+args-are op l from g e u = ap (λ (x : Given). x .args) (e ∙ picks _ _ _ u)

@@ -1,0 +1,35 @@
+-- `machine_inputs::decoding::data_of` meets its contract: fewer than 8 bytes, another count, or the length of the rest. Assumes nothing.
+use mathlib.Core.Path.{refl}
+use borrow.Author.Tests.{lt-leb}
+use Rattle.area.proofs.Laws.Pick.{no, both-not-left}
+use Rattle.machine_rules.specs.Inputs.{isData}
+use Rattle.machine_inputs.specs.Given.{dataOf}
+use Rattle.machine_inputs.proofs.Laws.Given.{data-other, data-right}
+use borrow.Author.Needs.{needs}
+use Rattle.machine_inputs.proofs.decoding.data_of.Statement.{statement}
+use Rattle.machine_inputs.proofs.decoding.data_of.Tie as tie
+
+returns : tie.Need-returns
+unfolding dataOf isData
+returns c = no _ _ _ (both-not-left _ _ (lt-leb _ _ (c .if1 .taken))) refl
+
+sub-rest : tie.Need-sub-rest
+sub-rest c = search needs
+
+load-requires : tie.Need-load-requires
+load-requires c κs = search needs
+
+returns-2 : tie.Need-returns-2
+returns-2 c =
+    let at-if1 = c .before .before in
+    let s = at-if1 .before .before in
+    data-other (s .args .part .now) _ (at-if1 .if1 .left) (c .before .load .ensures) (c .if2 .taken)
+
+returns-3 : tie.Need-returns-3
+returns-3 c =
+    let at-if1 = c .before .before in
+    let s = at-if1 .before .before in
+    data-right (s .args .part .now) _ (at-if1 .if1 .left) (c .before .load .ensures) (c .if2 .left)
+
+pub data-of-spec : {M : Type 1} → statement M
+data-of-spec = tie.close (tie.spec returns sub-rest load-requires returns-2 returns-3)

@@ -1,0 +1,161 @@
+-- `machine_inputs::decoding::decoded` meets its contract, arm by arm. Assumes nothing.
+use mathlib.Core.Path.{sym, ap, _∙_}
+use mathlib.Core.List.{List}
+use Prim.Native.Nat.{ℕ}
+use Rattle.area.proofs.Laws.Pick.{never}
+use Rattle.machine_rules.specs.Inputs.{known, operandsOf, inputsOf}
+use Rattle.machine_inputs.specs.Given.{given, fromOf, dataFrom}
+use Rattle.machine_inputs.proofs.Laws.Given.{count-right, reads-alike, swaps-alike, name-known, within-count, inputs-one, inputs-two, inputs-three}
+use Rattle.sia.specs.declared.Op.{Op}
+use Rattle.sia.specs.declared.Op.the-variants.{Read, ReadSector, Write, Copy, Swap, Truncate}
+use Rattle.sia.proofs.Laws.Known.{known-instruction}
+use borrow.Author.Needs.{needs}
+use Rattle.machine_inputs.proofs.decoding.decoded.Statement.{statement}
+use Rattle.machine_inputs.proofs.decoding.decoded.Tie as tie
+
+enum-told : tie.Need-enum-told
+enum-told c = search needs
+
+read-args-requires : tie.Need-read-args-requires
+unfolding operandsOf
+read-args-requires c κs =
+    let s = c .before .before .before .before in
+    within-count _ (s .args .i) 3 (count-right (s .args .i) _ (s .pre .0) (s .pre .1 .0) ∙ ap operandsOf (c .enum-told .given .1)) (s .pre .1 .1)
+
+enum-told-2 : tie.Need-enum-told-2
+enum-told-2 c = search needs
+
+read-args-requires-2 : tie.Need-read-args-requires-2
+unfolding operandsOf
+read-args-requires-2 c κs =
+    let s = c .before .before .before .before in
+    within-count _ (s .args .i) 3 (count-right (s .args .i) _ (s .pre .0) (s .pre .1 .0) ∙ ap operandsOf (c .enum-told2 .given .1)) (s .pre .1 .1)
+
+enum-told-3 : tie.Need-enum-told-3
+enum-told-3 c = search needs
+
+write-args-requires : tie.Need-write-args-requires
+unfolding operandsOf
+write-args-requires c κs =
+    let s = c .before .before .before .before in
+    within-count _ (s .args .i) 2 (count-right (s .args .i) _ (s .pre .0) (s .pre .1 .0) ∙ ap operandsOf (c .enum-told3 .given .1)) (s .pre .1 .1)
+
+enum-told-4 : tie.Need-enum-told-4
+enum-told-4 c = search needs
+
+span-args-requires : tie.Need-span-args-requires
+unfolding operandsOf
+span-args-requires c κs =
+    let s = c .before .before .before .before in
+    within-count _ (s .args .i) 3 (count-right (s .args .i) _ (s .pre .0) (s .pre .1 .0) ∙ ap operandsOf (c .enum-told4 .given .1)) (s .pre .1 .1)
+
+enum-told-5 : tie.Need-enum-told-5
+enum-told-5 c = search needs
+
+span-args-requires-2 : tie.Need-span-args-requires-2
+unfolding operandsOf
+span-args-requires-2 c κs =
+    let s = c .before .before .before .before in
+    within-count _ (s .args .i) 3 (count-right (s .args .i) _ (s .pre .0) (s .pre .1 .0) ∙ ap operandsOf (c .enum-told5 .given .1)) (s .pre .1 .1)
+
+enum-told-6 : tie.Need-enum-told-6
+enum-told-6 c = search needs
+
+size-args-requires : tie.Need-size-args-requires
+unfolding operandsOf
+size-args-requires c κs =
+    let s = c .before .before .before .before in
+    within-count _ (s .args .i) 1 (count-right (s .args .i) _ (s .pre .0) (s .pre .1 .0) ∙ ap operandsOf (c .enum-told6 .given .1)) (s .pre .1 .1)
+
+enum-told-7 : tie.Need-enum-told-7
+enum-told-7 c = search needs
+
+malformed-requires : tie.Need-malformed-requires
+malformed-requires c κs = search needs
+
+returns : tie.Need-returns
+unfolding operandsOf fromOf
+returns c =
+    let s = c .before .before .before .before .before in
+    let long = known-instruction (s .args .i) _ (s .good .1 .0) .1 in
+    let right = count-right (s .args .i) _ (s .pre .0) (s .pre .1 .0) ∙ ap operandsOf (c .before .enum-told .given .1) in
+    c .read-args .ensures ∙ ap (λ (l : List (List ℕ)). given Read l 0) (inputs-three (s .args .input .now) (s .args .i) long right)
+    ∙ ap (λ (o : Op). given o (inputsOf (s .args .i) (s .args .input .now)) (fromOf o (s .args .i))) (sym (c .before .enum-told .given .1))
+
+returns-2 : tie.Need-returns-2
+unfolding operandsOf fromOf
+returns-2 c =
+    let s = c .before .before .before .before .before in
+    let long = known-instruction (s .args .i) _ (s .good .1 .0) .1 in
+    let right = count-right (s .args .i) _ (s .pre .0) (s .pre .1 .0) ∙ ap operandsOf (c .before .enum-told2 .given .1) in
+    c .read-args2 .ensures ∙ reads-alike _ ∙ ap (λ (l : List (List ℕ)). given ReadSector l 0) (inputs-three (s .args .input .now) (s .args .i) long right)
+    ∙ ap (λ (o : Op). given o (inputsOf (s .args .i) (s .args .input .now)) (fromOf o (s .args .i))) (sym (c .before .enum-told2 .given .1))
+
+returns-3 : tie.Need-returns-3
+unfolding operandsOf fromOf
+returns-3 c =
+    let s = c .before .before .before .before .before in
+    let long = known-instruction (s .args .i) _ (s .good .1 .0) .1 in
+    let right = count-right (s .args .i) _ (s .pre .0) (s .pre .1 .0) ∙ ap operandsOf (c .before .enum-told3 .given .1) in
+    c .write-args .ensures ∙ ap (λ (l : List (List ℕ)). given Write l (dataFrom (s .args .i .operands)))
+    (inputs-two (s .args .input .now) (s .args .i) long right)
+    ∙ ap (λ (o : Op). given o (inputsOf (s .args .i) (s .args .input .now)) (fromOf o (s .args .i))) (sym (c .before .enum-told3 .given .1))
+
+returns-4 : tie.Need-returns-4
+unfolding operandsOf fromOf
+returns-4 c =
+    let s = c .before .before .before .before .before in
+    let long = known-instruction (s .args .i) _ (s .good .1 .0) .1 in
+    let right = count-right (s .args .i) _ (s .pre .0) (s .pre .1 .0) ∙ ap operandsOf (c .before .enum-told4 .given .1) in
+    c .span-args .ensures ∙ ap (λ (l : List (List ℕ)). given Copy l 0) (inputs-three (s .args .input .now) (s .args .i) long right)
+    ∙ ap (λ (o : Op). given o (inputsOf (s .args .i) (s .args .input .now)) (fromOf o (s .args .i))) (sym (c .before .enum-told4 .given .1))
+
+returns-5 : tie.Need-returns-5
+unfolding operandsOf fromOf
+returns-5 c =
+    let s = c .before .before .before .before .before in
+    let long = known-instruction (s .args .i) _ (s .good .1 .0) .1 in
+    let right = count-right (s .args .i) _ (s .pre .0) (s .pre .1 .0) ∙ ap operandsOf (c .before .enum-told5 .given .1) in
+    c .span-args2 .ensures ∙ swaps-alike _ ∙ ap (λ (l : List (List ℕ)). given Swap l 0) (inputs-three (s .args .input .now) (s .args .i) long right)
+    ∙ ap (λ (o : Op). given o (inputsOf (s .args .i) (s .args .input .now)) (fromOf o (s .args .i))) (sym (c .before .enum-told5 .given .1))
+
+returns-6 : tie.Need-returns-6
+unfolding operandsOf fromOf
+returns-6 c =
+    let s = c .before .before .before .before .before in
+    let long = known-instruction (s .args .i) _ (s .good .1 .0) .1 in
+    let right = count-right (s .args .i) _ (s .pre .0) (s .pre .1 .0) ∙ ap operandsOf (c .before .enum-told6 .given .1) in
+    c .size-args .ensures ∙ ap (λ (l : List (List ℕ)). given Truncate l 0) (inputs-one (s .args .input .now) (s .args .i) long right)
+    ∙ ap (λ (o : Op). given o (inputsOf (s .args .i) (s .args .input .now)) (fromOf o (s .args .i))) (sym (c .before .enum-told6 .given .1))
+
+returns-7 : tie.Need-returns-7
+unfolding known
+returns-7 c =
+    let s = c .before .before .before .before .before in
+    never (sym (name-known (s .args .i) _ (s .pre .0) (s .pre .1 .0)) ∙ ap known (c .before .enum-told7 .given .1))
+
+pub decoded-spec : {M : Type 1} → statement M
+decoded-spec =
+    tie.close
+    (tie.spec
+    enum-told
+    read-args-requires
+    enum-told-2
+    read-args-requires-2
+    enum-told-3
+    write-args-requires
+    enum-told-4
+    span-args-requires
+    enum-told-5
+    span-args-requires-2
+    enum-told-6
+    size-args-requires
+    enum-told-7
+    malformed-requires
+    returns
+    returns-2
+    returns-3
+    returns-4
+    returns-5
+    returns-6
+    returns-7)

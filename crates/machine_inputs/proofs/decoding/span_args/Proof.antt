@@ -1,0 +1,126 @@
+-- `machine_inputs::decoding::span_args` meets its contract: the three inputs in turn. Assumes nothing.
+use mathlib.Core.Path.{sym, ap, _∙_}
+use native.Mathlib.Omega.{arith}
+use Rattle.area.proofs.Laws.Pick.{both-not-left, both-not-right}
+use Rattle.sia.specs.Number.{numberGiven}
+use Rattle.machine_rules.specs.Inputs.{wellFormed}
+use Rattle.machine_inputs.specs.Given.{inputAt, three}
+use Rattle.machine_inputs.proofs.Laws.Given.{number-refused, span-accepted, refused, ends-within}
+use Rattle.sia.specs.declared.Op.the-variants.{Copy}
+use borrow.Author.Needs.{needs}
+use Rattle.machine_inputs.proofs.decoding.span_args.Statement.{statement}
+use Rattle.machine_inputs.proofs.decoding.span_args.Tie as tie
+
+array-copy-out-one : tie.Need-array-copy-out-one
+array-copy-out-one c = search needs
+
+array-copy-out-two : tie.Need-array-copy-out-two
+array-copy-out-two c = search needs
+
+array-copy-out-three : tie.Need-array-copy-out-three
+array-copy-out-three c = search needs
+
+number-at-requires : tie.Need-number-at-requires
+number-at-requires c κs =
+    let s = c .before .before .before .before in
+    ends-within _ (s .args .t2) 3 0 (s .good .1 .0 .1 .0 .1) (s .pre) (omega arith) (omega arith)
+
+enum-known-first : tie.Need-enum-known-first
+enum-known-first c = search needs
+
+enum-told : tie.Need-enum-told
+enum-told c = search needs
+
+malformed-requires : tie.Need-malformed-requires
+malformed-requires c κs = search needs
+
+returns : tie.Need-returns
+unfolding wellFormed three
+returns c =
+    let at-number-at = c .before .before .before in
+    let s = at-number-at .before .before .before .before .before in
+    c .malformed .ensures ∙ refused Copy (three (s .args .input .now) (s .args .t2)) 0
+    (both-not-left _ _ (number-refused (inputAt (s .args .input .now) (s .args .t2) 0)
+    (sym (at-number-at .number-at .ensures) ∙ ap numberGiven (c .before .enum-told .given .1))))
+
+number-at-requires-2 : tie.Need-number-at-requires-2
+number-at-requires-2 c κs =
+    let s = c .before .before .before .before .before .before .before .before in
+    ends-within _ (s .args .t2) 3 1 (s .good .1 .0 .1 .0 .1) (s .pre) (omega arith) (omega arith)
+
+enum-known-second : tie.Need-enum-known-second
+enum-known-second c = search needs
+
+enum-told-2 : tie.Need-enum-told-2
+enum-told-2 c = search needs
+
+malformed-requires-2 : tie.Need-malformed-requires-2
+malformed-requires-2 c κs = search needs
+
+returns-2 : tie.Need-returns-2
+unfolding wellFormed three
+returns-2 c =
+    let at-number-at2 = c .before .before .before in
+    let s = at-number-at2 .before .before .before .before .before .before .before .before .before in
+    c .malformed2 .ensures ∙ refused Copy (three (s .args .input .now) (s .args .t2)) 0
+    (both-not-right _ _ (both-not-left _ _ (number-refused (inputAt (s .args .input .now) (s .args .t2) 1)
+    (sym (at-number-at2 .number-at2 .ensures) ∙ ap numberGiven (c .before .enum-told2 .given .1)))))
+
+number-at-requires-3 : tie.Need-number-at-requires-3
+number-at-requires-3 c κs =
+    let s = c .before .before .before .before .before .before .before .before .before .before .before .before in
+    ends-within _ (s .args .t2) 3 2 (s .good .1 .0 .1 .0 .1) (s .pre) (omega arith) (omega arith)
+
+enum-known-len : tie.Need-enum-known-len
+enum-known-len c = search needs
+
+enum-told-3 : tie.Need-enum-told-3
+enum-told-3 c = search needs
+
+malformed-requires-3 : tie.Need-malformed-requires-3
+malformed-requires-3 c κs = search needs
+
+returns-3 : tie.Need-returns-3
+unfolding wellFormed three
+returns-3 c =
+    let at-number-at3 = c .before .before .before in
+    let s = at-number-at3 .before .before .before .before .before .before .before .before .before .before .before .before .before in
+    c .malformed3 .ensures ∙ refused Copy (three (s .args .input .now) (s .args .t2)) 0
+    (both-not-right _ _ (both-not-right _ _ (number-refused (inputAt (s .args .input .now) (s .args .t2) 2)
+    (sym (at-number-at3 .number-at3 .ensures) ∙ ap numberGiven (c .before .enum-told3 .given .1)))))
+
+returns-4 : tie.Need-returns-4
+returns-4 c =
+    let at-number-at3 = c .before .before .before in
+    let at-second = at-number-at3 .before .before in
+    let at-number-at2 = at-second .before .before in
+    let at-first = at-number-at2 .before .before in
+    let at-number-at = at-first .before .before in
+    let s = at-number-at .before .before .before .before .before in
+    span-accepted (s .args .input .now) (s .args .t2) _ _ _ (sym (at-number-at .number-at .ensures) ∙ ap numberGiven (at-first .first .given .1))
+    (sym (at-number-at2 .number-at2 .ensures) ∙ ap numberGiven (at-second .second .given .1))
+    (sym (at-number-at3 .number-at3 .ensures) ∙ ap numberGiven (c .before .len .given .1))
+
+pub span-args-spec : {M : Type 1} → statement M
+span-args-spec =
+    tie.close
+    (tie.spec
+    array-copy-out-one
+    array-copy-out-two
+    array-copy-out-three
+    number-at-requires
+    enum-known-first
+    enum-told
+    malformed-requires
+    returns
+    number-at-requires-2
+    enum-known-second
+    enum-told-2
+    malformed-requires-2
+    returns-2
+    number-at-requires-3
+    enum-known-len
+    enum-told-3
+    malformed-requires-3
+    returns-3
+    returns-4)

@@ -1,0 +1,113 @@
+-- `machine_inputs::decoding::write_args` meets its contract: the two inputs in turn. Assumes nothing.
+use mathlib.Core.Path.{sym, ap, _∙_}
+use native.Mathlib.Omega.{arith}
+use lib.ListN.{getD}
+use Rattle.area.proofs.Laws.Pick.{both-not-left, both-not-right}
+use Rattle.area.proofs.Laws.Parts.{length-part}
+use Rattle.sia.specs.Empty.{noOperand}
+use Rattle.sia.specs.Number.{numberGiven}
+use Rattle.machine_rules.specs.Inputs.{wellFormed}
+use Rattle.machine_inputs.specs.Given.{inputAt, two}
+use Rattle.machine_inputs.proofs.Laws.Given.{number-refused, data-refused, data-told, data-long, write-accepted, refused, ends-within}
+use Rattle.sia.specs.declared.Op.the-variants.{Write}
+use borrow.Author.Needs.{needs}
+use Rattle.machine_inputs.proofs.decoding.write_args.Statement.{statement}
+use Rattle.machine_inputs.proofs.decoding.write_args.Tie as tie
+
+array-copy-out-one : tie.Need-array-copy-out-one
+array-copy-out-one c = search needs
+
+array-copy-out-two : tie.Need-array-copy-out-two
+array-copy-out-two c = search needs
+
+number-at-requires : tie.Need-number-at-requires
+number-at-requires c κs =
+    let s = c .before .before .before in
+    ends-within _ (s .args .t2) 2 0 (s .good .1 .0 .1 .0 .1) (s .pre) (omega arith) (omega arith)
+
+enum-known-first : tie.Need-enum-known-first
+enum-known-first c = search needs
+
+enum-told : tie.Need-enum-told
+enum-told c = search needs
+
+malformed-requires : tie.Need-malformed-requires
+malformed-requires c κs = search needs
+
+returns : tie.Need-returns
+unfolding wellFormed two
+returns c =
+    let at-number-at = c .before .before .before in
+    let s = at-number-at .before .before .before .before in
+    c .malformed .ensures ∙ refused Write (two (s .args .input .now) (s .args .t2)) _
+    (both-not-left _ _ (number-refused (inputAt (s .args .input .now) (s .args .t2) 0)
+    (sym (at-number-at .number-at .ensures) ∙ ap numberGiven (c .before .enum-told .given .1))))
+
+data-at-requires : tie.Need-data-at-requires
+data-at-requires c κs =
+    let s = c .before .before .before .before .before .before .before in
+    ends-within _ (s .args .t2) 2 1 (s .good .1 .0 .1 .0 .1) (s .pre) (omega arith) (omega arith)
+
+enum-known-len : tie.Need-enum-known-len
+enum-known-len c = search needs
+
+enum-told-2 : tie.Need-enum-told-2
+enum-told-2 c = search needs
+
+malformed-requires-2 : tie.Need-malformed-requires-2
+malformed-requires-2 c κs = search needs
+
+returns-2 : tie.Need-returns-2
+unfolding wellFormed two
+returns-2 c =
+    let at-data-at = c .before .before .before in
+    let s = at-data-at .before .before .before .before .before .before .before .before in
+    c .malformed2 .ensures ∙ refused Write (two (s .args .input .now) (s .args .t2)) _
+    (both-not-right _ _ (data-refused (inputAt (s .args .input .now) (s .args .t2) 1)
+    (sym (at-data-at .data-at .ensures) ∙ ap numberGiven (c .before .enum-told2 .given .1))))
+
+add-from : tie.Need-add-from
+add-from c =
+    let at-len = c .before .before in
+    let at-data-at = at-len .before .before in
+    let s = at-data-at .before .before .before .before .before .before .before .before in
+    let o = getD (s .args .t2) 1 noOperand in
+    let within = ends-within _ (s .args .t2) 2 1 (s .good .1 .0 .1 .0 .1) (s .pre) (omega arith) (omega arith) in
+    let long = length-part (s .args .input .now) (o .offset) (o .len) within in
+    omega (
+      arith,
+      s .good .0 .0,
+      within,
+      long,
+      data-long _
+          (data-told (inputAt (s .args .input .now) (s .args .t2) 1) _ (sym (at-data-at .data-at .ensures) ∙ ap numberGiven (at-len .len .given .1))),
+    )
+
+returns-3 : tie.Need-returns-3
+returns-3 c =
+    let at-len = c .before .before in
+    let at-data-at = at-len .before .before in
+    let at-first = at-data-at .before .before in
+    let at-number-at = at-first .before .before in
+    let s = at-number-at .before .before .before .before in
+    write-accepted (s .args .input .now) (s .args .t2) _ _ (sym (at-number-at .number-at .ensures) ∙ ap numberGiven (at-first .first .given .1))
+    (sym (at-data-at .data-at .ensures) ∙ ap numberGiven (at-len .len .given .1))
+
+pub write-args-spec : {M : Type 1} → statement M
+write-args-spec =
+    tie.close
+    (tie.spec
+    array-copy-out-one
+    array-copy-out-two
+    number-at-requires
+    enum-known-first
+    enum-told
+    malformed-requires
+    returns
+    data-at-requires
+    enum-known-len
+    enum-told-2
+    malformed-requires-2
+    returns-2
+    add-from
+    returns-3)

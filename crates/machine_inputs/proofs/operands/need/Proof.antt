@@ -1,0 +1,68 @@
+-- `machine_inputs::operands::need` meets its contract: a walk down the definition. Assumes nothing.
+use mathlib.Core.Path.{refl, sym, ap, _∙_}
+use Rattle.area.proofs.Laws.Pick.{yes, no}
+use Rattle.host.specs.Lists.{some}
+use Rattle.machine_rules.specs.Inputs.{pastEnd, largest, need}
+use Rattle.sia.proofs.Laws.Known.{known-instruction}
+use Rattle.machine_inputs.specs.Ends.{endsPast}
+use Rattle.machine_inputs.proofs.Laws.Ends.{listed-all}
+use borrow.Author.Needs.{needs}
+use Rattle.machine_inputs.proofs.operands.need.Statement.{statement}
+use Rattle.machine_inputs.proofs.operands.need.Tie as tie
+
+ill-formed-requires : tie.Need-ill-formed-requires
+ill-formed-requires c κs = search needs
+
+returns : tie.Need-returns
+unfolding need
+returns c = yes _ _ _ (sym (c .before .ill-formed .ensures) ∙ c .if1 .taken) refl
+
+past-end-requires : tie.Need-past-end-requires
+past-end-requires c κs = search needs
+
+returns-2 : tie.Need-returns-2
+unfolding need
+returns-2 c =
+    let at-if1 = c .before .before in
+    let at-ill-formed = at-if1 .before in
+    no _ _ _ (sym (at-ill-formed .ill-formed .ensures) ∙ at-if1 .if1 .left) (yes _ _ _ (sym (c .before .past-end .ensures) ∙ c .if2 .taken) refl)
+
+listed-requires : tie.Need-listed-requires
+listed-requires c κs = search needs
+
+largest-end-requires : tie.Need-largest-end-requires
+unfolding pastEnd
+largest-end-requires c κs =
+    let at-if2 = c .before .before in
+    let at-past-end = at-if2 .before in
+    let s = at-past-end .before .before .before in (
+      c .listed .ensures .1,
+      ap (some (endsPast (s .args .declared))) (listed-all (s .args .i .count) (s .args .i .operands) (known-instruction (s .args .i) _ (s .good .1 .0) .1) _
+          (c .listed .ensures .0))
+          ∙ sym (at-past-end .past-end .ensures) ∙ at-if2 .if2 .left,
+    )
+
+returns-3 : tie.Need-returns-3
+unfolding need
+returns-3 c =
+    let at-if2 = c .before .before .before in
+    let at-past-end = at-if2 .before in
+    let at-if1 = at-past-end .before in
+    let at-ill-formed = at-if1 .before in
+    let s = at-ill-formed .before in
+    no _ _ _ (sym (at-ill-formed .ill-formed .ensures) ∙ at-if1 .if1 .left)
+    (no _ _ _ (sym (at-past-end .past-end .ensures) ∙ at-if2 .if2 .left)
+    (c .largest-end .ensures ∙ ap largest (listed-all (s .args .i .count) (s .args .i .operands) (known-instruction (s .args .i) _ (s .good .1 .0) .1) _
+    (c .before .listed .ensures .0))))
+
+pub need-spec : {M : Type 1} → statement M
+need-spec =
+    tie.close
+    (tie.spec
+    ill-formed-requires
+    returns
+    past-end-requires
+    returns-2
+    listed-requires
+    largest-end-requires
+    returns-3)

@@ -1,0 +1,76 @@
+-- `machine_inputs::operands::some_past` meets its contract. The loop's invariant: the answer is that of the operands that are left to look at. Assumes nothing.
+use mathlib.Core.Path.{_≡_, refl, sym, _∙_}
+use Prim.Native.Nat.{_-_, _≤_}
+use native.Mathlib.Omega.{arith}
+use lib.ListN.{take}
+use lib.Seq.{slice}
+use Rattle.sia.specs.Empty.{noOperand}
+use Rattle.host.specs.Lists.{some}
+use Rattle.host.proofs.Laws.Slices.{some-here, some-further, some-done}
+use Rattle.machine_inputs.specs.Ends.{endsPast}
+use borrow.Author.Needs.{needs}
+use Rattle.machine_inputs.proofs.operands.some_past.Statement.{statement}
+use Rattle.machine_inputs.proofs.operands.some_past.Tie as tie
+
+abbrev Inv-loop : tie.InvT-loop
+Inv-loop declared n list i₀ i = (i ≤ n) × (some (endsPast declared) (take n list) ≡ some (endsPast declared) (slice i n list))
+
+abbrev μ-loop : tie.MeasureT-loop
+μ-loop declared n list i₀ i = n - i
+
+loop-holds : tie.Need-loop-holds Inv-loop μ-loop
+loop-holds c = (omega arith, refl)
+
+mul-o : tie.Need-mul-o Inv-loop μ-loop
+mul-o c = search needs
+
+array-copy-out-o : tie.Need-array-copy-out-o Inv-loop μ-loop
+array-copy-out-o c = omega arith
+
+ends-past-requires : tie.Need-ends-past-requires Inv-loop μ-loop
+ends-past-requires c κs = tt
+
+returns : tie.Need-returns Inv-loop μ-loop
+returns c =
+    let at-loop-test = c .before .before .before in
+    let at-loop = at-loop-test .before in
+    let s = at-loop .before in
+    some-here (endsPast _) (s .args .t2) (at-loop .loop .i) _ noOperand (s .good .1 .0 .1 .0 .1) (at-loop-test .loop-test .taken) (s .pre)
+    (sym (c .before .ends-past .ensures) ∙ c .if1 .taken) ∙ sym (at-loop .loop .inv .1)
+
+add-i : tie.Need-add-i Inv-loop μ-loop
+add-i c = search needs
+
+loop-less : tie.Need-loop-less Inv-loop μ-loop
+loop-less c = omega arith
+
+loop-again : tie.Need-loop-again Inv-loop μ-loop
+loop-again c =
+    let at-loop-test = c .before .before .before in
+    let at-loop = at-loop-test .before in
+    let s = at-loop .before in (
+      omega arith,
+      at-loop .loop .inv .1 ∙ some-further (endsPast _) (s .args .t2) (at-loop .loop .i) _ noOperand (s .good .1 .0 .1 .0 .1)
+          (at-loop-test .loop-test .taken) (s .pre) (sym (c .before .ends-past .ensures) ∙ c .if1 .left),
+    )
+
+returns-2 : tie.Need-returns-2 Inv-loop μ-loop
+returns-2 c =
+    let s = c .before .before in
+    some-done (endsPast _) (s .args .t2) (c .before .loop .i) _ (c .loop-test .left) ∙ sym (c .before .loop .inv .1)
+
+pub some-past-spec : {M : Type 1} → statement M
+some-past-spec =
+    tie.close
+    (tie.spec
+    Inv-loop
+    μ-loop
+    loop-holds
+    mul-o
+    array-copy-out-o
+    ends-past-requires
+    returns
+    add-i
+    loop-less
+    loop-again
+    returns-2)

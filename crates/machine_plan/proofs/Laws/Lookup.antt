@@ -1,0 +1,123 @@
+-- What is read: a walk down the definition of each lookup. Assumes nothing.
+use mathlib.Core.Path.{_≡_, refl, sym, ap, _∙_, subst}
+use mathlib.Core.Bool.{true, false, not}
+use mathlib.Core.List.{List, [], _∷_}
+use Prim.Native.Nat.{ℕ, _+_, _*_, _≤_}
+use native.Mathlib.Omega.{arith}
+use lib.ListN.{length}
+use borrow.Author.Tests.{leb-true}
+use Rattle.area.specs.Pick.{pick}
+use Rattle.area.specs.Area.{same}
+use Rattle.area.proofs.Laws.Pick.{yes, no, by, picks, skips, both-left, both-right}
+use Rattle.area.proofs.Laws.Same.{same-eq}
+use Rattle.sia.specs.Names.{readOnly}
+use Rattle.sia.specs.Encode.{every}
+use Rattle.host.specs.Empty.{noPlace}
+use Rattle.host.specs.Places.{hasId, whose}
+use Rattle.host.specs.Order.{placeInOrder}
+use Rattle.machine_rules.specs.View.{Setting, readOnlyMode, parent, parentSpots, committedSpots}
+use Rattle.machine_rules.specs.Roots.{keptRoot}
+use Rattle.machine_rules.specs.Seats.{seats, allSeats, seatsOf, firstSeat}
+use Rattle.machine_rules.specs.Plan.{missing, seen, spots, isThere, contractSource, soughtSource, sectorSource}
+use Rattle.machine_rules.proofs.Laws.Spots.{program-every, sought-every}
+use Rattle.machine_rules.specs.Plan as Says
+use Rattle.machine_sight.specs.Seen.{spotsOf, holds, lies}
+use Rattle.machine_sight.specs.Lookup.{Narrow, ownSpots}
+use Rattle.host.specs.declared.Place.{Place}
+use Rattle.host.specs.declared.Progress.{Progress}
+use Rattle.machine_rules.specs.declared.Spot.{Spot}
+use Rattle.machine_rules.specs.declared.Spot.the-variants.{OnDisk, InStage}
+use Rattle.machine_rules.specs.declared.Seat.{Seat}
+use Rattle.machine_rules.specs.declared.Sought.{Sought}
+use Rattle.machine_rules.specs.declared.Sought.the-variants.{At, Nowhere}
+use Rattle.machine_sight.specs.declared.Seen.{Seen}
+use Rattle.machine_plan.specs.Source.{looking, Sources, Shows}
+use Rattle.machine_plan.specs.declared.Source.{Source}
+
+pub shows-as : (r : Source) (x y : Says.Source) → x ≡ y → Shows r x → Shows r y
+shows-as r x y e h = subst (λ (f : Says.Source). Shows r f) e h
+
+pub shows-seen : (v : Seen) (l : List Spot) → spotsOf v ≡ l → Shows (record { there = true; seen = v }) (seen l)
+unfolding isThere spots
+shows-seen v l e = record { there = refl; sectors = e }
+
+pub shows-missing : (v : Seen) → spotsOf v ≡ [] → Shows (record { there = false; seen = v }) missing
+unfolding isThere spots
+shows-missing v e = record { there = refl; sectors = e }
+
+-- ---- contracts
+
+none-in-order : (z : ℕ) → placeInOrder z noPlace ≡ true
+unfolding placeInOrder noPlace pick
+none-in-order z = refl
+
+-- the contract of an id is in order
+pub whose-in-order : (z : ℕ) (id : List ℕ) (ps : List Place) → every (placeInOrder z) ps ≡ true → placeInOrder z (whose id ps) ≡ true
+unfolding every whose
+whose-in-order z id [] e = none-in-order z
+whose-in-order z id (p ∷ ps) e = by (hasId id p)
+    (λ u. ap (placeInOrder z) (picks (hasId id p) p (whose id ps) u) ∙ both-left _ _ e)
+    (λ u. ap (placeInOrder z) (skips (hasId id p) p (whose id ps) u) ∙ whose-in-order z id ps (both-right _ _ e))
+
+module _ (z : ℕ) (s : Setting) (p : Progress) (id : List ℕ) where
+  pub not-found : whose id (s .places) .held ≡ false → missing ≡ contractSource z s p id
+  unfolding contractSource
+  not-found h = yes _ _ _ (ap not h) refl
+
+  module _ (held : whose id (s .places) .held ≡ true) where
+    pub own-found : same id (s .terms .head .contract) ≡ true → seen (parentSpots z s p) ≡ contractSource z s p id
+    unfolding contractSource
+    own-found e = no _ _ _ (ap not held) (yes _ _ _ e refl)
+
+    pub other-found : same id (s .terms .head .contract) ≡ false → seen (committedSpots z (whose id (s .places))) ≡ contractSource z s p id
+    unfolding contractSource
+    other-found e = no _ _ _ (ap not held) (no _ _ _ e refl)
+
+-- the parent by its id
+pub parent-whose : (s : Setting) (id : List ℕ) → same id (s .terms .head .contract) ≡ true → whose id (s .places) ≡ parent s
+unfolding parent
+parent-whose s id e = ap (λ (k : List ℕ). whose k (s .places)) (same-eq _ _ e)
+
+-- ---- sectors
+
+-- a slot whose root is kept has a number that a byte holds
+narrow : (diskroots stageroots : List ℕ) (x : Spot) → length diskroots ≤ 64 * 32 → length stageroots ≤ 16 * 32
+    → lies 32 diskroots stageroots x ≡ true → Narrow x
+unfolding lies holds
+narrow diskroots stageroots (OnDisk n) d e h = omega (arith, d, leb-true (n * 32 + 32) (length diskroots) h)
+narrow diskroots stageroots (InStage n) d e h = omega (arith, e, leb-true (n * 32 + 32) (length stageroots) h)
+
+module _ (z : ℕ) (diskroots stageroots : List ℕ) (ps : List Place) (id : List ℕ) (p : Progress) (a : Sources z diskroots stageroots ps id p)
+    (key : List ℕ) where
+  abbrev bare : Setting
+  bare = looking ps id
+
+  abbrev f : Spot → List ℕ
+  f = keptRoot diskroots stageroots
+
+  abbrev own : List Spot
+  own = ownSpots z ps id (p .staged) (p .size)
+
+  -- what the look-up comes to is the source
+  module _ {r : Sought} (e : r ≡ firstSeat f key (pick (same id readOnly) (allSeats z ps) (seats z (hasId id) own ps))) where
+    pub source-is : soughtSource r ≡ sectorSource z bare f p key
+    unfolding sectorSource seatsOf readOnlyMode parentSpots parent
+    source-is = ap soughtSource e
+
+    -- and the sector that is found is in a slot that a byte names
+    pub sought-narrow : (x : Seat) → r ≡ At x → Narrow (x .spot)
+    unfolding soughtSource spots every lies seatsOf readOnlyMode parentSpots parent
+    sought-narrow x q =
+        let all = program-every (lies 32 diskroots stageroots) z bare p (a .seeks .own) (a .seeks .stand .slots) in
+        let one = sought-every (lies 32 diskroots stageroots) f key _ all in
+        narrow diskroots stageroots (x .spot) (a .disk) (a .stage)
+        (both-left _ _ (sym (ap (λ (s : Sought). every (lies 32 diskroots stageroots) (spots (soughtSource s))) (sym e ∙ q)) ∙ one))
+
+    pub shows-sought : (v : Seen) (x : Seat) → r ≡ At x → spotsOf v ≡ x .spot ∷ []
+        → Shows (record { there = true; seen = v }) (sectorSource z bare f p key)
+    unfolding soughtSource
+    shows-sought v x q s = shows-as _ _ _ (sym (ap soughtSource q) ∙ source-is) (shows-seen v _ s)
+
+    pub not-sought : (v : Source) → r ≡ Nowhere → Shows v missing → Shows v (sectorSource z bare f p key)
+    unfolding soughtSource
+    not-sought v q s = shows-as v _ _ (sym (ap soughtSource q) ∙ source-is) s

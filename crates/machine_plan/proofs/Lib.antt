@@ -1,0 +1,4 @@
+-- The laws that the proofs cite.
+-- The laws that the proofs cite.
+-- The laws that the proofs cite.
+pub mod Laws

@@ -1,0 +1,22 @@
+-- `machine_plan::Plan::failed` meets its contract. Assumes nothing.
+use Rattle.machine_plan.specs.Planned.{failed}
+use borrow.Author.Needs.{needs}
+use Rattle.machine_plan.proofs.Plan.failed.Statement.{statement}
+use Rattle.machine_plan.proofs.Plan.failed.Tie as tie
+
+none-requires : tie.Need-none-requires
+none-requires c κs = search needs
+
+no-sectors-requires : tie.Need-no-sectors-requires
+no-sectors-requires c κs = search needs
+
+returns : tie.Need-returns
+unfolding failed
+returns c =
+    let s = c .before .before in
+    let given = c .before .none .ensures in
+    let nothing = c .no-sectors .ensures in
+    λ i. record { number = s .args .number; op = s .args .op; args = given i; sectors = nothing i; cost = 0; size = 0; hashes = 0; count = 0 }
+
+pub failed-spec : {M : Type 1} → statement M
+failed-spec = tie.close (tie.spec none-requires no-sectors-requires returns)

@@ -1,0 +1,12 @@
+-- `machine_plan::Weighed::refused` meets its contract. Assumes nothing.
+use mathlib.Core.Path.{refl}
+use Rattle.machine_plan.specs.Weighed.{refused}
+use Rattle.machine_plan.proofs.Weighed.refused.Statement.{statement}
+use Rattle.machine_plan.proofs.Weighed.refused.Tie as tie
+
+returns : tie.Need-returns
+unfolding refused
+returns c = refl
+
+pub refused-spec : {M : Type 1} → statement M
+refused-spec = tie.close (tie.spec returns)

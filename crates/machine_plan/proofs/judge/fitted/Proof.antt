@@ -1,0 +1,157 @@
+-- `machine_plan::judge::fitted` meets its contract: a walk down the definition. Assumes nothing.
+use mathlib.Core.Path.{_≡_, sym, ap, ap₂, _∙_}
+use mathlib.Core.Bool.{not, false}
+use mathlib.Core.List.{[]}
+use Prim.Native.Nat.{ℕ, _+_, _*_, _≤_}
+use native.Mathlib.Nat.{mul-le-mul}
+use native.Mathlib.Omega.{arith}
+use lib.Dec.{ltb}
+use borrow.Author.Tests.{ltb-false}
+use Rattle.area.proofs.Laws.Pick.{yes, no}
+use Rattle.host.specs.Places.{others}
+use Rattle.machine_rules.specs.View.{freeCopies, setting}
+use Rattle.machine_rules.specs.Plan.{wanted, newSize, recordCount}
+use Rattle.machine_plan.specs.Numbers.{sectorsOf, numbers}
+use Rattle.machine_plan.specs.Weighed.{fitted}
+use Rattle.machine_plan.proofs.Laws.Weighed.{not-leb}
+use borrow.Author.Needs.{needs}
+use Rattle.machine_plan.proofs.judge.fitted.Statement.{statement}
+use Rattle.machine_plan.proofs.judge.fitted.Tie as tie
+
+-- ---- what the calls gave, in the definitions' words
+
+-- 40
+abbrev start-1 : tie.After-too-few → tie.Start
+start-1 c = c .before
+
+slots : (c : tie.After-too-few) → let a = start-1 c .args in
+    ltb (freeCopies (setting (a .sectors) (a .copies) (a .places) (a .terms) [] []) (a .p)) (wanted (a .z) (a .p) (a .op) (numbers (a .args)))
+    ≡ c .too-few .result
+unfolding freeCopies
+slots c = sym (c .too-few .ensures)
+
+-- 41
+abbrev start-2 : tie.After-sizes-fit → tie.Start
+start-2 c = start-1 (c .before .before .before .before .before)
+
+disk : (c : tie.After-sizes-fit) → let a = start-2 c .args in
+    ltb (a .sectors * a .z) (newSize (a .p .size) (a .op) (numbers (a .args)) + others (a .terms .head .contract) (a .places)) ≡ not (c .sizes-fit .result)
+disk c =
+    let a = start-2 c .args in
+    let rest = others (a .terms .head .contract) (a .places) in
+    ap (λ (k : ℕ). ltb (a .sectors * a .z) (k + rest)) (sym (c .before .new-size .ensures))
+    ∙ not-leb (c .before .new-size .result + rest) (a .sectors * a .z) ∙ ap not (sym (c .sizes-fit .ensures))
+
+-- 42
+abbrev start-3 : tie.After-record-above → tie.Start
+start-3 c = start-2 (c .before .before .before .before)
+
+room : (c : tie.After-record-above) → let a = start-3 c .args in
+    ltb (a .terms .room) (a .p .written + recordCount (a .z) (a .asked) (sectorsOf (a .seen)) (a .op) (numbers (a .args)) + 72) ≡ c .record-above .result
+unfolding recordCount
+room c =
+    let a = start-3 c .args in
+    ap₂ (λ (h o : ℕ). ltb (a .terms .room) (a .p .written + (72 + 32 * h + o) + 72)) (sym (c .before .before .proof-count .ensures))
+    (sym (c .before .output-count .ensures))
+    ∙ sym (c .record-above .ensures)
+
+-- the record is within the room
+short : (c : tie.After-record-above) → c .record-above .result ≡ false
+    → start-3 c .args .p .written + (72 + 32 * c .before .before .proof-count .result + c .before .output-count .result) + 72 ≤ 65536
+short c u =
+    let a = start-3 c .args in
+    let k = a .p .written + (72 + 32 * c .before .before .proof-count .result + c .before .output-count .result) + 72 in
+    let fits : k ≤ a .terms .room = ltb-false (a .terms .room) k (sym (c .record-above .ensures) ∙ u) in
+    let most : a .terms .room ≤ 65536 = start-3 c .pre .1 .1 .1 .0 in
+    omega arith
+
+-- ---- the needs
+
+too-few-requires : tie.Need-too-few-requires
+too-few-requires c κs = search needs
+
+refused-requires : tie.Need-refused-requires
+refused-requires c κs = search needs
+
+returns : tie.Need-returns
+unfolding fitted
+returns c = yes _ _ _ (slots (c .before .before) ∙ c .before .if1 .taken) (c .refused .ensures)
+
+new-size-requires : tie.Need-new-size-requires
+new-size-requires c κs = search needs
+
+mul-sizes-fit : tie.Need-mul-sizes-fit
+mul-sizes-fit c =
+    let s = start-1 (c .before .before .before .before) in
+    omega (arith, mul-le-mul (s .pre .1 .0) (s .pre .0 .most))
+
+sizes-fit-requires : tie.Need-sizes-fit-requires
+sizes-fit-requires c κs = search needs
+
+refused-requires-2 : tie.Need-refused-requires-2
+refused-requires-2 c κs = search needs
+
+returns-2 : tie.Need-returns-2
+unfolding fitted
+returns-2 c =
+    let at-sizes-fit = c .before .before in
+    let at-if1 = at-sizes-fit .before .before .before .before in
+    no _ _ _ (slots (at-if1 .before) ∙ at-if1 .if1 .left)
+    (yes _ _ _ (disk at-sizes-fit ∙ c .before .if2 .taken) (c .refused2 .ensures))
+
+proof-count-requires : tie.Need-proof-count-requires
+proof-count-requires c κs = search needs
+
+output-count-requires : tie.Need-output-count-requires
+output-count-requires c κs = search needs
+
+record-above-requires : tie.Need-record-above-requires
+record-above-requires c κs = search needs
+
+refused-requires-3 : tie.Need-refused-requires-3
+refused-requires-3 c κs = search needs
+
+returns-3 : tie.Need-returns-3
+unfolding fitted
+returns-3 c =
+    let at-record-above = c .before .before in
+    let at-if2 = at-record-above .before .before .before in
+    let at-sizes-fit = at-if2 .before in
+    let at-if1 = at-sizes-fit .before .before .before .before in
+    no _ _ _ (slots (at-if1 .before) ∙ at-if1 .if1 .left)
+    (no _ _ _ (disk at-sizes-fit ∙ at-if2 .if2 .left) (yes _ _ _ (room at-record-above ∙ c .before .if3 .taken) (c .refused3 .ensures)))
+
+mul-count : tie.Need-mul-count
+mul-count c = omega (arith, short (c .before) (c .if3 .left))
+
+add-count : tie.Need-add-count
+add-count c = omega (arith, short (c .before) (c .if3 .left))
+
+add-count-2 : tie.Need-add-count-2
+add-count-2 c = omega (arith, short (c .before) (c .if3 .left))
+
+returns-4 : tie.Need-returns-4
+unfolding fitted recordCount
+returns-4 c =
+    let at-output-count = c .before .before in
+    let at-proof-count = at-output-count .before in
+    let at-if2 = at-proof-count .before in
+    let at-sizes-fit = at-if2 .before in
+    let at-if1 = at-sizes-fit .before .before .before .before in
+    no _ _ _ (slots (at-if1 .before) ∙ at-if1 .if1 .left)
+    (no _ _ _ (disk at-sizes-fit ∙ at-if2 .if2 .left)
+    (no _ _ _ (room (c .before) ∙ c .if3 .left)
+    (λ i. record {
+      number = 0;
+      cost = start-3 (c .before) .args .cost;
+      size = at-sizes-fit .before .new-size .ensures i;
+      hashes = at-proof-count .proof-count .ensures i;
+      count = 72 + 32 * at-proof-count .proof-count .ensures i + at-output-count .output-count .ensures i;
+    })))
+
+pub fitted-spec : {M : Type 1} → statement M
+fitted-spec =
+    tie.close
+    (tie.spec
+    too-few-requires refused-requires returns new-size-requires mul-sizes-fit sizes-fit-requires refused-requires-2 returns-2
+    proof-count-requires output-count-requires record-above-requires refused-requires-3 returns-3 mul-count add-count add-count-2 returns-4)

@@ -1,0 +1,13 @@
+-- `machine_plan::lookup::no_sectors` meets its contract. Assumes nothing.
+use mathlib.Core.Path.{refl}
+use Rattle.machine_sight.specs.Seen.{spotsOf}
+use Rattle.area.specs.Area.{tab}
+use Rattle.machine_plan.proofs.lookup.no_sectors.Statement.{statement}
+use Rattle.machine_plan.proofs.lookup.no_sectors.Tie as tie
+
+returns : tie.Need-returns
+unfolding spotsOf tab
+returns c = refl
+
+pub no-sectors-spec : {M : Type 1} → statement M
+no-sectors-spec = tie.close (tie.spec returns)

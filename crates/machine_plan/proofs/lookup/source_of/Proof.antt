@@ -1,0 +1,130 @@
+-- `machine_plan::lookup::source_of` meets its contract, arm by arm. Assumes nothing.
+use mathlib.Core.Path.{sym, ap}
+use Rattle.machine_plan.specs.Source.{looking}
+use Rattle.machine_plan.proofs.Laws.Lookup.{shows-as}
+use Rattle.machine_rules.specs.View.{parent, parentSpots}
+use Rattle.machine_rules.specs.Roots.{keptRoot}
+use Rattle.machine_rules.specs.Plan.{Source, contractSource, sourceOf}
+use Rattle.sia.specs.declared.Op.{Op}
+use borrow.Author.Needs.{needs}
+use Rattle.machine_plan.proofs.lookup.source_of.Statement.{statement}
+use Rattle.machine_plan.proofs.lookup.source_of.Tie as tie
+
+-- what is read, by the operation
+abbrev source-at : tie.Start → Op → Source
+source-at s o =
+    sourceOf (s .args .z) (looking (s .args .places) (s .args .id)) (keptRoot (s .args .diskroots .now) (s .args .stageroots .now)) (s .args .p) o
+    (s .args .key)
+
+enum-told : tie.Need-enum-told
+enum-told c = search needs
+
+contract-source-requires : tie.Need-contract-source-requires
+contract-source-requires c κs =
+    let at-match = c .before .before in
+    let stand = at-match .before .before .pre .seeks .stand in
+    (stand .size, stand .order)
+
+enum-told-2 : tie.Need-enum-told-2
+enum-told-2 c = search needs
+
+sector-source-requires : tie.Need-sector-source-requires
+sector-source-requires c κs = let at-match = c .before .before in at-match .before .before .pre
+
+enum-told-3 : tie.Need-enum-told-3
+enum-told-3 c = search needs
+
+nothing-requires : tie.Need-nothing-requires
+nothing-requires c κs = search needs
+
+enum-told-4 : tie.Need-enum-told-4
+enum-told-4 c = search needs
+
+nothing-requires-2 : tie.Need-nothing-requires-2
+nothing-requires-2 c κs = search needs
+
+enum-told-5 : tie.Need-enum-told-5
+enum-told-5 c = search needs
+
+nothing-requires-3 : tie.Need-nothing-requires-3
+nothing-requires-3 c κs = search needs
+
+enum-told-6 : tie.Need-enum-told-6
+enum-told-6 c = search needs
+
+nothing-requires-4 : tie.Need-nothing-requires-4
+nothing-requires-4 c κs = search needs
+
+enum-told-7 : tie.Need-enum-told-7
+enum-told-7 c = search needs
+
+nothing-requires-5 : tie.Need-nothing-requires-5
+nothing-requires-5 c κs = search needs
+
+returns : tie.Need-returns
+unfolding sourceOf contractSource parentSpots parent
+returns c =
+    let s = c .before .before .before .before .before in
+    shows-as _ _ _ (sym (ap (source-at s) (c .before .enum-told .given .1))) (c .contract-source .ensures)
+
+returns-2 : tie.Need-returns-2
+unfolding sourceOf
+returns-2 c =
+    let s = c .before .before .before .before .before in
+    shows-as _ _ _ (sym (ap (source-at s) (c .before .enum-told2 .given .1))) (c .sector-source .ensures)
+
+returns-3 : tie.Need-returns-3
+unfolding sourceOf
+returns-3 c =
+    let s = c .before .before .before .before .before in
+    shows-as _ _ _ (sym (ap (source-at s) (c .before .enum-told3 .given .1))) (c .nothing .ensures)
+
+returns-4 : tie.Need-returns-4
+unfolding sourceOf
+returns-4 c =
+    let s = c .before .before .before .before .before in
+    shows-as _ _ _ (sym (ap (source-at s) (c .before .enum-told4 .given .1))) (c .nothing2 .ensures)
+
+returns-5 : tie.Need-returns-5
+unfolding sourceOf
+returns-5 c =
+    let s = c .before .before .before .before .before in
+    shows-as _ _ _ (sym (ap (source-at s) (c .before .enum-told5 .given .1))) (c .nothing3 .ensures)
+
+returns-6 : tie.Need-returns-6
+unfolding sourceOf
+returns-6 c =
+    let s = c .before .before .before .before .before in
+    shows-as _ _ _ (sym (ap (source-at s) (c .before .enum-told6 .given .1))) (c .nothing4 .ensures)
+
+returns-7 : tie.Need-returns-7
+unfolding sourceOf
+returns-7 c =
+    let s = c .before .before .before .before .before in
+    shows-as _ _ _ (sym (ap (source-at s) (c .before .enum-told7 .given .1))) (c .nothing5 .ensures)
+
+pub source-of-spec : {M : Type 1} → statement M
+source-of-spec =
+    tie.close
+    (tie.spec
+    enum-told
+    contract-source-requires
+    enum-told-2
+    sector-source-requires
+    enum-told-3
+    nothing-requires
+    enum-told-4
+    nothing-requires-2
+    enum-told-5
+    nothing-requires-3
+    enum-told-6
+    nothing-requires-4
+    enum-told-7
+    nothing-requires-5
+    returns
+    returns-2
+    returns-3
+    returns-4
+    returns-5
+    returns-6
+    returns-7)

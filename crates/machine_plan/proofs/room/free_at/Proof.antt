@@ -1,0 +1,20 @@
+-- `machine_plan::room::free_at` meets its contract. Assumes nothing.
+use mathlib.Core.Path.{refl, sym, ap, _∙_}
+use mathlib.Core.Bool.{not}
+use native.Mathlib.Omega.{arith}
+use Rattle.area.proofs.Laws.Pick.{yes, no}
+use borrow.Author.Needs.{needs}
+use Rattle.machine_plan.proofs.room.free_at.Statement.{statement}
+use Rattle.machine_plan.proofs.room.free_at.Tie as tie
+
+staged-in-requires : tie.Need-staged-in-requires
+staged-in-requires c κs = search needs
+
+returns : tie.Need-returns
+returns c = (no _ _ _ (ap not (sym (c .before .staged-in .ensures) ∙ c .if1 .taken)) refl, omega arith)
+
+returns-2 : tie.Need-returns-2
+returns-2 c = (yes _ _ _ (ap not (sym (c .before .staged-in .ensures) ∙ c .if1 .left)) refl, omega arith)
+
+pub free-at-spec : {M : Type 1} → statement M
+free-at-spec = tie.close (tie.spec staged-in-requires returns returns-2)

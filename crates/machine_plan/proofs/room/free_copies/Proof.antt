@@ -1,0 +1,60 @@
+-- `machine_plan::room::free_copies` meets its contract. The loop's invariant: what is counted and the slots that are left give the count. Assumes
+-- nothing.
+use mathlib.Core.Path.{_≡_}
+use Prim.Native.Nat.{_+_, _-_, _≤_}
+use native.Mathlib.Omega.{arith}
+use Rattle.host.specs.Lists.{count, unused}
+use Rattle.machine_plan.proofs.Laws.Room.{count-first, count-one, count-done}
+use borrow.Author.Needs.{needs}
+use Rattle.machine_plan.proofs.room.free_copies.Statement.{statement}
+use Rattle.machine_plan.proofs.room.free_copies.Tie as tie
+
+abbrev Inv-loop : tie.InvT-loop
+Inv-loop copies staged free₀ i₀ free i = (free ≤ i) × (i ≤ copies) × (free + count (unused staged) i (copies - i) ≡ count (unused staged) 0 copies)
+
+abbrev μ-loop : tie.MeasureT-loop
+μ-loop copies staged free₀ i₀ free i = copies - i
+
+loop-holds : tie.Need-loop-holds Inv-loop μ-loop
+loop-holds c = (omega arith, omega arith, count-first (unused (c .args .staged)) (c .args .copies))
+
+free-at-requires : tie.Need-free-at-requires Inv-loop μ-loop
+free-at-requires c κs = tt
+
+add-free : tie.Need-add-free Inv-loop μ-loop
+add-free c = omega (arith, c .free-at .ensures .1)
+
+add-i : tie.Need-add-i Inv-loop μ-loop
+add-i c = search needs
+
+loop-less : tie.Need-loop-less Inv-loop μ-loop
+loop-less c = omega arith
+
+loop-again : tie.Need-loop-again Inv-loop μ-loop
+loop-again c =
+    let at-loop = c .before .before in
+    let s = at-loop .before in (
+      omega (arith, c .free-at .ensures .1),
+      omega arith,
+      count-one (unused (s .args .staged)) (at-loop .loop .i) (s .args .copies) (at-loop .loop .free) (c .free-at .result) _ (c .before .loop-test .taken)
+          (c .free-at .ensures .0) (at-loop .loop .inv .2),
+    )
+
+returns : tie.Need-returns Inv-loop μ-loop
+returns c =
+    let s = c .before .before in
+    count-done (unused (s .args .staged)) (c .before .loop .i) (s .args .copies) _ _ (c .loop-test .left) (c .before .loop .inv .2)
+
+pub free-copies-spec : {M : Type 1} → statement M
+free-copies-spec =
+    tie.close
+    (tie.spec
+    Inv-loop
+    μ-loop
+    loop-holds
+    free-at-requires
+    add-free
+    add-i
+    loop-less
+    loop-again
+    returns)

@@ -1,0 +1,119 @@
+-- `machine_plan::room::wanted` meets its contract, arm by arm. Assumes nothing.
+use mathlib.Core.Path.{sym, ap, _∙_}
+use lib.ListN.{getD}
+use lib.Dec.{eqb}
+use Rattle.host.specs.Empty.{none}
+use Rattle.machine_rules.specs.Plan.{touched, wanted}
+use Rattle.machine_plan.specs.Numbers.{numbers}
+use Rattle.machine_plan.proofs.Laws.Room.{none-those, one-those}
+use Rattle.sia.specs.declared.Op.{Op}
+use borrow.Author.Needs.{needs}
+use Rattle.machine_plan.proofs.room.wanted.Statement.{statement}
+use Rattle.machine_plan.proofs.room.wanted.Tie as tie
+
+enum-told : tie.Need-enum-told
+enum-told c = search needs
+
+enum-told-2 : tie.Need-enum-told-2
+enum-told-2 c = search needs
+
+enum-told-3 : tie.Need-enum-told-3
+enum-told-3 c = search needs
+
+lacks-requires : tie.Need-lacks-requires
+lacks-requires c κs = search needs
+
+enum-told-4 : tie.Need-enum-told-4
+enum-told-4 c = search needs
+
+lacks-requires-2 : tie.Need-lacks-requires-2
+lacks-requires-2 c κs = search needs
+
+enum-told-5 : tie.Need-enum-told-5
+enum-told-5 c = search needs
+
+wanted-swap-requires : tie.Need-wanted-swap-requires
+wanted-swap-requires c κs = search needs
+
+enum-told-6 : tie.Need-enum-told-6
+enum-told-6 c = search needs
+
+wanted-size-requires : tie.Need-wanted-size-requires
+wanted-size-requires c κs = search needs
+
+enum-told-7 : tie.Need-enum-told-7
+enum-told-7 c = search needs
+
+returns : tie.Need-returns
+unfolding wanted touched numbers
+returns c =
+    let s = c .before .before .before in
+    none-those (λ at. eqb (getD (s .args .p .staged) at none) none)
+    ∙ sym (ap (λ (o : Op). wanted (s .args .z) (s .args .p) o (numbers (s .args .args))) (c .enum-told .given .1))
+
+returns-2 : tie.Need-returns-2
+unfolding wanted touched numbers
+returns-2 c =
+    let s = c .before .before .before in
+    none-those (λ at. eqb (getD (s .args .p .staged) at none) none)
+    ∙ sym (ap (λ (o : Op). wanted (s .args .z) (s .args .p) o (numbers (s .args .args))) (c .enum-told2 .given .1))
+
+returns-3 : tie.Need-returns-3
+unfolding wanted touched numbers
+returns-3 c =
+    let at-enum-told3 = c .before .before in
+    let s = at-enum-told3 .before .before .before in
+    c .lacks .ensures .0 ∙ one-those (λ at. eqb (getD (s .args .p .staged) at none) none) _
+    ∙ sym (ap (λ (o : Op). wanted (s .args .z) (s .args .p) o (numbers (s .args .args))) (at-enum-told3 .enum-told3 .given .1))
+
+returns-4 : tie.Need-returns-4
+unfolding wanted touched numbers
+returns-4 c =
+    let at-enum-told4 = c .before .before in
+    let s = at-enum-told4 .before .before .before in
+    c .lacks2 .ensures .0 ∙ one-those (λ at. eqb (getD (s .args .p .staged) at none) none) _
+    ∙ sym (ap (λ (o : Op). wanted (s .args .z) (s .args .p) o (numbers (s .args .args))) (at-enum-told4 .enum-told4 .given .1))
+
+returns-5 : tie.Need-returns-5
+unfolding wanted touched numbers
+returns-5 c =
+    let s = c .before .before .before .before in
+    c .wanted-swap .ensures ∙ sym (ap (λ (o : Op). wanted (s .args .z) (s .args .p) o (numbers (s .args .args))) (c .before .enum-told5 .given .1))
+
+returns-6 : tie.Need-returns-6
+unfolding wanted touched numbers
+returns-6 c =
+    let s = c .before .before .before .before in
+    c .wanted-size .ensures ∙ sym (ap (λ (o : Op). wanted (s .args .z) (s .args .p) o (numbers (s .args .args))) (c .before .enum-told6 .given .1))
+
+returns-7 : tie.Need-returns-7
+unfolding wanted touched numbers
+returns-7 c =
+    let s = c .before .before .before in
+    none-those (λ at. eqb (getD (s .args .p .staged) at none) none)
+    ∙ sym (ap (λ (o : Op). wanted (s .args .z) (s .args .p) o (numbers (s .args .args))) (c .enum-told7 .given .1))
+
+pub wanted-spec : {M : Type 1} → statement M
+wanted-spec =
+    tie.close
+    (tie.spec
+    enum-told
+    enum-told-2
+    enum-told-3
+    (λ c. search needs)
+    lacks-requires
+    enum-told-4
+    (λ c. search needs)
+    lacks-requires-2
+    enum-told-5
+    wanted-swap-requires
+    enum-told-6
+    wanted-size-requires
+    enum-told-7
+    returns
+    returns-2
+    returns-3
+    returns-4
+    returns-5
+    returns-6
+    returns-7)

@@ -1,0 +1,37 @@
+-- `machine_plan::room::wanted_size` meets its contract. Assumes nothing.
+use mathlib.Core.Path.{refl, ap, _∙_}
+use mathlib.Core.List.{List}
+use Prim.Native.Nat.{ℕ}
+use lib.ListN.{length, getD}
+use lib.Dec.{eqb}
+use borrow.Author.Tests.{lt-ltb, le-ltb}
+use Rattle.area.proofs.Laws.Pick.{yes, no}
+use Rattle.host.specs.Lists.{those}
+use Rattle.host.specs.Empty.{none}
+use Rattle.machine_rules.specs.Plan.{touched, wanted}
+use Rattle.machine_plan.specs.Numbers.{numbers}
+use Rattle.machine_plan.proofs.Laws.Room.{none-those, one-those}
+use borrow.Author.Needs.{needs}
+use Rattle.machine_plan.proofs.room.wanted_size.Statement.{statement}
+use Rattle.machine_plan.proofs.room.wanted_size.Tie as tie
+
+lacks-requires : tie.Need-lacks-requires
+lacks-requires c κs = search needs
+
+returns : tie.Need-returns
+unfolding wanted touched numbers
+returns c =
+    let at-if1 = c .before .before in
+    let s = at-if1 .before .before .before .before in
+    c .lacks .ensures .0 ∙ one-those (λ at. eqb (getD (s .args .p .staged) at none) none) _
+    ∙ ap (λ (l : List ℕ). length (those (λ at. eqb (getD (s .args .p .staged) at none) none) l)) (yes _ _ _ (lt-ltb _ _ (at-if1 .if1 .taken)) refl)
+
+returns-2 : tie.Need-returns-2
+unfolding wanted touched numbers
+returns-2 c =
+    let s = c .before .before .before .before in
+    none-those (λ at. eqb (getD (s .args .p .staged) at none) none)
+    ∙ ap (λ (l : List ℕ). length (those (λ at. eqb (getD (s .args .p .staged) at none) none) l)) (no _ _ _ (le-ltb _ _ (c .if1 .left)) refl)
+
+pub wanted-size-spec : {M : Type 1} → statement M
+wanted-size-spec = tie.close (tie.spec (λ c. search needs) lacks-requires returns returns-2)

@@ -1,0 +1,49 @@
+-- `machine_plan::room::wanted_swap` meets its contract. Assumes nothing.
+use mathlib.Core.Path.{refl, ap, ap₂, _∙_}
+use mathlib.Core.List.{List}
+use Prim.Native.Nat.{ℕ, _+_}
+use native.Mathlib.Omega.{arith}
+use lib.ListN.{length, getD}
+use lib.Dec.{eqb}
+use borrow.Author.Tests.{eq-eqb, ne-eqb}
+use Rattle.area.proofs.Laws.Pick.{yes, no}
+use Rattle.host.specs.Lists.{those}
+use Rattle.host.specs.Empty.{none}
+use Rattle.machine_rules.specs.Plan.{touched, wanted}
+use Rattle.machine_plan.specs.Numbers.{numbers}
+use Rattle.machine_plan.proofs.Laws.Room.{one-those, two-those}
+use borrow.Author.Needs.{needs}
+use Rattle.machine_plan.proofs.room.wanted_swap.Statement.{statement}
+use Rattle.machine_plan.proofs.room.wanted_swap.Tie as tie
+
+lacks-requires : tie.Need-lacks-requires
+lacks-requires c κs = search needs
+
+returns : tie.Need-returns
+unfolding wanted touched numbers
+returns c =
+    let s = c .before .before .before .before .before in
+    c .lacks .ensures .0 ∙ one-those (λ at. eqb (getD (s .args .p .staged) at none) none) _
+    ∙ ap (λ (l : List ℕ). length (those (λ at. eqb (getD (s .args .p .staged) at none) none) l)) (yes _ _ _ (eq-eqb _ _ (c .before .if1 .taken)) refl)
+
+lacks-requires-2 : tie.Need-lacks-requires-2
+lacks-requires-2 c κs = search needs
+
+lacks-requires-3 : tie.Need-lacks-requires-3
+lacks-requires-3 c κs = search needs
+
+add-result : tie.Need-add-result
+add-result c = omega (arith, c .before .lacks2 .ensures .1, c .lacks3 .ensures .1)
+
+returns-2 : tie.Need-returns-2
+unfolding wanted touched numbers
+returns-2 c =
+    let at-if1 = c .before .before in
+    let s = at-if1 .before .before .before .before in
+    ap₂ (λ (a b : ℕ). a + b) (c .before .lacks2 .ensures .0) (c .lacks3 .ensures .0) ∙ two-those (λ at. eqb (getD (s .args .p .staged) at none) none) _ _
+    ∙ ap (λ (l : List ℕ). length (those (λ at. eqb (getD (s .args .p .staged) at none) none) l)) (no _ _ _ (ne-eqb _ _ (at-if1 .if1 .left)) refl)
+
+pub wanted-swap-spec : {M : Type 1} → statement M
+wanted-swap-spec =
+    tie.close
+    (tie.spec (λ c. search needs) (λ c. search needs) lacks-requires returns lacks-requires-2 lacks-requires-3 add-result returns-2)

@@ -1,0 +1,39 @@
+-- `machine_plan::spans::bad_span` meets its contract: a walk down the definition. Assumes nothing.
+use mathlib.Core.Path.{refl, sym, _∙_}
+use Prim.Native.Nat.{_+_}
+use native.Mathlib.Nat.{mod-le}
+use native.Mathlib.Omega.{arith}
+use borrow.Author.Tests.{ltb-false, eq-eqb, ne-eqb}
+use Rattle.area.proofs.Laws.Pick.{yes, no}
+use Rattle.machine_rules.specs.Plan.{badSpan}
+use borrow.Author.Needs.{needs}
+use Rattle.machine_plan.proofs.spans.bad_span.Statement.{statement}
+use Rattle.machine_plan.proofs.spans.bad_span.Tie as tie
+
+returns : tie.Need-returns
+unfolding badSpan
+returns c = yes _ _ _ (eq-eqb _ _ (c .if1 .taken)) refl
+
+above-requires : tie.Need-above-requires
+above-requires c κs = search needs
+
+returns-2 : tie.Need-returns-2
+unfolding badSpan
+returns-2 c =
+    let at-if1 = c .before .before in
+    no _ _ _ (ne-eqb _ _ (at-if1 .if1 .left)) (yes _ _ _ (sym (c .before .above .ensures) ∙ c .if2 .taken) refl)
+
+add-result : tie.Need-add-result
+add-result c =
+    let s = c .before .before .before in
+    let within = ltb-false (s .args .end) (s .args .at + s .args .n) (sym (c .before .above .ensures) ∙ c .if2 .left) in
+    omega (arith, within, s .fits .end, mod-le (s .args .at) (s .args .z))
+
+returns-3 : tie.Need-returns-3
+unfolding badSpan
+returns-3 c =
+    let at-if1 = c .before .before in
+    no _ _ _ (ne-eqb _ _ (at-if1 .if1 .left)) (no _ _ _ (sym (c .before .above .ensures) ∙ c .if2 .left) refl)
+
+pub bad-span-spec : {M : Type 1} → statement M
+bad-span-spec = tie.close (tie.spec returns above-requires returns-2 (λ c. search needs) add-result returns-3)

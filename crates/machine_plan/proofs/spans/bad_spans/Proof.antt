@@ -1,0 +1,131 @@
+-- `machine_plan::spans::bad_spans` meets its contract, arm by arm. Assumes nothing.
+use mathlib.Core.Path.{sym, ap, _∙_}
+use native.Mathlib.Nat.{mul-le-mul}
+use native.Mathlib.Omega.{arith}
+use borrow.Author.Needs.{needs}
+use Rattle.machine_rules.specs.Plan.{badSpans}
+use Rattle.machine_plan.specs.Numbers.{sectorsOf, numbers}
+use Rattle.machine_plan.proofs.Laws.Numbers.{spans-read}
+use Rattle.sia.specs.declared.Op.{Op}
+use Rattle.machine_plan.proofs.spans.bad_spans.Statement.{statement}
+use Rattle.machine_plan.proofs.spans.bad_spans.Tie as tie
+
+enum-told : tie.Need-enum-told
+enum-told c = search needs
+
+mul-bad-span : tie.Need-mul-bad-span
+mul-bad-span c = let s = c .before .before in omega (arith, mul-le-mul (s .pre .1) (s .pre .0 .most))
+
+bad-span-requires : tie.Need-bad-span-requires
+bad-span-requires c κs = search needs
+
+enum-told-2 : tie.Need-enum-told-2
+enum-told-2 c = search needs
+
+mul-bad-span-2 : tie.Need-mul-bad-span-2
+mul-bad-span-2 c = let s = c .before .before in omega (arith, mul-le-mul (s .pre .1) (s .pre .0 .most))
+
+bad-span-requires-2 : tie.Need-bad-span-requires-2
+bad-span-requires-2 c κs = search needs
+
+enum-told-3 : tie.Need-enum-told-3
+enum-told-3 c = search needs
+
+bad-span-requires-3 : tie.Need-bad-span-requires-3
+bad-span-requires-3 c κs = search needs
+
+enum-told-4 : tie.Need-enum-told-4
+enum-told-4 c = search needs
+
+bad-pair-requires : tie.Need-bad-pair-requires
+bad-pair-requires c κs = search needs
+
+enum-told-5 : tie.Need-enum-told-5
+enum-told-5 c = search needs
+
+bad-pair-requires-2 : tie.Need-bad-pair-requires-2
+bad-pair-requires-2 c κs = search needs
+
+enum-told-6 : tie.Need-enum-told-6
+enum-told-6 c = search needs
+
+bad-size-requires : tie.Need-bad-size-requires
+bad-size-requires c κs = search needs
+
+enum-told-7 : tie.Need-enum-told-7
+enum-told-7 c = search needs
+
+returns : tie.Need-returns
+unfolding badSpans numbers
+returns c =
+    let s = c .before .before .before in
+    c .bad-span .ensures ∙ spans-read (s .args .z) (s .args .size) (s .args .seen) (s .args .args)
+    ∙ sym (ap (λ (o : Op). badSpans (s .args .z) (s .args .size) (sectorsOf (s .args .seen)) o (numbers (s .args .args))) (c .before .enum-told .given .1))
+
+returns-2 : tie.Need-returns-2
+unfolding badSpans numbers
+returns-2 c =
+    let s = c .before .before .before in
+    c .bad-span2 .ensures ∙ spans-read (s .args .z) (s .args .size) (s .args .seen) (s .args .args)
+    ∙ sym (ap (λ (o : Op). badSpans (s .args .z) (s .args .size) (sectorsOf (s .args .seen)) o (numbers (s .args .args))) (c .before .enum-told2 .given .1))
+
+returns-3 : tie.Need-returns-3
+unfolding badSpans numbers
+returns-3 c =
+    let s = c .before .before .before in
+    c .bad-span3 .ensures ∙ sym (ap (λ (o : Op). badSpans (s .args .z) (s .args .size) (sectorsOf (s .args .seen)) o (numbers (s .args .args)))
+    (c .before .enum-told3 .given .1))
+
+returns-4 : tie.Need-returns-4
+unfolding badSpans numbers
+returns-4 c =
+    let s = c .before .before .before in
+    c .bad-pair .ensures ∙ sym (ap (λ (o : Op). badSpans (s .args .z) (s .args .size) (sectorsOf (s .args .seen)) o (numbers (s .args .args)))
+    (c .before .enum-told4 .given .1))
+
+returns-5 : tie.Need-returns-5
+unfolding badSpans numbers
+returns-5 c =
+    let s = c .before .before .before in
+    c .bad-pair2 .ensures ∙ sym (ap (λ (o : Op). badSpans (s .args .z) (s .args .size) (sectorsOf (s .args .seen)) o (numbers (s .args .args)))
+    (c .before .enum-told5 .given .1))
+
+returns-6 : tie.Need-returns-6
+unfolding badSpans numbers
+returns-6 c =
+    let s = c .before .before .before in
+    c .bad-size .ensures ∙ sym (ap (λ (o : Op). badSpans (s .args .z) (s .args .size) (sectorsOf (s .args .seen)) o (numbers (s .args .args)))
+    (c .before .enum-told6 .given .1))
+
+returns-7 : tie.Need-returns-7
+unfolding badSpans numbers
+returns-7 c =
+    let s = c .before .before in
+    sym (ap (λ (o : Op). badSpans (s .args .z) (s .args .size) (sectorsOf (s .args .seen)) o (numbers (s .args .args))) (c .enum-told7 .given .1))
+
+pub bad-spans-spec : {M : Type 1} → statement M
+bad-spans-spec =
+    tie.close
+    (tie.spec
+    enum-told
+    mul-bad-span
+    bad-span-requires
+    enum-told-2
+    mul-bad-span-2
+    bad-span-requires-2
+    enum-told-3
+    bad-span-requires-3
+    enum-told-4
+    bad-pair-requires
+    enum-told-5
+    bad-pair-requires-2
+    enum-told-6
+    bad-size-requires
+    enum-told-7
+    returns
+    returns-2
+    returns-3
+    returns-4
+    returns-5
+    returns-6
+    returns-7)

@@ -1,0 +1,150 @@
+// Checks 21 to 42, in order, of one instruction, and its plan.
+use crate::Plan;
+use crate::lookup::no_sectors;
+use crate::lookup::source_of;
+use machine_inputs::decoded;
+use host::Place;
+use host::Progress;
+use host::Terms;
+use machine_inputs::Args;
+use machine_inputs::ill_formed;
+use machine_inputs::past_end;
+use crate::judge::weighed;
+use crate::kinds::changes;
+use sia::Instruction;
+use sia::Op;
+ghost use mathlib.Core.Path.{_≡_};
+ghost use mathlib.Core.List.{[]};
+ghost use lib.ListN.{length};
+ghost use Rattle.area.specs.Pick.{both};
+ghost use Rattle.area.specs.Area.{same};
+ghost use Rattle.sia.specs.Names.{readOnly};
+ghost use Rattle.machine_rules.specs.View.{setting};
+ghost use Rattle.machine_rules.specs.Roots.{keptRoot};
+ghost use Rattle.machine_rules.specs.Plan as Says;
+ghost use Rattle.machine_rules.specs.Facts.{Good};
+ghost use Rattle.machine_plan.specs.Planned.{Plans, said, failed, argued, planOf};
+
+impl Plan {
+    // A failure, by its number, with nothing else.
+    fn failed(op: Op, number: u64) -> Plan
+        ensures { λ r. ⌜ said r ≡ failed op number ⌝ }
+    {
+        let args = Args::none();
+        let seen = no_sectors();
+        Plan {
+            number,
+            op,
+            args,
+            seen,
+            cost: 0,
+            size: 0,
+            hashes: 0,
+            count: 0,
+        }
+    }
+}
+
+// 24: whether an instruction would change a contract in read-only mode.
+fn changes_nothing(op: Op, id: [u8; 32]) -> bool
+    ensures { λ r. ⌜ r ≡ both (Says.changes op) (same id readOnly) ⌝ }
+{
+    if !changes(op) {
+        return false;
+    }
+    sia::is_read_only(id)
+}
+
+// 24 to 42, of arguments that are told.
+fn argued<'a>(
+    z: u64,
+    sectors: u64,
+    copies: u64,
+    places: [Place; 8],
+    terms: Terms,
+    p: Progress,
+    asked: bool,
+    op: Op,
+    args: Args,
+    diskroots: &'a [u8],
+    stageroots: &'a [u8],
+) -> Plan
+    requires { ⌜ Plans z (setting sectors copies places terms [] []) p (now diskroots) (now stageroots) ⌝ }
+    requires { ⌜ Good z (setting sectors copies places terms [] []) p ⌝ }
+    ensures { λ r. ⌜ said r ≡ argued z (setting sectors copies places terms [] []) (keptRoot (now (diskroots .entry)) (now (stageroots .entry))) p asked op args ⌝ }
+{
+    let head = terms.head;
+    let id = head.contract;
+    if changes_nothing(op, id) {
+        return Plan::failed(op, 24);
+    }
+    let key = args.key;
+    let source = source_of(z, diskroots, stageroots, places, id, p, op, key);
+    if !source.there {
+        return Plan::failed(op, 25);
+    }
+    let seen = source.seen;
+    let count = seen.count as u64;
+    let w = weighed(z, sectors, copies, places, terms, p, asked, op, args, count);
+    if w.number != 0 {
+        return Plan::failed(op, w.number);
+    }
+    Plan {
+        number: 0,
+        op,
+        args,
+        seen,
+        cost: w.cost,
+        size: w.size,
+        hashes: w.hashes,
+        count: w.count,
+    }
+}
+
+// Whether an instruction can run, and what it costs and changes then. `input` is the input area, of the declared length.
+pub fn planned<'a>(
+    z: u64,
+    sectors: u64,
+    copies: u64,
+    places: [Place; 8],
+    terms: Terms,
+    p: Progress,
+    i: Instruction,
+    diskroots: &'a [u8],
+    stageroots: &'a [u8],
+    input: &[u8],
+) -> Plan
+    requires { ⌜ Plans z (setting sectors copies places terms [] []) p (now diskroots) (now stageroots) ⌝ }
+    requires { ⌜ Good z (setting sectors copies places terms [] []) p ⌝ }
+    requires { ⌜ length (now input) ≡ terms .head .length ⌝ }
+    ensures { λ r. ⌜ said r ≡
+        planOf z (setting sectors copies places terms [] []) (keptRoot (now (diskroots .entry)) (now (stageroots .entry))) p i (now (input .entry)) ⌝ }
+{
+    let name = i.name;
+    let op = sia::op_of(name);
+    if ill_formed(i) {
+        return Plan::failed(op, 21);
+    }
+    let head = terms.head;
+    if past_end(head.length, i) {
+        return Plan::failed(op, 22);
+    }
+    let given = decoded(op, i, input);
+    if !given.told {
+        return Plan::failed(op, 23);
+    }
+    let args = given.args;
+    argued(
+        z,
+        sectors,
+        copies,
+        places,
+        terms,
+        p,
+        i.proof,
+        op,
+        args,
+        diskroots,
+        stageroots,
+    )
+}

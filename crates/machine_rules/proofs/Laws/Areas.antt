@@ -1,0 +1,90 @@
+-- Instructions keep the lengths of stage and output. Assumes nothing.
+use mathlib.Core.Path.{_≡_, refl, sym, ap, _∙_, subst}
+use mathlib.Core.Bool.{Bool, true, false, not}
+use mathlib.Core.List.{List, [], _∷_}
+use Prim.Native.Nat.{ℕ, zero, suc, _/_}
+use lib.ListN.{length, getD}
+use lib.Dec.{ltb, eqb}
+use Rattle.area.specs.Pick.{pick, either}
+use Rattle.area.specs.Area.{zeros}
+use Rattle.area.proofs.Laws.Pick.{by, picks, skips, never}
+use Rattle.area.proofs.Laws.Puts.{length-put}
+use Rattle.sia.specs.Names.{opOf}
+use Rattle.host.specs.Empty.{none}
+use Rattle.machine_rules.specs.View.{Setting, Turn}
+use Rattle.machine_rules.specs.Inputs.{Args, argsOf, inputsOf}
+use Rattle.machine_rules.specs.Plan.{judged}
+use Rattle.machine_rules.specs.Effect.{Ground, groundOf, Staging, newCopy, copied, laid, spanWritten, resized, effect, rehashed}
+use Rattle.machine_rules.specs.Run.{failing, succeeding, stepped, current, step, ready, runs}
+use Rattle.machine_rules.proofs.Laws.Steps.{runs-go, runs-stop}
+use Rattle.sia.specs.declared.Op.{Op}
+use Rattle.sia.specs.declared.Op.the-variants.{Read, ReadSector, Write, Copy, Swap, Truncate, Unknown}
+use Rattle.sia.specs.declared.Instruction.{Instruction}
+use Rattle.machine_rules.specs.Roots.{rootAt}
+
+-- ---- areas keep their lengths
+
+pub or-right : (a b : Bool) → b ≡ true → either a b ≡ true
+unfolding pick
+or-right true b e = refl
+or-right false b e = e
+
+pub either-second : (a b : Bool) → either (not a) b ≡ true → a ≡ true → b ≡ true
+unfolding pick
+either-second true b e f = e
+either-second false b e f = never (sym f)
+
+written-length : (z : ℕ) (n : Ground) (at : ℕ) (bs : List ℕ) (g : Staging) → length (spanWritten z n at bs g .bytes) ≡ length (g .bytes)
+unfolding spanWritten laid copied newCopy
+written-length z n at bs g =
+    length-put _ _ bs
+    ∙ by (eqb (getD (g .staged) (at / z) none) none)
+    (λ e. ap (λ (x : Staging). length (x .bytes)) (picks (eqb (getD (g .staged) (at / z) none) none) _ g e) ∙ length-put (g .bytes) _ _)
+    (λ e. ap (λ (x : Staging). length (x .bytes)) (skips (eqb (getD (g .staged) (at / z) none) none) _ g e))
+
+resized-length : (z : ℕ) (n : Ground) (now to : ℕ) (g : Staging) → length (resized z n now to g .bytes) ≡ length (g .bytes)
+unfolding resized newCopy
+resized-length z n now to g =
+    by (ltb now to)
+    (λ e. ap (λ (x : Staging). length (x .bytes)) (picks (ltb now to) _ _ e) ∙ length-put (g .bytes) _ (zeros z))
+    (λ e. by (ltb to now)
+    (λ d. ap (λ (x : Staging). length (x .bytes)) (skips (ltb now to) _ _ e ∙ picks (ltb to now) _ _ d))
+    (λ d. ap (λ (x : Staging). length (x .bytes)) (skips (ltb now to) _ _ e ∙ skips (ltb to now) _ _ d)))
+
+pub effect-bytes : (z : ℕ) (n : Ground) (size : ℕ) (op : Op) (a : Args) (g : Staging) → length (effect z n size op a g .bytes) ≡ length (g .bytes)
+unfolding effect
+effect-bytes z n size Read a g = refl
+effect-bytes z n size ReadSector a g = refl
+effect-bytes z n size Write a g = written-length z n (a .first) _ g
+effect-bytes z n size Copy a g = written-length z n (a .first) _ g
+effect-bytes z n size Swap a g = written-length z n (a .first) _ _ ∙ written-length z n (a .second) _ g
+effect-bytes z n size Truncate a g = resized-length z n size (a .first) g
+effect-bytes z n size Unknown a g = refl
+
+pub rehashed-length : (z : ℕ) (g : Staging) (l copies : List ℕ) → length (rehashed z g l copies) ≡ length copies
+unfolding rehashed
+rehashed-length z g [] copies = refl
+rehashed-length z g (at ∷ l) copies = length-put _ _ _ ∙ rehashed-length z g l copies
+
+-- the areas of two turns are equally long
+pub record Alike (t u : Turn) : Type 0 where
+  pub stage : length (t .stage) ≡ length (u .stage)
+  pub output : length (t .output) ≡ length (u .output)
+  pub roots : length (t .roots) ≡ length (u .roots)
+
+pub stepped-alike : (z : ℕ) (s : Setting) (i : Instruction) (l : List (List ℕ)) (t : Turn) → Alike (stepped z s i l t) t
+unfolding stepped succeeding failing
+stepped-alike z s i l t =
+    by (eqb (judged z s (rootAt z s t) (t .progress) i l) 0)
+    (λ e. subst (λ (x : Turn). Alike x t) (sym (picks (eqb (judged z s (rootAt z s t) (t .progress) i l) 0) _ _ e))
+    (record { stage = effect-bytes z (groundOf s) (t .progress .size) (opOf (i .name)) (argsOf (opOf (i .name)) l) _; output = length-put (t .output) _ _; roots = rehashed-length z _ _ (t .roots) }))
+    (λ e. subst (λ (x : Turn). Alike x t) (sym (skips (eqb (judged z s (rootAt z s t) (t .progress) i l) 0) _ _ e)) (record { stage = refl; output = length-put (t .output) _ _; roots = refl }))
+
+pub runs-alike : (z : ℕ) (s : Setting) (a : List ℕ) (k n : ℕ) (t : Turn) → Alike (runs z s a k n t) t
+unfolding runs step
+runs-alike z s a k zero t = record { stage = refl; output = refl; roots = refl }
+runs-alike z s a k (suc n) t =
+    by (ready s k t)
+    (λ r. let u = stepped-alike z s (current s t) (inputsOf (current s t) a) t in let v = runs-alike z s a k n (step z s a t) in
+    subst (λ (x : Turn). Alike x t) (sym (runs-go z s a k n t r)) (record { stage = v .stage ∙ u .stage; output = v .output ∙ u .output; roots = v .roots ∙ u .roots }))
+    (λ r. subst (λ (x : Turn). Alike x t) (sym (runs-stop z s a k (suc n) t r)) (record { stage = refl; output = refl; roots = refl }))

@@ -1,0 +1,353 @@
+-- What is known of an instruction that runs, and that its effect keeps the staged positions in order. Assumes nothing.
+use mathlib.Core.Path.{_≡_, refl, sym, ap, _∙_, subst}
+use mathlib.Core.Bool.{Bool, true, false, not}
+use mathlib.Core.List.{List, [], _∷_}
+use Prim.Native.Nat.{ℕ, zero, suc, _+_, _*_, _/_, _%_, _≤_, _<_}
+use native.Mathlib.Nat.{div-add-mod', div-lt-iff-lt-mul, lt-of-mul-lt-mul-right, le-trans, suc-mul, mul-le-mul-right, le-of-mul-le-mul-right}
+use native.Mathlib.Omega.{arith}
+use lib.ListN.{length, drop, getD, set, length-set}
+use lib.Seq.{getD-set-same, getD-set-other}
+use lib.Dec.{ltb, eqb}
+use borrow.Author.Tests.{not-true, not-false, ltb-true, ltb-false, eqb-true, eqb-false, ne-eqb}
+use Rattle.area.specs.Pick.{pick, both, either}
+use Rattle.area.specs.Area.{zeros}
+use Rattle.area.specs.Lowest.{lowest}
+use Rattle.area.proofs.Laws.Pick.{by, picks, skips, never, both-left, either-left, either-right}
+use Rattle.sia.specs.Names.{opOf}
+use Rattle.sia.specs.Encode.{every}
+use Rattle.host.specs.Lists.{those, count, unused}
+use Rattle.host.specs.Empty.{none}
+use Rattle.host.specs.Places.{others, freeCopy}
+use Rattle.host.specs.Facts.{Staged}
+use Rattle.machine_rules.specs.View.{Setting, readOnlyMode, freeCopies}
+use Rattle.machine_rules.specs.Inputs.{Args, argsOf}
+use Rattle.machine_rules.specs.Plan.{sourceOf, changes, badSpan, badSize, badSpans, cost, touched, wanted, newSize, recordCount, judgedSource, judgedInputs, judged}
+use Rattle.machine_rules.specs.Effect.{Ground, groundOf, Staging, newCopy, copied, laid, spanWritten, resized, effect}
+use Rattle.machine_rules.proofs.Laws.Lists.{some-set, lowest-is, count-but-one}
+use Rattle.machine_rules.proofs.Laws.Staged.{Free, copy-kept, grow-kept, shrink-kept}
+use Rattle.sia.specs.declared.Op.{Op}
+use Rattle.sia.specs.declared.Op.the-variants.{Read, ReadSector, Write, Copy, Swap, Truncate, Unknown}
+use Rattle.sia.specs.declared.Instruction.{Instruction}
+use Rattle.host.specs.declared.Progress.{Progress}
+use Rattle.machine_rules.specs.declared.Spot.{Spot}
+
+-- both parts of a test that does not hold
+pub neither : (a b : Bool) → either a b ≡ false → (a ≡ false) × (b ≡ false)
+neither a b e = (either-left a b e, either-right a b e)
+
+-- ---- a check that did not apply
+
+pub passes : (b : Bool) (n r : ℕ) → pick b (suc n) r ≡ 0 → (b ≡ false) × (r ≡ 0)
+unfolding pick
+passes true n r e = absurd (omega arith)
+passes false n r e = (refl, e)
+
+-- what is known of an instruction that runs
+pub record Passed (z : ℕ) (s : Setting) (f : Spot → List ℕ) (p : Progress) (op : Op) (a : Args) (count : ℕ) : Type 0 where
+  pub allowed : both (changes op) (readOnlyMode (s .terms)) ≡ false
+  pub spans : badSpans z (p .size) (sourceOf z s f p op (a .key)) op a ≡ false
+  pub paid : p .tally + cost (s .terms .head .length) (s .terms .prices) op (a .len) ≤ s .terms .budget
+  pub free : wanted z p op a ≤ freeCopies s p
+  pub fits : newSize (p .size) op a + others (s .terms .head .contract) (s .places) ≤ s .sectors * z
+  pub room : p .written + count + 72 ≤ s .terms .room
+
+passed-inputs : (z : ℕ) (s : Setting) (f : Spot → List ℕ) (p : Progress) (i : Instruction) (op : Op) (l : List (List ℕ)) → judgedInputs z s f p i op l ≡ 0
+    → Passed z s f p op (argsOf op l) (recordCount z (i .proof) (sourceOf z s f p op (argsOf op l .key)) op (argsOf op l))
+unfolding judgedInputs judgedSource
+passed-inputs z s f p i op l e =
+    let c23 = passes _ 22 _ e in
+    let c24 = passes _ 23 _ (c23 .1) in
+    let c25 = passes _ 24 _ (c24 .1) in
+    let c26 = passes _ 25 _ (c25 .1) in
+    let c27 = passes _ 26 _ (c26 .1) in
+    let c28 = passes _ 27 _ (c27 .1) in
+    let c40 = passes _ 39 _ (c28 .1) in
+    let c41 = passes _ 40 _ (c40 .1) in
+    let c42 = passes _ 41 _ (c41 .1) in
+    record { allowed = c24 .0; spans = c26 .0; paid = ltb-false _ _ (c28 .0); free = ltb-false _ _ (c40 .0); fits = ltb-false _ _ (c41 .0); room = ltb-false _ _ (c42 .0) }
+
+pub passed : (z : ℕ) (s : Setting) (f : Spot → List ℕ) (p : Progress) (i : Instruction) (l : List (List ℕ)) → judged z s f p i l ≡ 0
+    → Passed z s f p (opOf (i .name)) (argsOf (opOf (i .name)) l) (recordCount z (i .proof) (sourceOf z s f p (opOf (i .name)) (argsOf (opOf (i .name)) l .key)) (opOf (i .name)) (argsOf (opOf (i .name)) l))
+unfolding judged
+passed z s f p i l e = passed-inputs z s f p i (opOf (i .name)) l (passes _ 21 _ (passes _ 20 _ e .1) .1)
+
+-- ---- positions
+
+pub whole-sectors : (z n : ℕ) → n % z ≡ 0 → n / z * z ≡ n
+whole-sectors z n e = omega (arith, div-add-mod' n z)
+
+-- a byte below a whole size lies in a sector below it
+pub sector-below : (z at size : ℕ) → 0 < z → size % z ≡ 0 → at < size → at / z < size / z
+sector-below z at size pos e lt = div-lt-iff-lt-mul {k = z} {x = at} {y = size / z} pos .1 (subst (λ (n : ℕ). at < n) (sym (whole-sectors z size e)) lt)
+
+-- ---- the stage staged
+
+-- a copy of `at`, unless it has one
+unfoldable pub copiedMap : ℕ → ℕ → List ℕ → List ℕ
+copiedMap copies at staged = pick (eqb (getD staged at none) none) (set staged at (lowest (unused staged) 0 copies)) staged
+
+pub copied-map : (z : ℕ) (n : Ground) (at : ℕ) (g : Staging) → copied z n at g .staged ≡ copiedMap (n .copies) at (g .staged)
+unfolding copied newCopy freeCopy copiedMap pick
+copied-map z n at g = under (eqb (getD (g .staged) at none) none) _ _
+  where
+    under : (b : Bool) (x y : Staging) → pick b x y .staged ≡ pick b (x .staged) (y .staged)
+    under true x y = refl
+    under false x y = refl
+
+pub written-map : (z : ℕ) (n : Ground) (at : ℕ) (bs : List ℕ) (g : Staging) → spanWritten z n at bs g .staged ≡ copiedMap (n .copies) (at / z) (g .staged)
+unfolding spanWritten laid
+written-map z n at bs g = copied-map z n (at / z) g
+
+pub free-slot : (copies : ℕ) (staged : List ℕ) → 0 < count (unused staged) 0 copies → Free copies (lowest (unused staged) 0 copies) staged
+free-slot copies staged h = let r = lowest-is (unused staged) 0 copies h in record { below = omega (arith, r .1); unused = not-true _ (r .0) }
+
+pub length-copied : (copies at : ℕ) (staged : List ℕ) → length (copiedMap copies at staged) ≡ length staged
+unfolding copiedMap
+length-copied copies at staged =
+    by (eqb (getD staged at none) none)
+    (λ e. ap length (picks (eqb (getD staged at none) none) (set staged at (lowest (unused staged) 0 copies)) staged e) ∙ length-set staged at _)
+    (λ e. ap length (skips (eqb (getD staged at none) none) (set staged at (lowest (unused staged) 0 copies)) staged e))
+
+-- how many slots a position asks for
+unfoldable pub asks : List ℕ → ℕ → ℕ
+asks staged at = pick (eqb (getD staged at none) none) 1 0
+
+copied-kept : (copies start now at : ℕ) (staged : List ℕ) → copies ≤ 16 → at < now → asks staged at ≤ count (unused staged) 0 copies → Staged copies start now staged → Staged copies start now (copiedMap copies at staged)
+unfolding copiedMap asks
+copied-kept copies start now at staged few lt h f =
+    by (eqb (getD staged at none) none)
+    (λ e. subst (λ (x : List ℕ). Staged copies start now x) (sym (picks (eqb (getD staged at none) none) (set staged at (lowest (unused staged) 0 copies)) staged e))
+    (copy-kept copies start few now at _ staged lt (free-slot copies staged (omega (arith, picks {A = ℕ} (eqb (getD staged at none) none) 1 0 e))) f))
+    (λ e. subst (λ (x : List ℕ). Staged copies start now x) (sym (skips (eqb (getD staged at none) none) (set staged at (lowest (unused staged) 0 copies)) staged e)) f)
+
+-- what two positions ask for, one after the other
+pub asks-some : (staged : List ℕ) (at : ℕ) → eqb (getD staged at none) none ≡ true → asks staged at ≡ 1
+unfolding asks
+asks-some staged at e = picks (eqb (getD staged at none) none) 1 0 e
+
+asks-none : (staged : List ℕ) (at : ℕ) → eqb (getD staged at none) none ≡ false → asks staged at ≡ 0
+unfolding asks
+asks-none staged at e = skips (eqb (getD staged at none) none) 1 0 e
+
+asks-same : (l m : List ℕ) (at : ℕ) → getD l at none ≡ getD m at none → asks l at ≡ asks m at
+unfolding asks
+asks-same l m at e = ap (λ (x : ℕ). pick {A = ℕ} (eqb x none) 1 0) e
+
+pub copied-new : (copies at : ℕ) (staged : List ℕ) → eqb (getD staged at none) none ≡ true → copiedMap copies at staged ≡ set staged at (lowest (unused staged) 0 copies)
+unfolding copiedMap
+copied-new copies at staged e = picks (eqb (getD staged at none) none) _ staged e
+
+pub copied-old : (copies at : ℕ) (staged : List ℕ) → eqb (getD staged at none) none ≡ false → copiedMap copies at staged ≡ staged
+unfolding copiedMap
+copied-old copies at staged e = skips (eqb (getD staged at none) none) _ staged e
+
+unused-set : (staged : List ℕ) (at slot j : ℕ) → (j ≡ slot → ⊥) → unused staged j ≡ true → unused (set staged at slot) j ≡ true
+unused-set staged at slot j ne h = ap not (some-set (eqb j) staged at slot (not-true _ h) (ne-eqb j slot ne))
+
+pub asks-two : (copies at to : ℕ) (staged : List ℕ) → copies ≤ 16 → at < length staged → pick (eqb to at) (asks staged at) (asks staged at + asks staged to) ≤ count (unused staged) 0 copies
+    → (asks staged at ≤ count (unused staged) 0 copies) × (asks (copiedMap copies at staged) to ≤ count (unused (copiedMap copies at staged)) 0 copies)
+asks-two copies at to staged few lt h =
+    let one : asks staged at ≤ count (unused staged) 0 copies =
+    by (eqb to at)
+    (λ e. omega (arith, h, picks (eqb to at) (asks staged at) (asks staged at + asks staged to) e))
+    (λ e. omega (arith, h, skips (eqb to at) (asks staged at) (asks staged at + asks staged to) e)) in (
+      one,
+      by (eqb (getD staged at none) none)
+          (λ u. let fr = free-slot copies staged (omega (arith, one, asks-some staged at u)) in
+          rw (copied-new copies at staged u)
+          (by (eqb to at)
+          (λ e. let q = eqb-true to at e in
+          let g : getD (set staged at (lowest (unused staged) 0 copies)) to none ≡ lowest (unused staged) 0 copies =
+          ap (λ (x : ℕ). getD (set staged at (lowest (unused staged) 0 copies)) x none) q ∙ getD-set-same staged at (lowest (unused staged) 0 copies) none lt in
+          let k : eqb (getD (set staged at (lowest (unused staged) 0 copies)) to none) none ≡ false = ne-eqb (getD (set staged at (lowest (unused staged) 0 copies)) to none) none (λ x. omega (arith, g, fr .below)) in
+          omega (arith, asks-none (set staged at (lowest (unused staged) 0 copies)) to k))
+          (λ e. omega (
+            arith,
+            h,
+            skips (eqb to at) (asks staged at) (asks staged at + asks staged to) e,
+            asks-some staged at u,
+            asks-same (set staged at (lowest (unused staged) 0 copies)) staged to (getD-set-other staged at to (lowest (unused staged) 0 copies) none (eqb-false to at e)),
+            count-but-one (unused staged) (unused (set staged at (lowest (unused staged) 0 copies))) (lowest (unused staged) 0 copies) (unused-set staged at (lowest (unused staged) 0 copies)) 0 copies,
+          ))))
+          (λ u. rw (copied-old copies at staged u)
+          (by (eqb to at)
+          (λ e. let q = eqb-true to at e in let k : asks staged to ≡ asks staged at = ap (λ (x : ℕ). asks staged x) q in omega (arith, k, asks-none staged at u))
+          (λ e. omega (arith, h, skips (eqb to at) (asks staged at) (asks staged at + asks staged to) e)))),
+    )
+
+-- ---- what each instruction does to the staged
+
+-- 40 in terms of what positions ask for
+pub wanted-one : (staged : List ℕ) (at : ℕ) → length (those (λ n. eqb (getD staged n none) none) (at ∷ [])) ≡ asks staged at
+unfolding those asks pick
+wanted-one staged at = under (eqb (getD staged at none) none)
+  where
+    under : (b : Bool) → length (pick b (at ∷ []) []) ≡ pick b 1 0
+    under true = refl
+    under false = refl
+
+wanted-two : (staged : List ℕ) (at to : ℕ) → length (those (λ n. eqb (getD staged n none) none) (at ∷ to ∷ [])) ≡ asks staged at + asks staged to
+unfolding those asks pick
+wanted-two staged at to = under (eqb (getD staged at none) none) (eqb (getD staged to none) none)
+  where
+    under : (b c : Bool) → length (pick b (at ∷ pick c (to ∷ []) []) (pick c (to ∷ []) [])) ≡ pick b 1 0 + pick c 1 0
+    under true true = refl
+    under true false = refl
+    under false true = refl
+    under false false = refl
+
+pub span-in : (z size at n : ℕ) → badSpan z size at n ≡ false → at < size
+unfolding badSpan
+span-in z size at n e =
+    let a = neither _ _ e in
+    let b = neither _ _ (a .1) in
+    let ne = eqb-false n 0 (a .0) in
+    let le = ltb-false size (at + n) (b .0) in
+    omega (arith, ne)
+
+module _ (z : ℕ) (s : Setting) (p : Progress) (start : ℕ) (pos : 0 < z) (few : s .copies ≤ 16) (whole : p .size % z ≡ 0) (f : Staged (s .copies) start (p .size / z) (p .staged)) where
+  one-kept : (at : ℕ) → at < p .size → asks (p .staged) (at / z) ≤ freeCopies s p → Staged (s .copies) start (p .size / z) (copiedMap (s .copies) (at / z) (p .staged))
+  unfolding freeCopies
+  one-kept at lt h = copied-kept (s .copies) start (p .size / z) (at / z) (p .staged) few (sector-below z at (p .size) pos whole lt) h f
+
+  two-kept : (at to : ℕ) → at < p .size → to < p .size → p .size / z ≤ length (p .staged)
+      → pick (eqb (to / z) (at / z)) (asks (p .staged) (at / z)) (asks (p .staged) (at / z) + asks (p .staged) (to / z)) ≤ freeCopies s p
+      → Staged (s .copies) start (p .size / z) (copiedMap (s .copies) (to / z) (copiedMap (s .copies) (at / z) (p .staged)))
+  unfolding freeCopies
+  two-kept at to la lt len h =
+      let u = sector-below z at (p .size) pos whole la in
+      let v = sector-below z to (p .size) pos whole lt in
+      let q = asks-two (s .copies) (at / z) (to / z) (p .staged) few (omega arith) h in
+      copied-kept (s .copies) start (p .size / z) (to / z) _ few v (q .1) (copied-kept (s .copies) start (p .size / z) (at / z) (p .staged) few u (q .0) f)
+
+-- ---- Truncate
+
+next-sector : (z a b : ℕ) → 0 < z → a % z ≡ 0 → b % z ≡ 0 → a < b → b ≤ a + z → b / z ≡ suc (a / z)
+next-sector z a b pos ea eb lt le =
+    let wa = whole-sectors z a ea in
+    let wb = whole-sectors z b eb in
+    let up : a / z < b / z = lt-of-mul-lt-mul-right z {m = a / z} {n = b / z} (omega arith) in
+    let dn : b / z ≤ suc (a / z) = le-of-mul-le-mul-right {m = b / z} {n = suc (a / z)} {k = z} (omega (arith, suc-mul (a / z) z)) pos in
+    omega arith
+
+pub past-first : (now : ℕ) (staged : List ℕ) → every (λ n. eqb n none) (drop now staged) ≡ true → eqb (getD staged now none) none ≡ true
+unfolding every
+past-first zero [] h = refl
+past-first zero (x ∷ xs) h = both-left _ _ h
+past-first (suc n) [] h = refl
+past-first (suc n) (x ∷ xs) h = past-first n xs h
+
+new-copy-map : (z : ℕ) (n : Ground) (at : ℕ) (bs : List ℕ) (g : Staging) → newCopy z n at bs g .staged ≡ set (g .staged) at (lowest (unused (g .staged)) 0 (n .copies))
+unfolding newCopy freeCopy
+new-copy-map z n at bs g = refl
+
+pub resized-more : (z : ℕ) (n : Ground) (now to : ℕ) (g : Staging) → ltb now to ≡ true → resized z n now to g .staged ≡ set (g .staged) (now / z) (lowest (unused (g .staged)) 0 (n .copies))
+unfolding resized
+resized-more z n now to g e = ap (λ (x : Staging). x .staged) (picks (ltb now to) _ _ e) ∙ new-copy-map z n (now / z) (zeros z) g
+
+pub resized-less : (z : ℕ) (n : Ground) (now to : ℕ) (g : Staging) → ltb now to ≡ false → ltb to now ≡ true → resized z n now to g .staged ≡ set (g .staged) (to / z) none
+unfolding resized
+resized-less z n now to g e d = ap (λ (x : Staging). x .staged) (skips (ltb now to) _ _ e ∙ picks (ltb to now) _ _ d)
+
+pub resized-same : (z : ℕ) (n : Ground) (now to : ℕ) (g : Staging) → ltb now to ≡ false → ltb to now ≡ false → resized z n now to g .staged ≡ g .staged
+unfolding resized
+resized-same z n now to g e d = ap (λ (x : Staging). x .staged) (skips (ltb now to) _ _ e ∙ skips (ltb to now) _ _ d)
+
+-- what `badSize` rules out
+pub record Sized (z now to : ℕ) : Type 0 where
+  pub whole : to % z ≡ 0
+  pub up : to ≤ now + z
+  pub down : now ≤ to + z
+
+pub sized : (z now to : ℕ) → badSize z now to ≡ false → Sized z now to
+unfolding badSize
+sized z now to e =
+    let a = neither _ _ e in
+    let b = neither _ _ (a .1) in
+    record { whole = eqb-true _ _ (not-false _ (a .0)); up = ltb-false _ _ (b .0); down = ltb-false _ _ (b .1) }
+
+resized-kept : (z : ℕ) (s : Setting) (p : Progress) (start to : ℕ) (bytes : List ℕ) → 0 < z → s .copies ≤ 16 → p .size % z ≡ 0 → Staged (s .copies) start (p .size / z) (p .staged)
+    → Sized z (p .size) to → to ≤ length (p .staged) * z → (ltb (p .size) to ≡ true → asks (p .staged) (p .size / z) ≤ freeCopies s p)
+    → Staged (s .copies) start (to / z) (resized z (groundOf s) (p .size) to (record { staged = p .staged; bytes = bytes }) .staged)
+unfolding freeCopies
+resized-kept z s p start to bytes pos few whole f sz len free =
+    let g : Staging = record { staged = p .staged; bytes = bytes } in
+    by (ltb (p .size) to)
+    (λ e. let lt = ltb-true (p .size) to e in
+    let nx = next-sector z (p .size) to pos whole (sz .whole) lt (sz .up) in
+    let at : p .size / z < length (p .staged) = div-lt-iff-lt-mul {k = z} {x = p .size} {y = length (p .staged)} pos .1 (omega arith) in
+    let fr = free-slot (s .copies) (p .staged) (omega (arith, free e, asks-some (p .staged) (p .size / z) (past-first (p .size / z) (p .staged) (f .below)))) in
+    subst (λ (n : ℕ). Staged (s .copies) start n (resized z (groundOf s) (p .size) to g .staged)) (sym nx)
+    (subst (λ (m : List ℕ). Staged (s .copies) start (suc (p .size / z)) m) (sym (resized-more z (groundOf s) (p .size) to g e))
+    (grow-kept (s .copies) start few (p .size / z) _ (p .staged) at fr f)))
+    (λ e. by (ltb to (p .size))
+    (λ d. let lt = ltb-true to (p .size) d in
+    let nx = next-sector z to (p .size) pos (sz .whole) whole lt (sz .down) in
+    subst (λ (m : List ℕ). Staged (s .copies) start (to / z) m) (sym (resized-less z (groundOf s) (p .size) to g e d))
+    (shrink-kept (s .copies) start few (to / z) (p .staged) (subst (λ (n : ℕ). Staged (s .copies) start n (p .staged)) nx f)))
+    (λ d. let q : p .size ≡ to = omega (arith, ltb-false (p .size) to e, ltb-false to (p .size) d) in
+    subst (λ (m : List ℕ). Staged (s .copies) start (to / z) m) (sym (resized-same z (groundOf s) (p .size) to g e d))
+    (subst (λ (n : ℕ). Staged (s .copies) start (n / z) (p .staged)) q f)))
+
+pub swap-asks : (b : Bool) (staged : List ℕ) (at to : ℕ) → length (those (λ n. eqb (getD staged n none) none) (pick b (at ∷ []) (at ∷ to ∷ []))) ≡ pick b (asks staged at) (asks staged at + asks staged to)
+unfolding pick
+swap-asks true staged at to = wanted-one staged at
+swap-asks false staged at to = wanted-two staged at to
+
+-- ---- each instruction
+
+module _ (z : ℕ) (s : Setting) (p : Progress) (start : ℕ) (pos : 0 < z) (few : s .copies ≤ 16) (most : s .sectors ≤ length (p .staged)) (whole : p .size % z ≡ 0)
+    (under : p .size / z ≤ length (p .staged)) (f : Staged (s .copies) start (p .size / z) (p .staged)) (bytes : List ℕ) {r : Spot → List ℕ} where
+  pub effect-kept : (op : Op) (a : Args) (n : ℕ) → Passed z s r p op a n → Staged (s .copies) start (newSize (p .size) op a / z) (effect z (groundOf s) (p .size) op a (record { staged = p .staged; bytes = bytes }) .staged)
+  unfolding effect newSize badSpans wanted touched
+  effect-kept Read a n q = f
+  effect-kept ReadSector a n q = f
+  effect-kept Write a n q =
+      subst (λ (m : List ℕ). Staged (s .copies) start (p .size / z) m) (sym (written-map z (groundOf s) (a .first) _ _))
+      (one-kept z s p start pos few whole f (a .first) (span-in z (p .size) (a .first) (a .len) (q .spans)) (omega (arith, q .free, wanted-one (p .staged) (a .first / z))))
+  effect-kept Copy a n q =
+      subst (λ (m : List ℕ). Staged (s .copies) start (p .size / z) m) (sym (written-map z (groundOf s) (a .first) _ _))
+      (one-kept z s p start pos few whole f (a .first) (span-in z (p .size) (a .first) (a .len) (either-left _ _ (q .spans))) (omega (arith, q .free, wanted-one (p .staged) (a .first / z))))
+  effect-kept Swap a n q =
+      subst (λ (m : List ℕ). Staged (s .copies) start (p .size / z) m) (sym (written-map z (groundOf s) (a .first) _ _ ∙ ap (λ (m : List ℕ). copiedMap (s .copies) (a .first / z) m) (written-map z (groundOf s) (a .second) _ _)))
+      (two-kept z s p start pos few whole f (a .second) (a .first) (span-in z (p .size) (a .second) (a .len) (either-right _ _ (q .spans))) (span-in z (p .size) (a .first) (a .len) (either-left _ _ (q .spans))) under
+      (subst (λ (x : ℕ). x ≤ freeCopies s p) (swap-asks (eqb (a .first / z) (a .second / z)) (p .staged) (a .second / z) (a .first / z)) (q .free)))
+  effect-kept Truncate a n q =
+      resized-kept z s p start (a .first) bytes pos few whole f (sized z (p .size) (a .first) (q .spans)) (le-trans (omega (arith, q .fits)) (mul-le-mul-right {m = s .sectors} {n = length (p .staged)} z most))
+      (λ e. omega (arith, q .free, wanted-one (p .staged) (p .size / z), ap (λ (l : List ℕ). length (those (λ n. eqb (getD (p .staged) n none) none) l)) (picks (ltb (p .size) (a .first)) (p .size / z ∷ []) [] e)))
+  effect-kept Unknown a n q = f
+
+pub effect-length : (z : ℕ) (n : Ground) (size : ℕ) (op : Op) (a : Args) (g : Staging) → length (effect z n size op a g .staged) ≡ length (g .staged)
+unfolding effect
+effect-length z n size Read a g = refl
+effect-length z n size ReadSector a g = refl
+effect-length z n size Write a g = ap length (written-map z n (a .first) _ g) ∙ length-copied _ _ _
+effect-length z n size Copy a g = ap length (written-map z n (a .first) _ g) ∙ length-copied _ _ _
+effect-length z n size Swap a g = ap length (written-map z n (a .first) _ _) ∙ length-copied _ _ _ ∙ ap length (written-map z n (a .second) _ g) ∙ length-copied _ _ _
+effect-length z n size Truncate a g =
+    by (ltb size (a .first))
+    (λ e. ap length (resized-more z n size (a .first) g e) ∙ simp length-set)
+    (λ e. by (ltb (a .first) size)
+    (λ d. ap length (resized-less z n size (a .first) g e d) ∙ simp length-set)
+    (λ d. ap length (resized-same z n size (a .first) g e d)))
+effect-length z n size Unknown a g = refl
+
+pub size-whole : (z : ℕ) (s : Setting) {r : Spot → List ℕ} (p : Progress) (op : Op) (a : Args) (n : ℕ) → Passed z s r p op a n → p .size % z ≡ 0 → newSize (p .size) op a % z ≡ 0
+unfolding newSize badSpans
+size-whole z s p Read a n q w = w
+size-whole z s p ReadSector a n q w = w
+size-whole z s p Write a n q w = w
+size-whole z s p Copy a n q w = w
+size-whole z s p Swap a n q w = w
+size-whole z s p Truncate a n q w = sized z (p .size) (a .first) (q .spans) .whole
+size-whole z s p Unknown a n q w = w
+
+pub size-read : (op : Op) (size : ℕ) (a : Args) → changes op ≡ false → newSize size op a ≡ size
+unfolding changes newSize
+size-read Read size a e = refl
+size-read ReadSector size a e = refl
+size-read Write size a e = never e
+size-read Copy size a e = refl
+size-read Swap size a e = refl
+size-read Truncate size a e = never e
+size-read Unknown size a e = refl

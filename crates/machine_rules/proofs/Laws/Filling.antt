@@ -1,0 +1,132 @@
+-- Staged sectors copied back: a slot that none goes to keeps its bytes, and every other holds its sector. Assumes nothing.
+use mathlib.Core.Path.{_≡_, refl, sym, ap, ap₂, _∙_, subst}
+use mathlib.Core.Bool.{false}
+use mathlib.Core.List.{List, [], _∷_, _++_}
+use Prim.Native.Nat.{ℕ, zero, suc, _+_, _*_, _≤_, _<_}
+use native.Mathlib.Nat.{suc-mul, mul-le-mul-right}
+use native.Mathlib.Omega.{arith}
+use lib.ListN.{length, drop, getD, length-take}
+use lib.Dec.{ltb, eqb}
+use borrow.Author.Tests.{ltb-true, ltb-false}
+use Rattle.area.specs.Pick.{pick}
+use Rattle.area.specs.Area.{part, put, tab}
+use Rattle.area.proofs.Laws.Pick.{by, picks, skips}
+use Rattle.area.proofs.Laws.Puts.{length-put, part-put, part-before, part-behind}
+use Rattle.tree.specs.Tree.{join}
+use Rattle.sia.specs.Encode.{joined}
+use Rattle.host.specs.Lists.{each}
+use Rattle.host.specs.Empty.{none}
+use Rattle.machine_rules.specs.Roots.{contractRoot}
+use Rattle.machine_rules.specs.Commit.{copiedBack}
+use Rattle.machine_rules.specs.declared.Spot.{Spot}
+
+-- ---- slots
+
+-- bytes within slot k leave slot m
+pub other-span : (z : ℕ) (a : List ℕ) (k m off : ℕ) (bs : List ℕ) → off + length bs ≤ z → (k ≡ m → ⊥) → part (put a (k * z + off) bs) (m * z) z ≡ part a (m * z) z
+other-span z a k m off bs few ne =
+    by (ltb m k)
+    (λ e. let le = mul-le-mul-right {m = suc m} {n = k} z (ltb-true m k e) in part-before a (k * z + off) bs (m * z) z (omega (arith, suc-mul m z)))
+    (λ e. by (ltb k m)
+    (λ d. let le = mul-le-mul-right {m = suc k} {n = m} z (ltb-true k m d) in part-behind a (k * z + off) bs (m * z) z (omega (arith, suc-mul k z)))
+    (λ d. absurd (ne (omega (arith, ltb-false m k e, ltb-false k m d)))))
+
+-- n bytes or fewer in slot k leave slot m
+pub other-slot : (z : ℕ) (a : List ℕ) (k m : ℕ) (bs : List ℕ) → length bs ≤ z → (k ≡ m → ⊥) → part (put a (k * z) bs) (m * z) z ≡ part a (m * z) z
+other-slot z a k m bs few ne =
+    by (ltb m k)
+    (λ e. let le = mul-le-mul-right {m = suc m} {n = k} z (ltb-true m k e) in part-before a (k * z) bs (m * z) z (omega (arith, suc-mul m z)))
+    (λ e. by (ltb k m)
+    (λ d. let le = mul-le-mul-right {m = suc k} {n = m} z (ltb-true k m d) in part-behind a (k * z) bs (m * z) z (omega (arith, suc-mul k z)))
+    (λ d. absurd (ne (omega (arith, ltb-false m k e, ltb-false k m d)))))
+
+pub few-part : (a : List ℕ) (at n : ℕ) → length (part a at n) ≤ n
+unfolding part
+few-part a at n = omega (arith, length-take n (drop at a))
+
+module _ (z : ℕ) (stage staged slots : List ℕ) where
+  -- position i alone
+  unfoldable back : ℕ → List ℕ → List ℕ
+  back i disk = pick (eqb (getD staged i none) none) disk (put disk (getD slots i 0 * z) (part stage (getD staged i none * z) z))
+
+  back-length : (i : ℕ) (disk : List ℕ) → length (back i disk) ≡ length disk
+  unfolding back
+  back-length i disk =
+      by (eqb (getD staged i none) none)
+      (λ e. ap length (picks (eqb (getD staged i none) none) disk _ e))
+      (λ e. ap length (skips (eqb (getD staged i none) none) disk _ e) ∙ length-put disk _ _)
+
+  back-other : (m i : ℕ) (disk : List ℕ) → (eqb (getD staged i none) none ≡ false → getD slots i 0 ≡ m → ⊥) → part (back i disk) (m * z) z ≡ part disk (m * z) z
+  unfolding back
+  back-other m i disk ne =
+      by (eqb (getD staged i none) none)
+      (λ e. ap (λ (d : List ℕ). part d (m * z) z) (picks (eqb (getD staged i none) none) disk _ e))
+      (λ e. ap (λ (d : List ℕ). part d (m * z) z) (skips (eqb (getD staged i none) none) disk _ e) ∙ other-slot z disk (getD slots i 0) m _ (few-part stage _ z) (ne e))
+
+  -- what position j's slot holds in the end
+  unfoldable pub held : ℕ → List ℕ → List ℕ
+  held j disk = pick (eqb (getD staged j none) none) (part disk (getD slots j 0 * z) z) (part stage (getD staged j none * z) z)
+
+  held-alike : (j : ℕ) (a b : List ℕ) → part a (getD slots j 0 * z) z ≡ part b (getD slots j 0 * z) z → held j a ≡ held j b
+  unfolding held
+  held-alike j a b e = ap (λ (l : List ℕ). pick (eqb (getD staged j none) none) l (part stage (getD staged j none * z) z)) e
+
+  back-own : (i : ℕ) (disk : List ℕ) → getD slots i 0 * z + z ≤ length disk → (eqb (getD staged i none) none ≡ false → length (part stage (getD staged i none * z) z) ≡ z)
+      → part (back i disk) (getD slots i 0 * z) z ≡ held i disk
+  unfolding back held
+  back-own i disk room full =
+      by (eqb (getD staged i none) none)
+      (λ e. ap (λ (d : List ℕ). part d (getD slots i 0 * z) z) (picks (eqb (getD staged i none) none) disk _ e) ∙ sym (picks (eqb (getD staged i none) none) _ _ e))
+      (λ e. ap (λ (d : List ℕ). part d (getD slots i 0 * z) z) (skips (eqb (getD staged i none) none) disk _ e)
+      ∙ part-put disk (getD slots i 0 * z) (part stage (getD staged i none * z) z) z (sym (full e)) (omega (arith, full e)) ∙ sym (skips (eqb (getD staged i none) none) _ _ e))
+
+  -- ---- all of them
+
+  pub filling-length : (i n : ℕ) (disk : List ℕ) → length (copiedBack z stage staged slots i n disk) ≡ length disk
+  unfolding copiedBack back
+  filling-length i zero disk = refl
+  filling-length i (suc n) disk = filling-length (suc i) n (back i disk) ∙ back-length i disk
+
+  pub filling-outside : (m i n : ℕ) (disk : List ℕ) → ((j : ℕ) → i ≤ j → j < i + n → eqb (getD staged j none) none ≡ false → getD slots j 0 ≡ m → ⊥)
+      → part (copiedBack z stage staged slots i n disk) (m * z) z ≡ part disk (m * z) z
+  unfolding copiedBack back
+  filling-outside m i zero disk out = refl
+  filling-outside m i (suc n) disk out =
+      filling-outside m (suc i) n (back i disk) (λ j lo hi. out j (omega arith) (omega arith)) ∙ back-other m i disk (out i (omega arith) (omega arith))
+
+  pub filling-inside : (i n : ℕ) (disk : List ℕ) → ((j k : ℕ) → i ≤ j → j < k → k < i + n → getD slots j 0 ≡ getD slots k 0 → ⊥) → (j : ℕ) → i ≤ j → j < i + n
+      → getD slots j 0 * z + z ≤ length disk → (eqb (getD staged j none) none ≡ false → length (part stage (getD staged j none * z) z) ≡ z)
+      → part (copiedBack z stage staged slots i n disk) (getD slots j 0 * z) z ≡ held j disk
+  unfolding copiedBack back
+  filling-inside i zero disk own j lo hi room full = absurd (omega arith)
+  filling-inside i (suc n) disk own j lo hi room full =
+      by (ltb i j)
+      (λ e. let lt = ltb-true i j e in
+      filling-inside (suc i) n (back i disk) (λ j k lo lt hi. own j k (omega arith) lt (omega arith)) j (omega arith) (omega arith) (omega (arith, back-length i disk)) full
+      ∙ held-alike j (back i disk) disk (back-other (getD slots j 0) i disk (λ u. own i j (omega arith) lt (omega arith))))
+      (λ e. let q : i ≡ j = omega (arith, ltb-false i j e) in
+      filling-outside (getD slots j 0) (suc i) n (back i disk) (λ k low high u v. own j k (omega arith) (omega arith) (omega arith) (sym v))
+      ∙ subst (λ (m : ℕ). part (back m disk) (getD slots j 0 * z) z ≡ held j disk) (sym q) (back-own j disk room full))
+
+-- ---- sectors that are alike, one by one
+
+pub joined-each : {A B : Type 0} (f : B → List ℕ) (h : A → B) (l : List A) → joined f (each h l) ≡ joined (λ x. f (h x)) l
+unfolding joined each
+joined-each f h [] = refl
+joined-each f h (x ∷ xs) = ap (λ (r : List ℕ). f (h x) ++ r) (joined-each f h xs)
+
+pub joined-tab : {A B : Type 0} (f : A → List ℕ) (g : B → List ℕ) (d : A) (l : List A) (i n : ℕ) (k : ℕ → B) → length l ≡ n
+    → ((j m : ℕ) → j < n → m ≡ i + j → f (getD l j d) ≡ g (k m)) → joined f l ≡ joined g (tab i n k)
+unfolding joined tab
+joined-tab f g d [] i zero k e h = refl
+joined-tab f g d [] i (suc n) k e h = absurd (omega arith)
+joined-tab f g d (x ∷ xs) i zero k e h = absurd (omega arith)
+joined-tab f g d (x ∷ xs) i (suc n) k e h =
+    ap₂ _++_ (h 0 i (omega arith) (omega arith)) (joined-tab f g d xs (suc i) n k (omega arith) (λ j m lt q. h (suc j) m (omega arith) (omega arith)))
+
+pub roots-alike : (f g : Spot → List ℕ) (l m : List Spot) → length l ≡ length m → joined f l ≡ joined g m → contractRoot f l ≡ contractRoot g m
+unfolding contractRoot
+roots-alike f g [] [] n e = refl
+roots-alike f g [] (y ∷ ys) n e = absurd (omega arith)
+roots-alike f g (x ∷ xs) [] n e = absurd (omega arith)
+roots-alike f g (x ∷ xs) (y ∷ ys) n e = ap join e

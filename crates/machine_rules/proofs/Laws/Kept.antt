@@ -1,0 +1,131 @@
+-- An instruction and a run keep the progress of a program in order. Assumes nothing.
+use mathlib.Core.Path.{_≡_, refl, sym, ap, _∙_, subst}
+use mathlib.Core.Bool.{Bool, true, false}
+use mathlib.Core.List.{List}
+use Prim.Native.Nat.{ℕ, zero, suc, _*_, _/_, _≤_, _<_}
+use native.Mathlib.Nat.{mul-le-mul-right, le-of-mul-le-mul-right}
+use native.Mathlib.Omega.{arith}
+use lib.ListN.{length}
+use lib.Dec.{eqb}
+use borrow.Author.Tests.{leb-true, eqb-true, le-leb, eq-eqb}
+use Rattle.area.specs.Pick.{pick, both}
+use Rattle.area.proofs.Laws.Pick.{by, picks, skips, never, both-left, both-right, both-join}
+use Rattle.sia.specs.Names.{opOf}
+use Rattle.area.proofs.Laws.Slots as Slots
+use Rattle.host.specs.Places.{whose}
+use Rattle.host.specs.Order.{stagedInOrder, parentInOrder, termsInOrder, progressInOrder}
+use Rattle.host.specs.Facts.{Staged}
+use Rattle.machine_rules.specs.View.{Setting, Turn, readOnlyMode}
+use Rattle.machine_rules.specs.Inputs.{Args, argsOf, inputsOf}
+use Rattle.machine_rules.specs.Plan.{changes, cost, newSize, judged}
+use Rattle.machine_rules.specs.Effect.{groundOf, effect}
+use Rattle.machine_rules.specs.Run.{failedProgress, failing, ranProgress, succeeding, stepped, current, step, going, ready, runs}
+use Rattle.machine_rules.specs.Facts.{Good, InOrder, Lent, startOf}
+use Rattle.machine_rules.proofs.Laws.Steps.{not-failed, left-going, ready-going, runs-go, runs-stop}
+use Rattle.machine_rules.proofs.Laws.Effects.{Passed, passed, whole-sectors, effect-kept, effect-length, size-whole, size-read}
+use Rattle.sia.specs.declared.Op.{Op}
+use Rattle.sia.specs.declared.Instruction.{Instruction}
+use Rattle.host.specs.declared.Place.{Place}
+use Rattle.host.specs.declared.Terms.{Terms}
+use Rattle.host.specs.declared.Progress.{Progress}
+use Rattle.machine_rules.specs.declared.Spot.{Spot}
+use Rattle.machine_rules.specs.Roots.{rootAt}
+
+-- ---- progress
+
+abbrev pub inProgress : ℕ → Setting → Progress → Bool
+inProgress z s p = progressInOrder z (s .sectors) (s .copies) (s .places) (s .terms) p
+
+staged-facts : (stage start size : ℕ) (l : List ℕ) → stagedInOrder stage start size l ≡ true → Staged stage start size l
+unfolding stagedInOrder
+staged-facts stage start size l h =
+    let b = both-right _ _ h in
+    let c = both-right _ _ b in
+    record { slots = both-left _ _ h; own = both-left _ _ b; below = both-left _ _ c; past = both-right _ _ c }
+
+pub facts-staged : (stage start size : ℕ) (l : List ℕ) → Staged stage start size l → stagedInOrder stage start size l ≡ true
+unfolding stagedInOrder
+facts-staged stage start size l f = both-join _ _ (f .slots) (both-join _ _ (f .own) (both-join _ _ (f .below) (f .past)))
+
+pub progress-facts : (z : ℕ) (s : Setting) (p : Progress) → inProgress z s p ≡ true → InOrder z s p
+unfolding progressInOrder
+progress-facts z s p h =
+    let b = both-right _ _ h in
+    let c = both-right _ _ b in
+    let d = both-right _ _ c in
+    let e = both-right _ _ d in
+    record {
+      ran = leb-true _ _ (both-left _ _ h);
+      paid = leb-true _ _ (both-left _ _ b);
+      fits = leb-true _ _ (both-left _ _ c);
+      whole = eqb-true _ _ (both-left _ _ d);
+      within = leb-true _ _ (both-left _ _ e);
+      staged = staged-facts _ _ _ _ (both-right _ _ e);
+    }
+
+pub facts-progress : (z : ℕ) (s : Setting) (p : Progress) → InOrder z s p → inProgress z s p ≡ true
+unfolding progressInOrder
+facts-progress z s p o =
+    both-join _ _ (le-leb _ _ (o .ran)) (both-join _ _ (le-leb _ _ (o .paid)) (both-join _ _ (le-leb _ _ (o .fits))
+    (both-join _ _ (eq-eqb _ _ (o .whole)) (both-join _ _ (le-leb _ _ (o .within)) (facts-staged _ _ _ _ (o .staged))))))
+
+terms-size : (ps : List Place) (t : Terms) (m n : ℕ) → (readOnlyMode t ≡ true → n ≡ m) → termsInOrder ps t m ≡ true → termsInOrder ps t n ≡ true
+unfolding termsInOrder parentInOrder readOnlyMode
+terms-size ps t m n f h =
+    both-join _ _
+    (by (readOnlyMode t)
+    (λ e. ap (λ (x : ℕ). pick (readOnlyMode t) (eqb x 0) (whose (t .head .contract) ps .held)) (f e) ∙ both-left _ _ h)
+    (λ e. skips (readOnlyMode t) (eqb n 0) _ e ∙ sym (skips (readOnlyMode t) (eqb m 0) _ e) ∙ both-left _ _ h))
+    (both-right (pick (readOnlyMode t) (eqb m 0) (whose (t .head .contract) ps .held)) _ h)
+
+pub failed-good : (z : ℕ) (s : Setting) (p : Progress) → p .failed ≡ false → Good z s p → Good z s (failedProgress p)
+unfolding failedProgress
+failed-good z s p e g =
+    let o = g .orderly in
+    record {
+      orderly = record { ran = o .ran; paid = o .paid; fits = omega (arith, o .fits, skips {A = ℕ} (p .failed) 0 72 e, picks {A = ℕ} true 0 72 refl); whole = o .whole; within = o .within; staged = o .staged };
+      terms = terms-size (s .places) (s .terms) (p .size) _ (λ u. refl) (g .terms);
+      entries = g .entries;
+    }
+
+pub ran-good : (z : ℕ) (s : Setting) (p : Progress) (op : Op) (a : Args) (n : ℕ) (bytes : List ℕ) {r : Spot → List ℕ} → Lent z s → p .failed ≡ false → p .ran < s .terms .head .count → Passed z s r p op a n → Good z s p
+    → Good z s (ranProgress p (cost (s .terms .head .length) (s .terms .prices) op (a .len)) n (newSize (p .size) op a) (effect z (groundOf s) (p .size) op a (record { staged = p .staged; bytes = bytes }) .staged))
+unfolding ranProgress
+ran-good z s p op a n bytes L e lt q g =
+    let o = g .orderly in
+    let c : s .sectors * z ≤ 64 * z = mul-le-mul-right {m = s .sectors} {n = 64} z (L .most) in
+    let w = whole-sectors z (p .size) (o .whole) in
+    let u : p .size / z ≤ 64 = le-of-mul-le-mul-right {m = p .size / z} {n = 64} {k = z} (omega (arith, w, o .within, c)) (Slots.some z (L .size)) in
+    record {
+      orderly = record {
+        ran = omega arith;
+        paid = q .paid;
+        fits = omega (arith, q .room, skips {A = ℕ} (p .failed) 0 72 e);
+        whole = size-whole z s p op a n q (o .whole);
+        within = q .fits;
+        staged = effect-kept z s p (startOf z s) (Slots.some z (L .size)) (L .few) (omega (arith, L .most, g .entries)) (o .whole) (omega (arith, u, g .entries)) (o .staged) bytes op a n q;
+      };
+      terms = terms-size (s .places) (s .terms) (p .size) _ (λ r. size-read op (p .size) a (not-both (changes op) (q .allowed) r)) (g .terms);
+      entries = effect-length z (groundOf s) (p .size) op a _ ∙ g .entries;
+    }
+  where
+    not-both : (b : Bool) {c : Bool} → both b c ≡ false → c ≡ true → b ≡ false
+    not-both b e h = by b (λ u. never (sym (both-join b _ u h) ∙ e)) (λ u. u)
+
+-- ---- a step, a run
+
+pub stepped-good : (z : ℕ) (s : Setting) (i : Instruction) (l : List (List ℕ)) (t : Turn) → Lent z s → going (s .terms) (t .progress) ≡ true → Good z s (t .progress) → Good z s (stepped z s i l t .progress)
+unfolding stepped succeeding failing
+stepped-good z s i l t L h g =
+    by (eqb (judged z s (rootAt z s t) (t .progress) i l) 0)
+    (λ e. subst (λ (x : Turn). Good z s (x .progress)) (sym (picks (eqb (judged z s (rootAt z s t) (t .progress) i l) 0) _ _ e))
+    (ran-good z s (t .progress) (opOf (i .name)) (argsOf (opOf (i .name)) l) _ (t .stage) L (not-failed s t h) (left-going s t h .1) (passed z s (rootAt z s t) (t .progress) i l (eqb-true _ _ e)) g))
+    (λ e. subst (λ (x : Turn). Good z s (x .progress)) (sym (skips (eqb (judged z s (rootAt z s t) (t .progress) i l) 0) _ _ e)) (failed-good z s (t .progress) (not-failed s t h) g))
+
+pub runs-good : (z : ℕ) (s : Setting) (a : List ℕ) (k n : ℕ) (t : Turn) → Lent z s → Good z s (t .progress) → Good z s (runs z s a k n t .progress)
+unfolding runs step
+runs-good z s a k zero t L g = g
+runs-good z s a k (suc n) t L g =
+    by (ready s k t)
+    (λ r. subst (λ (x : Turn). Good z s (x .progress)) (sym (runs-go z s a k n t r)) (runs-good z s a k n (step z s a t) L (stepped-good z s (current s t) (inputsOf (current s t) a) t L (ready-going s k t r) g)))
+    (λ r. subst (λ (x : Turn). Good z s (x .progress)) (sym (runs-stop z s a k (suc n) t r)) g)

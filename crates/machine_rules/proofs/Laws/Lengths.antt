@@ -1,0 +1,232 @@
+-- A record is as long as its numbers say, so written bytes grow by its length. Assumes nothing.
+use mathlib.Core.Path.{_≡_, refl, sym, ap, _∙_}
+use mathlib.Core.Bool.{Bool, true, false, not}
+use mathlib.Core.List.{List, [], _∷_}
+use Prim.Native.Nat.{ℕ, zero, suc, _+_, _*_, _/_, _%_, _^_, _≤_, _<_}
+use native.Mathlib.Nat.{suc-mul, zero-mul, div-lt-iff-lt-mul, mul-le-mul-right, le-of-mul-le-mul-right}
+use native.Mathlib.Omega.{arith}
+use lib.ListN.{length, getD, length-append, length-replicate}
+use lib.Dec.{ltb, eqb}
+use borrow.Author.Tests.{not-false, ltb-true, ltb-false, eqb-true, eqb-false, eq-eqb}
+use Rattle.area.specs.Pick.{pick}
+use Rattle.area.specs.Area.{part}
+use Rattle.area.proofs.Laws.Pick.{by, picks, skips, never, both-left, both-right, either-left}
+use Rattle.area.proofs.Laws.Parts.{length-part}
+use Rattle.area.proofs.Laws.Little.{length-bytes}
+use Rattle.tree.specs.Walk.{count}
+use Rattle.tree.proofs.Promise.{roots, proofs}
+use Rattle.sia.specs.Names.{opOf}
+use Rattle.sia.specs.Encode.{joined, every}
+use Rattle.machine_rules.specs.View.{Way, kept, worked, Setting, Turn, sector, parent, committedSpots}
+use Rattle.machine_rules.specs.Roots.{sectorRoot, keptRoot, rootBy, rootOf, contractRoot, segments, rangeProof, rangeCount, rootAt, rootOnDisk}
+use Rattle.machine_rules.proofs.Laws.Worked.{proof-counted}
+use Rattle.machine_rules.proofs.Laws.Areas.{rehashed-length}
+use Rattle.machine_rules.specs.Inputs.{Args, argsOf, illFormed, pastEnd, wellFormed}
+use Rattle.machine_rules.specs.Plan.{Source, spots, sourceOf, reads, badSpan, badSpans, badProof, newSize, proofCount, outputCount, recordCount, judgedSource, judgedInputs, judged}
+use Rattle.machine_rules.specs.Effect.{groundOf, effect, rehashed}
+use Rattle.machine_rules.specs.Record.{pairOf, startingPair, runningPair, recordBytes, failureBytes, outputOf, successBytes}
+use Rattle.machine_rules.specs.Run.{failedProgress, failing, ranProgress, succeeding, stepped}
+use Rattle.machine_rules.specs.Trace.{recordOf}
+use Rattle.machine_rules.specs.Facts.{Good, Solid, Within, valid}
+use Rattle.machine_rules.proofs.Laws.Effects.{passes, neither, Passed, passed, whole-sectors}
+use Rattle.machine_rules.proofs.Laws.Areas.{effect-bytes}
+use Rattle.machine_rules.proofs.Laws.Spots.{every-at, source-valid, few-spots}
+use Rattle.sia.specs.declared.Op.{Op}
+use Rattle.sia.specs.declared.Op.the-variants.{Read, ReadSector, Write, Copy, Swap, Truncate, Unknown}
+use Rattle.sia.specs.declared.Instruction.{Instruction}
+use Rattle.area.proofs.Laws.Slots as Slots
+use Rattle.host.specs.declared.Progress.{Progress}
+use Rattle.machine_rules.specs.declared.Spot.{Spot}
+use Rattle.machine_rules.specs.declared.Pair.{Pair}
+use Rattle.machine_rules.specs.declared.Spot.the-variants.{OnDisk, InStage}
+
+-- ---- what a read hands out is as long as it was asked for
+
+slot-length : (l : List ℕ) (n m z : ℕ) → n < m → length l ≡ m * z → length (part l (n * z) z) ≡ z
+slot-length l n m z lt e = length-part l (n * z) z (omega (arith, mul-le-mul-right {m = suc n} {n = m} z lt, suc-mul n z))
+
+pub sector-length : (z : ℕ) (s : Setting) (stage : List ℕ) (x : Spot) → length (s .disk) ≡ s .sectors * z → length stage ≡ s .copies * z → valid s x ≡ true → length (sector z (s .disk) stage x) ≡ z
+unfolding sector valid
+sector-length z s stage (OnDisk n) d e v = slot-length (s .disk) n (s .sectors) z (ltb-true _ _ v) d
+sector-length z s stage (InStage n) d e v = slot-length stage n (s .copies) z (ltb-true _ _ v) e
+
+output-length : (z : ℕ) (s : Setting) (stage : List ℕ) (l : List Spot) (a : Args) → length (s .disk) ≡ s .sectors * z → length stage ≡ s .copies * z → every (valid s) l ≡ true
+    → badSpan z (length l * z) (a .first) (a .len) ≡ false → length (outputOf z (s .disk) stage l a) ≡ a .len
+unfolding outputOf badSpan every
+output-length z s stage [] a d e v b =
+    let x = neither (eqb (a .len) 0) _ b in
+    let y = neither (ltb (0 * z) (a .first + a .len)) _ (x .1) in
+    let k : 0 * z ≡ 0 = zero-mul z in
+    omega (arith, ltb-false (0 * z) (a .first + a .len) (y .0), k)
+output-length z s stage (c ∷ cs) a d e v b =
+    let x = neither (eqb (a .len) 0) _ b in
+    let y = neither (ltb (length (c ∷ cs) * z) (a .first + a .len)) _ (x .1) in
+    let w = sector-length z s stage (getD (c ∷ cs) (a .first / z) c) d e (every-at (valid s) (c ∷ cs) (a .first / z) c v (both-left _ _ v)) in
+    length-part (sector z (s .disk) stage (getD (c ∷ cs) (a .first / z) c)) (a .first % z) (a .len) (omega (arith, w, ltb-false z (a .first % z + a .len) (y .1)))
+
+-- the output part of a record: for a change nothing, else what was read
+shown : (n : ℕ) (l : List ℕ) → length l ≡ n → length (pick (eqb n 0) [] l) ≡ n
+unfolding pick
+shown n l e = by (eqb n 0) (λ u. ap length (picks (eqb n 0) [] l u) ∙ sym (eqb-true n 0 u)) (λ u. ap length (skips (eqb n 0) [] l u) ∙ e)
+
+shown-none : (n : ℕ) (l : List ℕ) → n ≡ 0 → length (pick (eqb n 0) [] l) ≡ n
+shown-none n l e = ap length (picks (eqb n 0) [] l (eq-eqb n 0 e)) ∙ sym e
+
+pub count-read : (op : Op) (a : Args) → reads op ≡ true → outputCount op a ≡ a .len
+unfolding outputCount
+count-read op a e = picks (reads op) (a .len) 0 e
+
+pub count-change : (op : Op) (a : Args) → reads op ≡ false → outputCount op a ≡ 0
+unfolding outputCount
+count-change op a e = skips (reads op) (a .len) 0 e
+
+pub read-span : (z size : ℕ) (from : Source) (op : Op) (a : Args) → reads op ≡ true → badSpans z size from op a ≡ false
+    → badSpan z (length (spots from) * z) (a .first) (a .len) ≡ false
+unfolding badSpans reads
+read-span z size from Read a e b = b
+read-span z size from ReadSector a e b = b
+read-span z size from Write a e b = never (sym e)
+read-span z size from Copy a e b = never (sym e)
+read-span z size from Swap a e b = never (sym e)
+read-span z size from Truncate a e b = never (sym e)
+read-span z size from Unknown a e b = never (sym e)
+
+shown-length : (z : ℕ) (s : Setting) (size : ℕ) (from : Source) (stage : List ℕ) (op : Op) (a : Args) → length (s .disk) ≡ s .sectors * z → length stage ≡ s .copies * z
+    → every (valid s) (spots from) ≡ true → badSpans z size from op a ≡ false
+    → length (pick (eqb (outputCount op a) 0) [] (outputOf z (s .disk) stage (spots from) a)) ≡ outputCount op a
+shown-length z s size from stage op a d e v b =
+    by (reads op)
+    (λ u. shown (outputCount op a) _ (output-length z s stage (spots from) a d e v (read-span z size from op a u b) ∙ sym (count-read op a u)))
+    (λ u. shown-none (outputCount op a) _ (count-change op a u))
+
+-- ---- roots and proofs
+
+pub length-root : (f : Spot → List ℕ) (l : List Spot) → length (contractRoot f l) ≡ 32
+unfolding contractRoot
+length-root f [] = length-replicate {A = ℕ} 32 0
+length-root f (x ∷ xs) = roots .join-long (joined f (x ∷ xs))
+
+-- a span that passed lies in some sector
+pub some-spots : (z n at len : ℕ) → badSpan z (n * z) at len ≡ false → 0 < n
+unfolding badSpan
+some-spots z zero at len b =
+    let x = neither (eqb len 0) _ b in
+    let y = neither (ltb (0 * z) (at + len)) _ (x .1) in
+    let none : len ≡ 0 = omega (arith, ltb-false (0 * z) (at + len) (y .0), zero-mul z) in
+    never (sym (eq-eqb len 0 none) ∙ x .0)
+some-spots z (suc n) at len b = omega arith
+
+-- a span that passed, of whole segments
+pub span-within : (z n at len : ℕ) → 0 < z → badSpan z (n * z) at len ≡ false → at % 64 ≡ 0 → len % 64 ≡ 0 → Within z n at len
+unfolding badSpan
+span-within z n at len pos b first many =
+    let x = neither (eqb len 0) _ b in
+    let y = neither (ltb (n * z) (at + len)) _ (x .1) in
+    let some = eqb-false len 0 (x .0) in
+    record {
+      below = div-lt-iff-lt-mul {k = z} {x = at} {y = n} pos .1 (omega (arith, ltb-false (n * z) (at + len) (y .0), some));
+      one = ltb-false z (at % z + len) (y .1);
+      some = omega (arith, some);
+      first = first;
+      many = many;
+    }
+
+-- the roots that a reader gives have 32 bytes, whether they are right or not
+reader-long : (way : Way) (z : ℕ) (s : Setting) (stage copies : List ℕ) → s .sectors ≤ 64 → s .copies ≤ 16 → length (s .roots) ≡ 2048 → length copies ≡ 512 → (x : Spot) → valid s x ≡ true
+    → length (rootBy way z (s .disk) stage (s .roots) copies x) ≡ 32
+unfolding rootBy keptRoot sectorRoot sector valid
+reader-long kept z s stage copies most few d e (OnDisk n) v = length-part (s .roots) (n * 32) 32 (omega (arith, ltb-true n (s .sectors) v))
+reader-long kept z s stage copies most few d e (InStage n) v = length-part copies (n * 32) 32 (omega (arith, ltb-true n (s .copies) v))
+reader-long worked z s stage copies most few d e x v = roots .root-long (sector z (s .disk) stage x)
+
+pub length-proof : (z : ℕ) (s : Setting) (stage copies : List ℕ) (from : Source) (a : Args) (asked : Bool) → Solid z s → length stage ≡ s .copies * z → length (s .roots) ≡ 2048 → length copies ≡ 512
+    → every (valid s) (spots from) ≡ true → length (spots from) ≤ 64 → (asked ≡ true → Within z (length (spots from)) (a .first) (a .len))
+    → length (pick asked (rangeProof z (rootOf z s stage copies) (s .disk) stage (spots from) (a .first) (a .len)) []) ≡ 32 * proofCount z asked from a
+unfolding proofCount pick rootOf
+length-proof z s stage copies from a true solid e d c v few within =
+    let size = solid .lent .size in
+    let k = size .depth in
+    let hi = mul-le-mul-right {m = length (spots from)} {n = 64} (2 ^ k) few in
+    proof-counted z k (size .segments) (rootOf z s stage copies) (s .disk) stage (valid s) (λ x u. sector-length z s stage x (solid .disk) e u)
+    (reader-long (s .way) z s stage copies (solid .lent .most) (solid .lent .few) d c) (spots from) v (omega (arith, hi, size .segments, size .most)) (a .first) (a .len) (within refl)
+length-proof z s stage copies from a false solid e d c v few within = refl
+
+length-record : (number cost : ℕ) (pair : Pair) (hashes : ℕ) (proof : List ℕ) (count : ℕ) (output : List ℕ) → length (pair .root) ≡ 32 → length proof ≡ 32 * hashes
+    → length output ≡ count → length (recordBytes number cost pair hashes proof count output) ≡ 72 + 32 * hashes + count
+unfolding recordBytes
+length-record number cost pair hashes proof count output r p o = simp (length-append, length-bytes, r, p, o) (omega arith)
+
+failure-length : (z : ℕ) (s : Setting) (n : ℕ) → length (failureBytes z s n) ≡ 72
+unfolding failureBytes startingPair pairOf
+failure-length z s n = length-record n 0 _ 0 [] 0 [] (length-root (rootOnDisk z s) (committedSpots z (parent s))) refl refl
+
+-- a proof is asked of a read
+pub asked-reads : (z : ℕ) (s : Setting) (f : Spot → List ℕ) (p : Progress) (i : Instruction) (l : List (List ℕ)) → judged z s f p i l ≡ 0 → i .proof ≡ true → reads (opOf (i .name)) ≡ true
+unfolding judged judgedInputs judgedSource badProof
+asked-reads z s f p i l e h =
+    let inputs = passes _ 21 _ (passes _ 20 _ e .1) .1 in
+    let c = passes _ 26 _ (passes _ 25 _ (passes _ 24 _ (passes _ 23 _ (passes _ 22 _ inputs .1) .1) .1) .1) in
+    not-false _ (either-left _ _ (sym (picks (i .proof) _ false h) ∙ c .0))
+
+-- and then 27 did not apply
+pub asked-right : (z : ℕ) (s : Setting) (f : Spot → List ℕ) (p : Progress) (i : Instruction) (l : List (List ℕ)) → judged z s f p i l ≡ 0 → i .proof ≡ true
+    → badProof (opOf (i .name)) (argsOf (opOf (i .name)) l) ≡ false
+unfolding judged judgedInputs judgedSource
+asked-right z s f p i l e h =
+    let inputs = passes _ 21 _ (passes _ 20 _ e .1) .1 in
+    let c = passes _ 26 _ (passes _ 25 _ (passes _ 24 _ (passes _ 23 _ (passes _ 22 _ inputs .1) .1) .1) .1) in
+    sym (picks (i .proof) _ false h) ∙ c .0
+
+-- 21 to 23 did not apply to an instruction that runs
+pub well-formed : (z : ℕ) (s : Setting) (f : Spot → List ℕ) (p : Progress) (i : Instruction) (l : List (List ℕ)) → judged z s f p i l ≡ 0
+    → (illFormed i ≡ false) × (pastEnd (s .terms .head .length) i ≡ false) × (wellFormed (opOf (i .name)) l ≡ true)
+unfolding judged judgedInputs
+well-formed z s f p i l e =
+    let c21 = passes _ 20 _ e in
+    let c22 = passes _ 21 _ (c21 .1) in
+    (c21 .0, c22 .0, not-false _ (passes _ 22 _ (c22 .1) .0))
+
+-- ---- a record is as long as its numbers say
+
+-- a proof is asked of whole segments
+proof-right : (op : Op) (a : Args) → badProof op a ≡ false → (a .first % 64 ≡ 0) × (a .len % 64 ≡ 0)
+unfolding badProof
+proof-right op a e =
+    let x = neither (not (reads op)) _ e in
+    let y = neither (not (eqb (a .first % 64) 0)) _ (x .1) in
+    (eqb-true _ _ (not-false _ (y .0)), eqb-true _ _ (not-false _ (y .1)))
+
+success-length : (z : ℕ) (s : Setting) (f : Spot → List ℕ) (p : Progress) (asked : Bool) (op : Op) (a : Args) (n count : ℕ) (bytes copies : List ℕ) → Solid z s → Good z s p
+    → length bytes ≡ s .copies * z → length (s .roots) ≡ 2048 → length copies ≡ 512 → Passed z s f p op a count → (asked ≡ true → reads op ≡ true) → (asked ≡ true → badProof op a ≡ false)
+    → let g = effect z (groundOf s) (p .size) op a (record { staged = p .staged; bytes = bytes }) in
+    length (successBytes z s (rootOf z s (g .bytes) copies) p asked (sourceOf z s f p op (a .key)) op a n (newSize (p .size) op a) g)
+    ≡ recordCount z asked (sourceOf z s f p op (a .key)) op a
+unfolding successBytes recordCount runningPair
+success-length z s f p asked op a n count bytes copies solid g e d c q asks right =
+    let from = sourceOf z s f p op (a .key) in
+    let w = whole-sectors z (p .size) (g .orderly .whole) in
+    let m : s .sectors * z ≤ 64 * z = mul-le-mul-right {m = s .sectors} {n = 64} z (solid .lent .most) in
+    let u : p .size / z ≤ 64 = le-of-mul-le-mul-right {m = p .size / z} {n = 64} {k = z} (omega (arith, w, g .orderly .within, m)) (Slots.some z (solid .lent .size)) in
+    let valid = source-valid z s p solid (g .orderly .staged) (omega (arith, u, g .entries)) f op (a .key) in
+    let stage = effect-bytes z (groundOf s) (p .size) op a (record { staged = p .staged; bytes = bytes }) ∙ e in
+    length-record 0 n _ (proofCount z asked from a) _ (outputCount op a) _
+    (length-root _ _)
+    (length-proof z s _ copies from a asked solid stage d c valid (few-spots z s f p op (a .key) (solid .small) u)
+    (λ h. let r = proof-right op a (right h) in
+    span-within z (length (spots from)) (a .first) (a .len) (Slots.some z (solid .lent .size)) (read-span z (p .size) from op a (asks h) (q .spans)) (r .0) (r .1)))
+    (shown-length z s (p .size) from _ op a (solid .disk) stage valid (q .spans))
+
+-- written bytes grow by the record's length
+pub stepped-written : (z : ℕ) (s : Setting) (i : Instruction) (l : List (List ℕ)) (t : Turn) → Solid z s → Good z s (t .progress) → length (t .stage) ≡ s .copies * z
+    → length (s .roots) ≡ 2048 → length (t .roots) ≡ 512 → stepped z s i l t .progress .written ≡ t .progress .written + length (recordOf z s i l t)
+unfolding stepped recordOf succeeding failing ranProgress failedProgress
+stepped-written z s i l t solid g e d c =
+    let f = rootAt z s t in
+    by (eqb (judged z s (rootAt z s t) (t .progress) i l) 0)
+    (λ u. ap (λ (x : Turn). x .progress .written) (picks (eqb (judged z s (rootAt z s t) (t .progress) i l) 0) _ _ u)
+    ∙ ap (λ (n : ℕ). t .progress .written + n) (sym (success-length z s (rootAt z s t) (t .progress) (i .proof) (opOf (i .name)) (argsOf (opOf (i .name)) l) _ _ (t .stage) _ solid g e d
+    (rehashed-length z _ _ (t .roots) ∙ c) (passed z s (rootAt z s t) (t .progress) i l (eqb-true _ _ u)) (asked-reads z s (rootAt z s t) (t .progress) i l (eqb-true _ _ u)) (asked-right z s (rootAt z s t) (t .progress) i l (eqb-true _ _ u))))
+    ∙ ap (λ (x : List ℕ). t .progress .written + length x) (sym (picks (eqb (judged z s (rootAt z s t) (t .progress) i l) 0) _ _ u)))
+    (λ u. ap (λ (x : Turn). x .progress .written) (skips (eqb (judged z s (rootAt z s t) (t .progress) i l) 0) _ _ u)
+    ∙ ap (λ (n : ℕ). t .progress .written + n) (sym (failure-length z s _))
+    ∙ ap (λ (x : List ℕ). t .progress .written + length x) (sym (skips (eqb (judged z s (rootAt z s t) (t .progress) i l) 0) _ _ u)))

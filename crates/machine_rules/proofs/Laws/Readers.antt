@@ -1,0 +1,219 @@
+-- Two readers of roots that agree on what is seen give the same roots, look-ups, proofs and checks. Assumes nothing.
+use mathlib.Core.Path.{_≡_, refl, sym, ap, ap₂, _∙_, subst}
+use mathlib.Core.Bool.{Bool, true, false, not}
+use mathlib.Core.List.{List, [], _∷_, _++_}
+use Prim.Native.Nat.{ℕ, _+_, _-_, _/_, _%_, _≤_, _<_}
+use native.Mathlib.Nat.{zero-div}
+use native.Mathlib.Omega.{arith}
+use lib.ListN.{length, take, getD, length-take, length-replicate}
+use lib.Seq.{getD-take}
+use lib.Dec.{eqb}
+use Rattle.area.specs.Pick.{pick, both}
+use Rattle.area.specs.Area.{same}
+use Rattle.area.proofs.Laws.Pick.{by, picks, skips, both-left, both-right, both-join}
+use Rattle.area.proofs.Laws.Same.{same-eq}
+use Rattle.tree.specs.Tree.{join}
+use Rattle.tree.specs.Walk.{proofIn}
+use Rattle.sia.specs.Names.{opOf}
+use Rattle.sia.specs.Encode.{joined, every}
+use Rattle.host.specs.Empty.{none, noPlace}
+use Rattle.host.specs.Places.{hasId, whose, committed, taken}
+use Rattle.host.specs.Facts.{Staged}
+use Rattle.machine_rules.specs.View.{Way, kept, worked, Setting, Turn, readOnlyMode, parent, freeCopies, sector, spotOf, parentSpots, committedSpots}
+use Rattle.machine_rules.specs.Roots.{sectorRoot, keptRoot, rootBy, rootOf, contractRoot, rangeProof}
+use Rattle.machine_rules.specs.Seats.{seatsOf, firstSeat}
+use Rattle.machine_rules.specs.Inputs.{argsOf, illFormed, pastEnd, wellFormed}
+use Rattle.machine_rules.specs.Plan.{Source, missing, seen, isThere, spots, changes, contractSource, soughtSource, sectorSource, sourceOf}
+use Rattle.machine_rules.specs.Plan.{judgedSource, judgedInputs, judged}
+use Rattle.machine_rules.specs.Facts.{Solid, startOf}
+use Rattle.machine_rules.specs.Visit.{Shaped}
+use Rattle.machine_rules.specs.Sound.{right, stagedRight}
+use Rattle.machine_rules.proofs.Laws.Spots.{every-get, whose-every, whose-nobody, unstaged, every-tab, every-pick, pick-spots, disk-every}
+use Rattle.machine_rules.proofs.Laws.Spots.{program-every, sought-every}
+use Rattle.machine_rules.proofs.Laws.Rehashed.{right-at}
+use Rattle.sia.specs.declared.Op.{Op}
+use Rattle.sia.specs.declared.Op.the-variants.{Read, ReadSector, Write, Copy, Swap, Truncate, Unknown}
+use Rattle.sia.specs.declared.Instruction.{Instruction}
+use Rattle.host.specs.declared.Place.{Place}
+use Rattle.host.specs.declared.Progress.{Progress}
+use Rattle.machine_rules.specs.declared.Spot.{Spot}
+use Rattle.machine_rules.specs.declared.Spot.the-variants.{OnDisk, InStage}
+use Rattle.machine_rules.specs.declared.Seat.{Seat}
+use Rattle.machine_rules.specs.declared.Sought.{Sought}
+use Rattle.machine_rules.specs.declared.Sought.the-variants.{At}
+
+-- ---- readers that agree
+
+unfoldable pub agree : (Spot → List ℕ) → (Spot → List ℕ) → Spot → Bool
+agree f g x = same (f x) (g x)
+
+pub joined-agree : (f g : Spot → List ℕ) (l : List Spot) → every (agree f g) l ≡ true → joined f l ≡ joined g l
+unfolding joined every agree
+joined-agree f g [] h = refl
+joined-agree f g (x ∷ xs) h = ap₂ _++_ (same-eq _ _ (both-left _ _ h)) (joined-agree f g xs (both-right _ _ h))
+
+pub root-agree : (f g : Spot → List ℕ) (l : List Spot) → every (agree f g) l ≡ true → contractRoot f l ≡ contractRoot g l
+unfolding contractRoot
+root-agree f g [] h = refl
+root-agree f g (x ∷ xs) h = ap join (joined-agree f g (x ∷ xs) h)
+
+pub proof-agree : (z : ℕ) (f g : Spot → List ℕ) (disk stage : List ℕ) (l : List Spot) (at n : ℕ) → every (agree f g) l ≡ true → rangeProof z f disk stage l at n ≡ rangeProof z g disk stage l at n
+unfolding rangeProof
+proof-agree z f g disk stage [] at n h = refl
+proof-agree z f g disk stage (x ∷ xs) at n h =
+    ap (λ (r : List ℕ). proofIn r (at / z) (sector z disk stage (getD (x ∷ xs) (at / z) x)) (at % z / 64) (at % z / 64 + n / 64)) (joined-agree f g (x ∷ xs) h)
+
+pub first-agree : (f g : Spot → List ℕ) (key : List ℕ) (l : List Seat) → every (λ x. agree f g (x .spot)) l ≡ true
+    → firstSeat f key l ≡ firstSeat g key l
+unfolding firstSeat every agree
+first-agree f g key [] h = refl
+first-agree f g key (x ∷ xs) h =
+    ap₂ (λ (r : List ℕ) (rest : Sought). pick (same r key) (At x) rest) (same-eq _ _ (both-left _ _ h)) (first-agree f g key xs (both-right _ _ h))
+
+-- ---- what holds of every sector in use holds of all that is seen
+
+pub every-none : (p : Spot → Bool) → every p [] ≡ true
+unfolding every
+every-none p = refl
+
+length-slots : (id : List ℕ) (ps : List Place) → Shaped ps → length (whose id ps .slots) ≡ 64
+unfolding whose noPlace
+length-slots id [] h = length-replicate {A = ℕ} 64 0
+length-slots id (p ∷ ps) h =
+    by (hasId id p)
+    (λ e. ap (λ (x : Place). length (x .slots)) (picks (hasId id p) p (whose id ps) e) ∙ h .0)
+    (λ e. ap (λ (x : Place). length (x .slots)) (skips (hasId id p) p (whose id ps) e) ∙ length-slots id ps (h .1))
+
+committed-held : (z : ℕ) (p : Place) → p .held ≡ true → committed z p ≡ take (p .size / z) (p .slots)
+unfolding committed
+committed-held z p e = picks (p .held) _ [] e
+
+module _ (z : ℕ) (s : Setting) (P : Spot → Bool) (onDisk : every (λ n. P (OnDisk n)) (taken z (s .places)) ≡ true) where
+  pub all-committed : (id : List ℕ) → every P (committedSpots z (whose id (s .places))) ≡ true
+  unfolding committedSpots
+  all-committed id = disk-every P _ (whose-every (λ n. P (OnDisk n)) z id (s .places) onDisk)
+
+  pub all-start : every P (committedSpots z (parent s)) ≡ true
+  unfolding parent
+  all-start = all-committed (s .terms .head .contract)
+
+module _ (z : ℕ) (s : Setting) (p : Progress) (solid : Solid z s) (f : Staged (s .copies) (startOf z s) (p .size / z) (p .staged)) (few : p .size / z ≤ 64) (long : length (p .staged) ≡ 64) (shaped : Shaped (s .places))
+    (P : Spot → Bool) (onDisk : every (λ n. P (OnDisk n)) (taken z (s .places)) ≡ true) (inStage : (j : ℕ) → eqb (getD (p .staged) j none) none ≡ false → P (InStage (getD (p .staged) j none)) ≡ true) where
+  slot-all : (j : ℕ) → j < startOf z s → j < 64 → P (OnDisk (getD (whose (s .terms .head .contract) (s .places) .slots) j 0)) ≡ true
+  slot-all j lt most =
+      let own = whose (s .terms .head .contract) (s .places) in
+      by (whose (s .terms .head .contract) (s .places) .held)
+      (λ u. subst (λ (x : ℕ). P (OnDisk x) ≡ true) (getD-take (startOf z s) (whose (s .terms .head .contract) (s .places) .slots) j 0 lt)
+      (every-get (λ n. P (OnDisk n)) (take (startOf z s) (whose (s .terms .head .contract) (s .places) .slots)) j 0
+      (omega (arith, length-take (startOf z s) (whose (s .terms .head .contract) (s .places) .slots), length-slots (s .terms .head .contract) (s .places) shaped))
+      (subst (λ (l : List ℕ). every (λ n. P (OnDisk n)) l ≡ true) (committed-held z (whose (s .terms .head .contract) (s .places)) u) (whose-every (λ n. P (OnDisk n)) z (s .terms .head .contract) (s .places) onDisk))))
+      (λ u. let q : startOf z s ≡ 0 = ap (λ (n : ℕ). n / z) (whose-nobody (s .terms .head .contract) (s .places) u) ∙ zero-div z in absurd (omega arith))
+
+  spot-all : (j : ℕ) → j < p .size / z → P (spotOf (parent s .slots) (p .staged) j) ≡ true
+  unfolding spotOf parent
+  spot-all j lt =
+      by (eqb (getD (p .staged) j none) none)
+      (λ e. ap P (picks (eqb (getD (p .staged) j none) none) (OnDisk (getD (whose (s .terms .head .contract) (s .places) .slots) j 0)) (InStage (getD (p .staged) j none)) e)
+      ∙ slot-all j (unstaged z s p solid f (omega (arith, long)) j lt e) (omega arith))
+      (λ e. ap P (skips (eqb (getD (p .staged) j none) none) (OnDisk (getD (whose (s .terms .head .contract) (s .places) .slots) j 0)) (InStage (getD (p .staged) j none)) e) ∙ inStage j e)
+
+  pub all-parent : every P (parentSpots z s p) ≡ true
+  unfolding parentSpots
+  all-parent = every-tab P (spotOf (parent s .slots) (p .staged)) 0 (p .size / z) (λ j lo hi. spot-all j (omega arith))
+
+  all-contract : (id : List ℕ) → every P (spots (contractSource z s p id)) ≡ true
+  unfolding contractSource spots
+  all-contract id =
+      ap (λ (l : List Spot). every P l) (pick-spots _ missing _)
+      ∙ every-pick P _ [] _ (every-none P)
+      (ap (λ (l : List Spot). every P l) (pick-spots _ (seen (parentSpots z s p)) _)
+      ∙ every-pick P _ (parentSpots z s p) _ all-parent (all-committed z s P onDisk id))
+
+  pub all-seats : every (λ x. P (x .spot)) (seatsOf z s p) ≡ true
+  all-seats = program-every P z s p all-parent onDisk
+
+  pub all-source : (r : Spot → List ℕ) (op : Op) (key : List ℕ) → every P (spots (sourceOf z s r p op key)) ≡ true
+  unfolding sourceOf sectorSource spots
+  all-source r Read key = all-contract key
+  all-source r ReadSector key = sought-every P r key (seatsOf z s p) all-seats
+  all-source r Write key = every-none P
+  all-source r Copy key = every-none P
+  all-source r Swap key = every-none P
+  all-source r Truncate key = every-none P
+  all-source r Unknown key = every-none P
+
+-- ---- the kept reader and the one that works roots out
+
+unfoldable pub withWay : Way → Setting → Setting
+withWay way s = record { sectors = s .sectors; copies = s .copies; places = s .places; terms = s .terms; disk = s .disk; roots = s .roots; way = way }
+
+disk-agrees : (z : ℕ) (s : Setting) (stage copies : List ℕ) (n : ℕ) → right z (s .disk) (s .roots) n ≡ agree (rootOf z (withWay kept s) stage copies) (rootOf z (withWay worked s) stage copies) (OnDisk n)
+unfolding right agree rootOf rootBy withWay keptRoot sectorRoot sector
+disk-agrees z s stage copies n = refl
+
+stage-agrees : (z : ℕ) (s : Setting) (stage copies : List ℕ) (n : ℕ) → right z stage copies n ≡ agree (rootOf z (withWay kept s) stage copies) (rootOf z (withWay worked s) stage copies) (InStage n)
+unfolding right agree rootOf rootBy withWay keptRoot sectorRoot sector
+stage-agrees z s stage copies n = refl
+
+every-alike : (p q : ℕ → Bool) (l : List ℕ) → ((n : ℕ) → p n ≡ q n) → every p l ≡ true → every q l ≡ true
+unfolding every
+every-alike p q [] e h = refl
+every-alike p q (x ∷ xs) e h = both-join _ _ (sym (e x) ∙ both-left _ _ h) (every-alike p q xs e (both-right _ _ h))
+
+-- roots that are right, of the sectors that there are while instructions run
+pub record Known (z : ℕ) (s : Setting) (t : Turn) : Type 0 where
+  pub disk : every (right z (s .disk) (s .roots)) (taken z (s .places)) ≡ true
+  pub stage : stagedRight z (t .stage) (t .roots) (t .progress .staged) ≡ true
+  pub kept : length (t .roots) ≡ 512
+  pub shaped : Shaped (s .places)
+
+pub known-disk : (z : ℕ) (s : Setting) (stage copies : List ℕ) → every (right z (s .disk) (s .roots)) (taken z (s .places)) ≡ true
+    → every (λ n. agree (rootOf z (withWay kept s) stage copies) (rootOf z (withWay worked s) stage copies) (OnDisk n)) (taken z (s .places)) ≡ true
+known-disk z s stage copies h = every-alike _ _ _ (disk-agrees z s stage copies) h
+
+pub known-stage : (z : ℕ) (s : Setting) (stage copies staged : List ℕ) → stagedRight z stage copies staged ≡ true → (j : ℕ) → eqb (getD staged j none) none ≡ false
+    → agree (rootOf z (withWay kept s) stage copies) (rootOf z (withWay worked s) stage copies) (InStage (getD staged j none)) ≡ true
+known-stage z s stage copies staged h j n = sym (stage-agrees z s stage copies (getD staged j none)) ∙ right-at z stage copies staged j h n
+
+-- ---- checks
+
+-- which way makes no difference but by the reader
+source-way : (way : Way) (z : ℕ) (s : Setting) (f : Spot → List ℕ) (p : Progress) (op : Op) (key : List ℕ) → sourceOf z (withWay way s) f p op key ≡ sourceOf z s f p op key
+unfolding sourceOf contractSource sectorSource seatsOf readOnlyMode parentSpots parent withWay
+source-way way z s f p Read key = refl
+source-way way z s f p ReadSector key = refl
+source-way way z s f p Write key = refl
+source-way way z s f p Copy key = refl
+source-way way z s f p Swap key = refl
+source-way way z s f p Truncate key = refl
+source-way way z s f p Unknown key = refl
+
+source-agree : (z : ℕ) (s : Setting) (f g : Spot → List ℕ) (p : Progress) (op : Op) (key : List ℕ)
+    → every (λ x. agree f g (x .spot)) (seatsOf z s p) ≡ true
+    → sourceOf z s f p op key ≡ sourceOf z s g p op key
+unfolding sourceOf sectorSource
+source-agree z s f g p Read key h = refl
+source-agree z s f g p ReadSector key h = ap soughtSource (first-agree f g key (seatsOf z s p) h)
+source-agree z s f g p Write key h = refl
+source-agree z s f g p Copy key h = refl
+source-agree z s f g p Swap key h = refl
+source-agree z s f g p Truncate key h = refl
+source-agree z s f g p Unknown key h = refl
+
+pub source-alike : (z : ℕ) (s : Setting) (f g : Spot → List ℕ) (p : Progress) (op : Op) (key : List ℕ) → every (λ x. agree f g (x .spot)) (seatsOf z s p) ≡ true
+    → sourceOf z (withWay kept s) f p op key ≡ sourceOf z (withWay worked s) g p op key
+source-alike z s f g p op key h = source-way kept z s f p op key ∙ source-agree z s f g p op key h ∙ sym (source-way worked z s g p op key)
+
+inputs-alike : (z : ℕ) (s : Setting) (f g : Spot → List ℕ) (p : Progress) (i : Instruction) (op : Op) (l : List (List ℕ))
+    → every (λ x. agree f g (x .spot)) (seatsOf z s p) ≡ true
+    → judgedInputs z (withWay kept s) f p i op l ≡ judgedInputs z (withWay worked s) g p i op l
+unfolding judgedInputs judgedSource readOnlyMode freeCopies withWay
+inputs-alike z s f g p i op l h =
+    ap (λ (from : Source). pick (not (wellFormed op l)) 23 (pick (both (changes op) (readOnlyMode (s .terms))) 24 (pick (not (isThere from)) 25 (judgedSource z s p (i .proof) from op (argsOf op l)))))
+    (source-alike z s f g p op (argsOf op l .key) h)
+
+pub judged-alike : (z : ℕ) (s : Setting) (f g : Spot → List ℕ) (p : Progress) (i : Instruction) (l : List (List ℕ))
+    → every (λ x. agree f g (x .spot)) (seatsOf z s p) ≡ true
+    → judged z (withWay kept s) f p i l ≡ judged z (withWay worked s) g p i l
+unfolding judged withWay
+judged-alike z s f g p i l h = ap (λ (n : ℕ). pick (illFormed i) 21 (pick (pastEnd (s .terms .head .length) i) 22 n)) (inputs-alike z s f g p i (opOf (i .name)) l h)

@@ -1,0 +1,136 @@
+-- The roots kept beside the stage's slots after an instruction: right where they were right before. Assumes nothing.
+use mathlib.Core.Path.{_≡_, refl, sym, ap, _∙_, subst}
+use mathlib.Core.Bool.{Bool, true, false, not}
+use mathlib.Core.List.{List, [], _∷_}
+use Prim.Native.Nat.{ℕ, zero, suc, _+_, _*_, _/_, _%_, _≤_, _<_}
+use native.Mathlib.Nat.{suc-mul, mul-le-mul-right}
+use native.Mathlib.Omega.{arith}
+use lib.ListN.{length, getD}
+use lib.Dec.{ltb, eqb}
+use borrow.Author.Tests.{not-true, ltb-true, ltb-false, eqb-true, eqb-false, ne-eqb, eq-eqb}
+use Rattle.area.specs.Pick.{pick, either, both}
+use Rattle.area.specs.Area.{same, part, put}
+use Rattle.area.proofs.Laws.Pick.{by, picks, skips, never, both-left, both-right, both-join, either-left, either-right}
+use Rattle.area.proofs.Laws.Puts.{length-put, part-put}
+use Rattle.area.proofs.Laws.Same.{same-eq, eq-same}
+use Rattle.tree.specs.Tree.{root}
+use Rattle.tree.proofs.Promise.{roots}
+use Rattle.sia.specs.Encode.{every}
+use Rattle.host.specs.Lists.{some, apart}
+use Rattle.host.specs.Empty.{none}
+use Rattle.host.specs.Order.{slotInOrder, clash}
+use Rattle.host.specs.Facts.{Staged}
+use Rattle.machine_rules.specs.Effect.{Staging, rehashed}
+use Rattle.machine_rules.specs.Sound.{right, stagedRight}
+use Rattle.machine_rules.proofs.Laws.Spots.{every-get, every-at}
+use Rattle.machine_rules.proofs.Laws.Filling.{other-slot}
+use Rattle.machine_rules.proofs.Laws.Areas.{rehashed-length}
+use Rattle.machine_rules.proofs.Laws.Wrote.{Wrote}
+use Rattle.machine_rules.proofs.Laws.Staged.{slot-none}
+
+-- ---- the slots of a list of positions
+
+some-here : (j : ℕ) (l : List ℕ) → some (eqb j) (j ∷ l) ≡ true
+unfolding some
+some-here j l = picks (eqb j j) true _ (eq-eqb j j refl)
+
+some-more : (j at : ℕ) (l : List ℕ) → some (eqb j) l ≡ true → some (eqb j) (at ∷ l) ≡ true
+unfolding some
+some-more j at l e = by (eqb j at) (λ u. picks (eqb j at) true _ u) (λ u. skips (eqb j at) true _ u ∙ e)
+
+some-less : (j at : ℕ) (l : List ℕ) → (j ≡ at → ⊥) → some (eqb j) (at ∷ l) ≡ true → some (eqb j) l ≡ true
+unfolding some
+some-less j at l ne e = sym (skips (eqb j at) true _ (ne-eqb j at ne)) ∙ e
+
+-- none of the positions has slot m
+pub rehashed-out : (z : ℕ) (g : Staging) (m : ℕ) (l copies : List ℕ) → ((at : ℕ) → some (eqb at) l ≡ true → getD (g .staged) at none ≡ m → ⊥)
+    → part (rehashed z g l copies) (m * 32) 32 ≡ part copies (m * 32) 32
+unfolding rehashed
+rehashed-out z g m [] copies o = refl
+rehashed-out z g m (at ∷ l) copies o =
+    other-slot 32 (rehashed z g l copies) (getD (g .staged) at none) m _ (omega (arith, roots .root-long (part (g .bytes) (getD (g .staged) at none * z) z))) (o at (some-here at l))
+    ∙ rehashed-out z g m l copies (λ j u. o j (some-more j at l u))
+
+-- one of them has it
+pub rehashed-in : (z : ℕ) (g : Staging) (m : ℕ) (l copies : List ℕ) (j : ℕ) → some (eqb j) l ≡ true → getD (g .staged) j none ≡ m → m * 32 + 32 ≤ length copies
+    → part (rehashed z g l copies) (m * 32) 32 ≡ root (part (g .bytes) (m * z) z)
+unfolding rehashed some
+rehashed-in z g m [] copies j u k room = never (sym u)
+rehashed-in z g m (at ∷ l) copies j u k room =
+    let long = roots .root-long (part (g .bytes) (getD (g .staged) at none * z) z) in
+    by (eqb (getD (g .staged) at none) m)
+    (λ v. let q = eqb-true (getD (g .staged) at none) m v in
+    ap (λ (x : ℕ). part (put (rehashed z g l copies) (getD (g .staged) at none * 32) (root (part (g .bytes) (getD (g .staged) at none * z) z))) (x * 32) 32) (sym q)
+    ∙ part-put (rehashed z g l copies) (getD (g .staged) at none * 32) (root (part (g .bytes) (getD (g .staged) at none * z) z)) 32 (sym long) (omega (arith, long, rehashed-length z g l copies, q))
+    ∙ ap (λ (x : ℕ). root (part (g .bytes) (x * z) z)) q)
+    (λ v. let ne = eqb-false (getD (g .staged) at none) m v in
+    other-slot 32 (rehashed z g l copies) (getD (g .staged) at none) m _ (omega (arith, long)) ne
+    ∙ rehashed-in z g m l copies j (some-less j at l (λ q. ne (ap (λ (x : ℕ). getD (g .staged) x none) (sym q) ∙ k)) u) k room)
+
+-- ---- positions and slots
+
+-- two positions have two slots
+clash-at : (x : ℕ) (l : List ℕ) (k : ℕ) → eqb x none ≡ false → some (clash x) l ≡ false → getD l k none ≡ x → ⊥
+unfolding some clash
+clash-at x [] k n h e = never (sym (eq-eqb x none (sym e)) ∙ n)
+clash-at x (y ∷ ys) zero n h e =
+    let no = either-left _ _ h in
+    let b : both (not (eqb x none)) (both (not (eqb y none)) (eqb x y)) ≡ true =
+    both-join _ _ (ap not n) (both-join _ _ (ap not (ap (λ (m : ℕ). eqb m none) e ∙ n)) (eq-eqb x y (sym e))) in
+    never (sym b ∙ no)
+clash-at x (y ∷ ys) (suc k) n h e = clash-at x ys k n (either-right _ _ h) e
+
+pub slots-differ : (l : List ℕ) → apart clash l ≡ true → (j k : ℕ) → j < k → eqb (getD l j none) none ≡ false → getD l k none ≡ getD l j none → ⊥
+unfolding apart
+slots-differ [] h j k lt n e = never (sym (eq-eqb none none refl) ∙ n)
+slots-differ (x ∷ xs) h j zero lt n e = absurd (omega arith)
+slots-differ (x ∷ xs) h zero (suc k) lt n e = clash-at x xs k n (not-true _ (both-left _ _ h)) e
+slots-differ (x ∷ xs) h (suc j) (suc k) lt n e = slots-differ xs (both-right _ _ h) j k (omega arith) n e
+
+pub two-slots : (l : List ℕ) → apart clash l ≡ true → (j k : ℕ) → (k ≡ j → ⊥) → eqb (getD l j none) none ≡ false → getD l k none ≡ getD l j none → ⊥
+two-slots l h j k ne n e =
+    by (ltb j k)
+    (λ u. slots-differ l h j k (ltb-true j k u) n e)
+    (λ u. by (ltb k j)
+    (λ v. slots-differ l h k j (ltb-true k j v) (subst (λ (x : ℕ). eqb x none ≡ false) (sym e) n) (sym e))
+    (λ v. ne (omega (arith, ltb-false j k u, ltb-false k j v))))
+
+pub every-all : (p : ℕ → Bool) (l : List ℕ) (d : ℕ) → ((j : ℕ) → j < length l → p (getD l j d) ≡ true) → every p l ≡ true
+unfolding every
+every-all p [] d f = refl
+every-all p (x ∷ xs) d f = both-join _ _ (f 0 (omega arith)) (every-all p xs d (λ j lt. f (suc j) (omega arith)))
+
+pub every-two : (p q r : ℕ → Bool) (l : List ℕ) → every p l ≡ true → every q l ≡ true → ((n : ℕ) → p n ≡ true → q n ≡ true → r n ≡ true) → every r l ≡ true
+unfolding every
+every-two p q r [] u v f = refl
+every-two p q r (x ∷ xs) u v f = both-join _ _ (f x (both-left _ _ u) (both-left _ _ v)) (every-two p q r xs (both-right _ _ u) (both-right _ _ v) f)
+
+-- ---- right before, right after
+
+or-second : (a b : Bool) → (a ≡ false → b ≡ true) → either a b ≡ true
+or-second a b f = by a (λ u. picks a true b u) (λ u. skips a true b u ∙ f u)
+
+pub right-at : (z : ℕ) (stage copies staged : List ℕ) (j : ℕ) → stagedRight z stage copies staged ≡ true → eqb (getD staged j none) none ≡ false → right z stage copies (getD staged j none) ≡ true
+unfolding stagedRight
+right-at z stage copies staged j h n =
+    sym (skips (eqb (getD staged j none) none) true _ n)
+    ∙ every-at (λ m. either (eqb m none) (right z stage copies m)) staged j none h (picks (eqb none none) true _ refl)
+
+pub rehashed-right : (z : ℕ) (ps copies : List ℕ) (g h : Staging) (n start now : ℕ) → Wrote z ps g h → n ≤ 16 → Staged n start now (h .staged) → length copies ≡ 512
+    → stagedRight z (g .bytes) copies (g .staged) ≡ true → stagedRight z (h .bytes) (rehashed z h ps copies) (h .staged) ≡ true
+unfolding stagedRight right slotInOrder
+rehashed-right z ps copies g h n start now w few f long before =
+    every-all (λ m. either (eqb m none) (right z (h .bytes) (rehashed z h ps copies) m)) (h .staged) none (λ j lt.
+    or-second (eqb (getD (h .staged) j none) none) _ (λ has.
+    let m = getD (h .staged) j none in
+    let below : getD (h .staged) j none < n = ltb-true _ _ (sym (skips (eqb (getD (h .staged) j none) none) true _ has) ∙ every-at (slotInOrder n) (h .staged) j none (f .slots) (slot-none n)) in
+    by (some (eqb j) ps)
+    (λ u. eq-same _ _ (rehashed-in z h (getD (h .staged) j none) ps copies j u refl (omega arith)))
+    (λ u. let s = w .stay j u has in
+    let out : (at : ℕ) → some (eqb at) ps ≡ true → getD (h .staged) at none ≡ getD (h .staged) j none → ⊥ =
+    λ at v k. two-slots (h .staged) (f .own) j at (λ q. never (sym v ∙ ap (λ (x : ℕ). some (eqb x) ps) q ∙ u)) has k in
+    let old = same-eq _ _ (right-at z (g .bytes) copies (g .staged) j before (subst (λ (x : ℕ). eqb x none ≡ false) s has)) in
+    eq-same _ _
+    (rehashed-out z h (getD (h .staged) j none) ps copies out
+    ∙ ap (λ (x : ℕ). part copies (x * 32) 32) s ∙ old ∙ ap (λ (x : ℕ). root (part (g .bytes) (x * z) z)) (sym s)
+    ∙ ap root (sym (w .hold (getD (h .staged) j none) has out))))))

@@ -1,0 +1,238 @@
+-- The one place of an id among places in order, and what replacing it does to slots and sizes. Assumes nothing.
+use mathlib.Core.Path.{_≡_, refl, sym, ap, ap₂, _∙_}
+use mathlib.Core.Bool.{Bool, true, false, not}
+use mathlib.Core.List.{List, [], _∷_, _++_, append-assoc}
+use Prim.Native.Nat.{ℕ, suc, _+_, _*_, _/_, _≤_, _<_, min}
+use native.Mathlib.Nat.{zero-mul, suc-mul, div-add-mod', mod-lt, div-lt-iff-lt-mul}
+use native.Mathlib.Omega.{arith}
+use lib.ListN.{length, take, drop, length-take, take-append-drop}
+use lib.Seq.{take-take}
+use lib.Dec.{ltb}
+use borrow.Author.Tests.{not-true, ltb-true, ltb-false}
+use Rattle.area.specs.Pick.{pick, both, either}
+use Rattle.area.specs.Area.{same}
+use Rattle.area.proofs.Laws.Pick.{by, picks, skips, never, both-left, both-right, both-join, either-left, either-right}
+use Rattle.area.proofs.Laws.Same.{same-eq, eq-same}
+use Rattle.sia.specs.Encode.{joined, every}
+use Rattle.host.specs.Lists.{some, each, apart, sum}
+use Rattle.host.specs.Empty.{noPlace}
+use Rattle.host.specs.With.{withSize}
+use Rattle.host.specs.Places.{hasId, whose, ownSize, others, committed, taken}
+use Rattle.host.specs.Order.{placeInOrder, twins}
+use Rattle.host.specs.Calls.{replaced}
+use Rattle.machine_rules.specs.Commit.{cut}
+use Rattle.machine_rules.specs.Visit.{Shaped}
+use Rattle.machine_rules.proofs.Laws.Pigeons.{tail-apart}
+use Rattle.machine_rules.proofs.Laws.Sizes.{has-id, has-held, has-same, whose-here, whose-on, others-kept, others-left, taken-length, committed-bytes}
+use Rattle.host.specs.declared.Place.{Place}
+
+are-twins : (id : List ℕ) (p q : Place) → hasId id p ≡ true → hasId id q ≡ true → twins p q ≡ true
+unfolding twins
+are-twins id p q u v =
+    both-join _ _ (has-held id p u) (both-join _ _ (has-held id q v) (eq-same _ _ (same-eq (p .id) id (has-same id p u) ∙ sym (same-eq (q .id) id (has-same id q v)))))
+
+pub none-has : (id : List ℕ) (p : Place) (ps : List Place) → hasId id p ≡ true → some (twins p) ps ≡ false → every (λ q. not (hasId id q)) ps ≡ true
+unfolding every some
+none-has id p [] u h = refl
+none-has id p (q ∷ qs) u h =
+    by (hasId id q)
+    (λ v. never (sym (are-twins id p q u v) ∙ either-left _ _ h))
+    (λ v. both-join _ _ (ap not v) (none-has id p qs u (either-right _ _ h)))
+
+-- twins go by held and id alone
+twins-left : (x y q : Place) → x .held ≡ y .held → x .id ≡ y .id → twins x q ≡ twins y q
+unfolding twins
+twins-left x y q a b = λ i. both (a i) (both (q .held) (same (b i) (q .id)))
+
+twins-right : (p x y : Place) → x .held ≡ y .held → x .id ≡ y .id → twins p x ≡ twins p y
+unfolding twins
+twins-right p x y a b = λ i. both (p .held) (both (a i) (same (p .id) (b i)))
+
+some-left : (x y : Place) (m : List Place) → x .held ≡ y .held → x .id ≡ y .id → some (twins x) m ≡ some (twins y) m
+unfolding some
+some-left x y [] a b = refl
+some-left x y (q ∷ m) a b = ap₂ either (twins-left x y q a b) (some-left x y m a b)
+
+some-right : (p x y : Place) (l m : List Place) → x .held ≡ y .held → x .id ≡ y .id → some (twins p) (l ++ (x ∷ m)) ≡ some (twins p) (l ++ (y ∷ m))
+unfolding some
+some-right p x y [] m a b = ap (λ (t : Bool). either t (some (twins p) m)) (twins-right p x y a b)
+some-right p x y (q ∷ l) m a b = ap (λ (t : Bool). either (twins p q) t) (some-right p x y l m a b)
+
+pub apart-alike : (l : List Place) (x y : Place) (m : List Place) → x .held ≡ y .held → x .id ≡ y .id → apart twins (l ++ (x ∷ m)) ≡ apart twins (l ++ (y ∷ m))
+unfolding apart
+apart-alike [] x y m a b = ap (λ (t : Bool). both (not t) (apart twins m)) (some-left x y m a b)
+apart-alike (p ∷ l) x y m a b = ap₂ (λ (t u : Bool). both (not t) u) (some-right p x y l m a b) (apart-alike l x y m a b)
+
+pub record Split (id : List ℕ) (ps : List Place) : Type 0 where
+  pub before : List Place
+  pub it : Place
+  pub behind : List Place
+  pub is : ps ≡ before ++ (it ∷ behind)
+  pub here : hasId id it ≡ true
+  pub not-before : every (λ q. not (hasId id q)) before ≡ true
+  pub not-behind : every (λ q. not (hasId id q)) behind ≡ true
+  pub whose-is : whose id ps ≡ it
+
+no-held : (id : List ℕ) → whose id [] .held ≡ false
+unfolding whose noPlace
+no-held id = refl
+
+every-nothing : (p : Place → Bool) → every p [] ≡ true
+unfolding every
+every-nothing p = refl
+
+pub every-cons : (p : Place → Bool) (x : Place) (xs : List Place) → p x ≡ true → every p xs ≡ true → every p (x ∷ xs) ≡ true
+unfolding every
+every-cons p x xs h k = both-join _ _ h k
+
+pub split : (id : List ℕ) (ps : List Place) → apart twins ps ≡ true → whose id ps .held ≡ true → Split id ps
+split id [] a h = never (sym h ∙ no-held id)
+split id (p ∷ ps) a h =
+    let q = tail-apart twins p ps a in
+    by (hasId id p)
+    (λ e. record {
+      before = [];
+      it = p;
+      behind = ps;
+      is = refl;
+      here = e;
+      not-before = every-nothing _;
+      not-behind = none-has id p ps e (q .0);
+      whose-is = whose-here id p ps e;
+    })
+    (λ e. let r = split id ps (q .1) (sym (ap (λ (x : Place). x .held) (whose-on id p ps e)) ∙ h) in
+    record {
+      before = p ∷ r .before;
+      it = r .it;
+      behind = r .behind;
+      is = ap (λ (l : List Place). p ∷ l) (r .is);
+      here = r .here;
+      not-before = every-cons _ p (r .before) (ap not e) (r .not-before);
+      not-behind = r .not-behind;
+      whose-is = whose-on id p ps e ∙ r .whose-is;
+    })
+
+-- ---- lists of places in two parts
+
+pub replaced-none : (id : List ℕ) (x : Place) (ps : List Place) → every (λ q. not (hasId id q)) ps ≡ true → replaced id x ps ≡ ps
+unfolding replaced each every
+replaced-none id x [] h = refl
+replaced-none id x (p ∷ ps) h = ap₂ _∷_ (skips (hasId id p) x p (not-true _ (both-left _ _ h))) (replaced-none id x ps (both-right _ _ h))
+
+replaced-append : (id : List ℕ) (x : Place) (l m : List Place) → replaced id x (l ++ m) ≡ replaced id x l ++ replaced id x m
+unfolding replaced each
+replaced-append id x [] m = refl
+replaced-append id x (p ∷ ps) m = ap (λ (r : List Place). pick (hasId id p) x p ∷ r) (replaced-append id x ps m)
+
+replaced-here : (id : List ℕ) (x p : Place) (ps : List Place) → hasId id p ≡ true → replaced id x (p ∷ ps) ≡ x ∷ replaced id x ps
+unfolding replaced each
+replaced-here id x p ps e = ap (λ (q : Place). q ∷ each (λ r. pick (hasId id r) x r) ps) (picks (hasId id p) x p e)
+
+pub replaced-split : (id : List ℕ) (x : Place) (ps : List Place) (s : Split id ps) → replaced id x ps ≡ s .before ++ (x ∷ s .behind)
+replaced-split id x ps s =
+    ap (λ (l : List Place). replaced id x l) (s .is) ∙ replaced-append id x (s .before) (s .it ∷ s .behind)
+    ∙ ap₂ _++_ (replaced-none id x (s .before) (s .not-before)) (replaced-here id x (s .it) (s .behind) (s .here) ∙ ap (λ (l : List Place). x ∷ l) (replaced-none id x (s .behind) (s .not-behind)))
+
+pub taken-split : (z : ℕ) (l : List Place) (x : Place) (m : List Place) → taken z (l ++ (x ∷ m)) ≡ taken z l ++ (committed z x ++ taken z m)
+unfolding taken joined
+taken-split z [] x m = refl
+taken-split z (p ∷ l) x m = ap (λ (r : List ℕ). committed z p ++ r) (taken-split z l x m) ∙ sym (append-assoc (committed z p) (joined (committed z) l) _)
+
+others-nil : (id : List ℕ) → others id [] ≡ 0
+unfolding others ownSize each sum
+others-nil id = refl
+
+taken-nil : (z : ℕ) → length (taken z []) * z ≡ 0
+unfolding taken joined
+taken-nil z = zero-mul z
+
+committed-free : (z : ℕ) (p : Place) → p .held ≡ false → committed z p ≡ []
+unfolding committed
+committed-free z p e = skips (p .held) _ [] e
+
+not-same : (id : List ℕ) (p : Place) → p .held ≡ true → hasId id p ≡ false → same (p .id) id ≡ false
+not-same id p e h = by (same (p .id) id) (λ u. never (sym (has-id id p e u) ∙ h)) (λ u. u)
+
+pub others-append : (id : List ℕ) (l m : List Place) → others id (l ++ m) ≡ others id l + others id m
+others-append id [] m = omega (arith, others-nil id)
+others-append id (p ∷ l) m =
+    by (both (p .held) (not (same (p .id) id)))
+    (λ u. omega (arith, others-kept id p (l ++ m) u, others-kept id p l u, others-append id l m))
+    (λ u. omega (arith, others-left id p (l ++ m) u, others-left id p l u, others-append id l m))
+
+-- the sizes of places without the id are those of their slots
+pub others-none : (z : ℕ) (id : List ℕ) (l : List Place) → every (λ q. not (hasId id q)) l ≡ true → every (placeInOrder z) l ≡ true → Shaped l → others id l ≡ length (taken z l) * z
+unfolding every
+others-none z id [] h k s = others-nil id ∙ sym (taken-nil z)
+others-none z id (p ∷ l) h k s =
+    let ih = others-none z id l (both-right _ _ h) (both-right _ _ k) (s .1) in
+    let tl = taken-length z p l in
+    by (p .held)
+    (λ e. omega (arith, ih, tl, committed-bytes z p (both-left _ _ k) (s .0) e, others-kept id p l (both-join _ _ e (ap not (not-same id p e (not-true _ (both-left _ _ h)))))))
+    (λ e. omega (arith, ih, tl, others-left id p l (skips (p .held) _ false e), ap (λ (l : List ℕ). length l * z) (committed-free z p e), zero-mul z))
+
+-- ---- kept slots
+
+pub cut-held : (z n : ℕ) (p : Place) → p .held ≡ true → committed z (cut n p) ≡ take (min (p .size) n / z) (p .slots)
+unfolding cut committed withSize
+cut-held z n p e = picks (p .held) _ [] e
+
+held-slots : (z : ℕ) (p : Place) → p .held ≡ true → committed z p ≡ take (p .size / z) (p .slots)
+unfolding committed
+held-slots z p e = picks (p .held) _ [] e
+
+div-less : (z a b : ℕ) → 0 < z → a < suc b * z → a / z ≤ b
+div-less z a b pos h = let q : a / z < suc b = div-lt-iff-lt-mul {k = z} {x = a} {y = suc b} pos .1 h in omega arith
+
+cut-fewer : (z n : ℕ) (p : Place) → 0 < z → (min (p .size) n / z ≤ p .size / z) × (min (p .size) n / z ≤ n / z)
+cut-fewer z n p pos = (
+  div-less z (min (p .size) n) (p .size / z) pos (omega (arith, suc-mul (p .size / z) z, div-add-mod' (p .size) z, mod-lt (p .size) pos)),
+  div-less z (min (p .size) n) (n / z) pos (omega (arith, suc-mul (n / z) z, div-add-mod' n z, mod-lt n pos)),
+)
+
+-- a position below both sizes is kept
+pub cut-within : (z n m j : ℕ) → 0 < z → j < n / z → j < m / z → j < min m n / z
+cut-within z n m j pos lo hi =
+    by (ltb j (min m n / z))
+    (λ e. ltb-true j (min m n / z) e)
+    (λ e. let q : min m n < suc j * z = div-lt-iff-lt-mul {k = z} {x = min m n} {y = suc j} pos .0 (omega (arith, ltb-false j (min m n / z) e)) in
+    by (ltb m (suc j * z))
+    (λ u. absurd (let v : m / z < suc j = div-lt-iff-lt-mul {k = z} {x = m} {y = suc j} pos .1 (ltb-true m (suc j * z) u) in omega arith))
+    (λ u. absurd (let v : n / z < suc j = div-lt-iff-lt-mul {k = z} {x = n} {y = suc j} pos .1 (omega (arith, ltb-false m (suc j * z) u)) in omega arith)))
+
+pub cut-rest : ℕ → ℕ → Place → List ℕ
+cut-rest z n p = drop (min (p .size) n / z) (take (p .size / z) (p .slots))
+
+pub cut-prefix : (z n : ℕ) (p : Place) → 0 < z → p .held ≡ true → committed z p ≡ committed z (cut n p) ++ cut-rest z n p
+unfolding cut-rest
+cut-prefix z n p pos e =
+    held-slots z p e
+    ∙ sym (take-append-drop (min (p .size) n / z) (take (p .size / z) (p .slots)))
+    ∙ ap (λ (l : List ℕ). l ++ drop (min (p .size) n / z) (take (p .size / z) (p .slots))) (take-take (min (p .size) n / z) (p .size / z) (p .slots) (cut-fewer z n p pos .0) ∙ sym (cut-held z n p e))
+
+pub cut-most : (z n : ℕ) (p : Place) → 0 < z → p .held ≡ true → length (committed z (cut n p)) ≤ n / z
+cut-most z n p pos e = omega (arith, ap length (cut-held z n p e), length-take (min (p .size) n / z) (p .slots), cut-fewer z n p pos .1)
+
+pub shaped-fore : (l m : List Place) → Shaped (l ++ m) → Shaped l
+shaped-fore [] m h = tt
+shaped-fore (p ∷ l) m h = (h .0, shaped-fore l m (h .1))
+
+pub shaped-aft : (l m : List Place) → Shaped (l ++ m) → Shaped m
+shaped-aft [] m h = h
+shaped-aft (p ∷ l) m h = shaped-aft l m (h .1)
+
+pub every-first : (p : Place → Bool) (x : Place) (xs : List Place) → every p (x ∷ xs) ≡ true → p x ≡ true
+unfolding every
+every-first p x xs h = both-left _ _ h
+
+pub every-rest : (p : Place → Bool) (x : Place) (xs : List Place) → every p (x ∷ xs) ≡ true → every p xs ≡ true
+unfolding every
+every-rest p x xs h = both-right _ _ h
+
+-- nothing has the id: nothing is replaced
+pub none-of : (id : List ℕ) (ps : List Place) → whose id ps .held ≡ false → every (λ q. not (hasId id q)) ps ≡ true
+none-of id [] h = every-nothing _
+none-of id (p ∷ ps) h =
+    by (hasId id p)
+    (λ e. never (sym (has-held id p e) ∙ sym (ap (λ (x : Place). x .held) (whose-here id p ps e)) ∙ h))
+    (λ e. every-cons _ p ps (ap not e) (none-of id ps (sym (ap (λ (x : Place). x .held) (whose-on id p ps e)) ∙ h)))

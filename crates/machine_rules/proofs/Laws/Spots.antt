@@ -1,0 +1,293 @@
+-- What is seen lies in slots that there are, at most 64 sectors. Assumes nothing.
+use mathlib.Core.Path.{_≡_, refl, sym, ap, _∙_, subst}
+use mathlib.Core.Bool.{Bool, true, false, not}
+use mathlib.Core.List.{List, [], _∷_, _++_}
+use Prim.Native.Nat.{ℕ, zero, suc, _+_, _-_, _/_, _≤_, _<_}
+use native.Mathlib.Nat.{zero-div}
+use native.Mathlib.Omega.{arith}
+use lib.ListN.{length, take, drop, getD, length-take, length-drop}
+use lib.Seq.{getD-take, getD-drop, length-take-le}
+use lib.Dec.{leb, ltb, eqb}
+use borrow.Author.Tests.{not-true, leb-true, ltb-true, ltb-false, lt-ltb}
+use Rattle.area.specs.Pick.{pick, both, either}
+use Rattle.area.specs.Area.{same, tab}
+use Rattle.area.proofs.Laws.Pick.{by, picks, skips, never, both-left, both-right, both-join}
+use Rattle.area.proofs.Laws.Tab.{length-tab}
+use Rattle.sia.specs.Encode.{joined, every}
+use Rattle.host.specs.Lists.{each}
+use Rattle.host.specs.Empty.{none, noPlace}
+use Rattle.host.specs.Places.{hasId, whose, committed, taken}
+use Rattle.host.specs.Order.{placeInOrder, slotInOrder}
+use Rattle.host.specs.Facts.{Staged}
+use Rattle.machine_rules.specs.View.{Setting, readOnlyMode, parent, spotOf, parentSpots, committedSpots}
+use Rattle.machine_rules.specs.Seats.{seated, committedSeats, seats, seatsOf, firstSeat}
+use Rattle.machine_rules.specs.Plan.{Source, missing, seen, spots, contractSource, soughtSource, sectorSource, sourceOf}
+use Rattle.machine_rules.specs.Facts.{Solid, startOf, valid}
+use Rattle.machine_rules.proofs.Laws.Staged.{slot-none}
+use Rattle.machine_rules.proofs.Laws.Areas.{either-second as second-not}
+use Rattle.sia.specs.declared.Op.{Op}
+use Rattle.sia.specs.declared.Op.the-variants.{Read, ReadSector, Write, Copy, Swap, Truncate, Unknown}
+use Rattle.host.specs.declared.Place.{Place}
+use Rattle.host.specs.declared.Progress.{Progress}
+use Rattle.machine_rules.specs.declared.Spot.{Spot}
+use Rattle.machine_rules.specs.declared.Spot.the-variants.{OnDisk, InStage}
+use Rattle.machine_rules.specs.declared.Seat.{Seat}
+use Rattle.machine_rules.specs.declared.Sought.{Sought}
+use Rattle.machine_rules.specs.declared.Sought.the-variants.{At, Nowhere}
+
+-- ---- spots are slots that there are
+
+pub every-at : {A : Type 0} (p : A → Bool) (l : List A) (i : ℕ) (d : A) → every p l ≡ true → p d ≡ true → p (getD l i d) ≡ true
+unfolding every
+every-at p [] i d h e = e
+every-at p (x ∷ xs) zero d h e = both-left _ _ h
+every-at p (x ∷ xs) (suc i) d h e = every-at p xs i d (both-right _ _ h) e
+
+pub every-get : {A : Type 0} (p : A → Bool) (l : List A) (i : ℕ) (d : A) → i < length l → every p l ≡ true → p (getD l i d) ≡ true
+unfolding every
+every-get p [] i d h e = absurd (omega arith)
+every-get p (x ∷ xs) zero d h e = both-left _ _ e
+every-get p (x ∷ xs) (suc i) d h e = every-get p xs i d (omega arith) (both-right _ _ e)
+
+pub either-second : (a b : Bool) → either a b ≡ true → a ≡ false → b ≡ true
+unfolding pick
+either-second true b e f = never f
+either-second false b e f = e
+
+pub every-fore : {A : Type 0} (p : A → Bool) (l m : List A) → every p (l ++ m) ≡ true → every p l ≡ true
+unfolding every
+every-fore p [] m h = refl
+every-fore p (x ∷ xs) m h = both-join _ _ (both-left _ _ h) (every-fore p xs m (both-right _ _ h))
+
+pub every-aft : {A : Type 0} (p : A → Bool) (l m : List A) → every p (l ++ m) ≡ true → every p m ≡ true
+unfolding every
+every-aft p [] m h = h
+every-aft p (x ∷ xs) m h = every-aft p xs m (both-right _ _ h)
+
+pub every-tab : {A : Type 0} (p : A → Bool) (f : ℕ → A) (i n : ℕ) → ((j : ℕ) → i ≤ j → j < i + n → p (f j) ≡ true) → every p (tab i n f) ≡ true
+unfolding every tab
+every-tab p f i zero g = refl
+every-tab p f i (suc n) g = both-join _ _ (g i (omega arith) (omega arith)) (every-tab p f (suc i) n (λ j lo hi. g j (omega arith) (omega arith)))
+
+pub every-pick : {A : Type 0} (p : A → Bool) (b : Bool) (l m : List A) → every p l ≡ true → every p m ≡ true → every p (pick b l m) ≡ true
+unfolding pick
+every-pick p true l m u v = u
+every-pick p false l m u v = v
+
+pub disk-valid : (s : Setting) (l : List ℕ) → every (λ n. ltb n (s .sectors)) l ≡ true → every (valid s) (each OnDisk l) ≡ true
+unfolding every each valid
+disk-valid s [] h = refl
+disk-valid s (x ∷ xs) h = both-join _ _ (both-left _ _ h) (disk-valid s xs (both-right _ _ h))
+
+no-place-every : (p : ℕ → Bool) (z : ℕ) → every p (committed z noPlace) ≡ true
+unfolding committed noPlace pick every
+no-place-every p z = refl
+
+-- what holds of all slots holds of a contract's
+pub whose-every : (p : ℕ → Bool) (z : ℕ) (id : List ℕ) (ps : List Place) → every p (taken z ps) ≡ true → every p (committed z (whose id ps)) ≡ true
+unfolding taken joined whose
+whose-every p z id [] h = no-place-every p z
+whose-every p z id (q ∷ ps) h =
+    by (hasId id q)
+    (λ e. ap (λ (x : Place). every p (committed z x)) (picks (hasId id q) q (whose id ps) e) ∙ every-fore _ (committed z q) _ h)
+    (λ e. ap (λ (x : Place). every p (committed z x)) (skips (hasId id q) q (whose id ps) e) ∙ whose-every p z id ps (every-aft _ (committed z q) _ h))
+
+has-held : (id : List ℕ) (p : Place) → hasId id p ≡ true → p .held ≡ true
+unfolding hasId
+has-held id p e = both-left _ _ e
+
+pub whose-nobody : (id : List ℕ) (ps : List Place) → whose id ps .held ≡ false → whose id ps .size ≡ 0
+unfolding whose noPlace
+whose-nobody id [] h = refl
+whose-nobody id (p ∷ ps) h =
+    by (hasId id p)
+    (λ e. never (sym (has-held id p e) ∙ sym (ap (λ (x : Place). x .held) (picks (hasId id p) p (whose id ps) e)) ∙ h))
+    (λ e. ap (λ (x : Place). x .size) (skips (hasId id p) p (whose id ps) e) ∙ whose-nobody id ps (sym (ap (λ (x : Place). x .held) (skips (hasId id p) p (whose id ps) e)) ∙ h))
+
+committed-held : (z : ℕ) (p : Place) → p .held ≡ true → committed z p ≡ take (p .size / z) (p .slots)
+unfolding committed
+committed-held z p e = picks (p .held) _ [] e
+
+-- ---- what holds of all committed sectors holds of the one that is found
+
+pub disk-every : (P : Spot → Bool) (l : List ℕ) → every (λ n. P (OnDisk n)) l ≡ true → every P (each OnDisk l) ≡ true
+unfolding every each
+disk-every P [] h = refl
+disk-every P (x ∷ xs) h = both-join _ _ (both-left _ _ h) (disk-every P xs (both-right _ _ h))
+
+seated-every : (P : Spot → Bool) (i at : ℕ) (l : List Spot) → every P l ≡ true → every (λ x. P (x .spot)) (seated i at l) ≡ true
+unfolding seated every
+seated-every P i at [] h = refl
+seated-every P i at (x ∷ xs) h = both-join _ _ (both-left _ _ h) (seated-every P i (suc at) xs (both-right _ _ h))
+
+both-both : (a b c : Bool) → both a (both b c) ≡ both (both a b) c
+unfolding pick
+both-both true b c = refl
+both-both false b c = refl
+
+every-append : {A : Type 0} (p : A → Bool) (l m : List A) → every p (l ++ m) ≡ both (every p l) (every p m)
+unfolding every pick
+every-append p [] m = refl
+every-append p (x ∷ xs) m = ap (both (p x)) (every-append p xs m) ∙ both-both (p x) (every p xs) (every p m)
+
+no-seats : (Q : Seat → Bool) → every Q [] ≡ true
+unfolding every
+no-seats Q = refl
+
+module _ (P : Spot → Bool) (z : ℕ) (mine : Place → Bool) where
+  committed-every : (i : ℕ) (ps : List Place) → every (λ n. P (OnDisk n)) (taken z ps) ≡ true
+      → every (λ x. P (x .spot)) (committedSeats z mine i ps) ≡ true
+  unfolding committedSeats taken joined committedSpots
+  committed-every i [] h = no-seats _
+  committed-every i (p ∷ ps) h =
+      let l = seated i 0 (committedSpots z p) in
+      let own = seated-every P i 0 (committedSpots z p) (disk-every P (committed z p) (every-fore _ (committed z p) _ h)) in
+      rw (
+        every-append (λ (x : Seat). P (x .spot)) (pick (mine p) [] l) (committedSeats z mine (suc i) ps),
+        every-pick (λ (x : Seat). P (x .spot)) (mine p) [] l (no-seats _) own,
+        committed-every (suc i) ps (every-aft _ (committed z p) _ h),
+      ) (both-join true true refl refl)
+
+  pub seats-every : (own : List Spot) (ps : List Place) → every P own ≡ true → every (λ n. P (OnDisk n)) (taken z ps) ≡ true
+      → every (λ x. P (x .spot)) (seats z mine own ps) ≡ true
+  unfolding seats
+  seats-every own ps u v = rw (every-append (λ (x : Seat). P (x .spot)) _ _, seated-every P _ 0 own u, committed-every 0 ps v) (both-join true true refl refl)
+
+-- what is true of the parent's sectors and of all committed ones is true of all that a program looks through
+pub program-every : (P : Spot → Bool) (z : ℕ) (s : Setting) (p : Progress) → every P (parentSpots z s p) ≡ true
+    → every (λ n. P (OnDisk n)) (taken z (s .places)) ≡ true → every (λ x. P (x .spot)) (seatsOf z s p) ≡ true
+unfolding seatsOf every
+program-every P z s p u v =
+    every-pick (λ (x : Seat). P (x .spot)) (readOnlyMode (s .terms)) _ _ (seats-every P z _ [] (s .places) refl v)
+    (seats-every P z _ (parentSpots z s p) (s .places) u v)
+
+-- and so of the one that is found
+pub sought-every : (P : Spot → Bool) (f : Spot → List ℕ) (key : List ℕ) (l : List Seat) → every (λ x. P (x .spot)) l ≡ true
+    → every P (spots (soughtSource (firstSeat f key l))) ≡ true
+unfolding firstSeat soughtSource spots every
+sought-every P f key [] h = refl
+sought-every P f key (x ∷ xs) h =
+    by (same (f (x .spot)) key)
+    (λ e. rw (picks (same (f (x .spot)) key) (At x) (firstSeat f key xs) e) (both-join _ _ (both-left _ _ h) refl))
+    (λ e. rw (skips (same (f (x .spot)) key) (At x) (firstSeat f key xs) e) (sought-every P f key xs (both-right _ _ h)))
+
+none-valid : (s : Setting) → every (valid s) [] ≡ true
+unfolding every
+none-valid s = refl
+
+pub pick-spots : (b : Bool) (x y : Source) → spots (pick b x y) ≡ pick b (spots x) (spots y)
+unfolding pick
+pick-spots true x y = refl
+pick-spots false x y = refl
+
+module _ (z : ℕ) (s : Setting) (p : Progress) (solid : Solid z s) (f : Staged (s .copies) (startOf z s) (p .size / z) (p .staged)) (long : p .size / z ≤ length (p .staged)) where
+  -- a position with no copy is a committed one
+  pub unstaged : (j : ℕ) → j < p .size / z → eqb (getD (p .staged) j none) none ≡ true → j < startOf z s
+  unstaged j lt e =
+      by (ltb j (startOf z s))
+      (λ u. ltb-true j (startOf z s) u)
+      (λ u. let le = ltb-false j (startOf z s) u in
+      let i : ℕ = j - startOf z s in
+      let at : startOf z s + (j - startOf z s) ≡ j = omega arith in
+      let inside : j - startOf z s < length (drop (startOf z s) (take (p .size / z) (p .staged))) = omega (arith, length-drop (startOf z s) (take (p .size / z) (p .staged)), length-take-le (p .size / z) (p .staged) long) in
+      let g : getD (drop (startOf z s) (take (p .size / z) (p .staged))) (j - startOf z s) none ≡ getD (p .staged) j none =
+      getD-drop (startOf z s) (take (p .size / z) (p .staged)) (j - startOf z s) none ∙ ap (λ (x : ℕ). getD (take (p .size / z) (p .staged)) x none) at ∙ getD-take (p .size / z) (p .staged) j none lt in
+      let q : not (eqb (getD (p .staged) j none) none) ≡ true =
+      subst (λ (x : ℕ). not (eqb x none) ≡ true) g (every-get (λ n. not (eqb n none)) (drop (startOf z s) (take (p .size / z) (p .staged))) (j - startOf z s) none inside (f .past)) in
+      never (sym e ∙ not-true _ q))
+
+  pub committed-slot : (j : ℕ) → j < startOf z s → ltb (getD (whose (s .terms .head .contract) (s .places) .slots) j 0) (s .sectors) ≡ true
+  committed-slot j lt =
+      by (whose (s .terms .head .contract) (s .places) .held)
+      (λ u. subst (λ (x : ℕ). ltb x (s .sectors) ≡ true) (getD-take (startOf z s) (whose (s .terms .head .contract) (s .places) .slots) j 0 lt)
+      (every-at (λ n. ltb n (s .sectors)) (take (startOf z s) (whose (s .terms .head .contract) (s .places) .slots)) j 0
+      (subst (λ (l : List ℕ). every (λ n. ltb n (s .sectors)) l ≡ true) (committed-held z (whose (s .terms .head .contract) (s .places)) u) (whose-every _ z (s .terms .head .contract) (s .places) (solid .slots)))
+      (lt-ltb 0 (s .sectors) (solid .one))))
+      (λ u. let q : startOf z s ≡ 0 = ap (λ (n : ℕ). n / z) (whose-nobody (s .terms .head .contract) (s .places) u) ∙ zero-div z in absurd (omega arith))
+
+  spot-valid : (j : ℕ) → j < p .size / z → valid s (spotOf (parent s .slots) (p .staged) j) ≡ true
+  unfolding spotOf valid parent slotInOrder
+  spot-valid j lt =
+      by (eqb (getD (p .staged) j none) none)
+      (λ e. ap (valid s) (picks (eqb (getD (p .staged) j none) none) (OnDisk (getD (whose (s .terms .head .contract) (s .places) .slots) j 0)) (InStage (getD (p .staged) j none)) e) ∙ committed-slot j (unstaged j lt e))
+      (λ e. ap (valid s) (skips (eqb (getD (p .staged) j none) none) (OnDisk (getD (whose (s .terms .head .contract) (s .places) .slots) j 0)) (InStage (getD (p .staged) j none)) e) ∙ either-second (eqb (getD (p .staged) j none) none) _ (every-at (slotInOrder (s .copies)) (p .staged) j none (f .slots) (slot-none (s .copies))) e)
+
+  pub parent-valid : every (valid s) (parentSpots z s p) ≡ true
+  unfolding parentSpots
+  parent-valid = every-tab (valid s) (spotOf (parent s .slots) (p .staged)) 0 (p .size / z) (λ j lo hi. spot-valid j (omega arith))
+
+  contract-valid : (id : List ℕ) → every (valid s) (spots (contractSource z s p id)) ≡ true
+  unfolding contractSource committedSpots spots
+  contract-valid id =
+      ap (λ (l : List Spot). every (valid s) l) (pick-spots _ missing _)
+      ∙ every-pick (valid s) _ [] _ (none-valid s)
+      (ap (λ (l : List Spot). every (valid s) l) (pick-spots _ (seen (parentSpots z s p)) _)
+      ∙ every-pick (valid s) _ (parentSpots z s p) _ parent-valid (disk-valid s (committed z (whose id (s .places))) (whose-every _ z id (s .places) (solid .slots))))
+
+  pub source-valid : (r : Spot → List ℕ) (op : Op) (key : List ℕ) → every (valid s) (spots (sourceOf z s r p op key)) ≡ true
+  unfolding sourceOf sectorSource spots valid
+  source-valid r Read key = contract-valid key
+  source-valid r ReadSector key = sought-every (valid s) r key (seatsOf z s p) (program-every (valid s) z s p parent-valid (solid .slots))
+  source-valid r Write key = none-valid s
+  source-valid r Copy key = none-valid s
+  source-valid r Swap key = none-valid s
+  source-valid r Truncate key = none-valid s
+  source-valid r Unknown key = none-valid s
+
+-- ---- and there are at most 64 of them
+
+no-place-in-order : (z : ℕ) → placeInOrder z noPlace ≡ true
+unfolding placeInOrder noPlace
+no-place-in-order z = picks true true _ refl
+
+few-committed : (z : ℕ) (p : Place) → placeInOrder z p ≡ true → length (committed z p) ≤ 64
+unfolding committed placeInOrder
+few-committed z p e =
+    by (p .held)
+    (λ h. let q : leb (p .size / z) 64 ≡ true = both-right _ _ (both-right _ _ (second-not (p .held) _ e h)) in
+    omega (arith, ap length (picks (p .held) (take (p .size / z) (p .slots)) [] h), length-take (p .size / z) (p .slots), leb-true (p .size / z) 64 q))
+    (λ h. omega (arith, ap length (skips (p .held) (take (p .size / z) (p .slots)) [] h)))
+
+pub few-whose : (z : ℕ) (id : List ℕ) (ps : List Place) → every (placeInOrder z) ps ≡ true → length (committed z (whose id ps)) ≤ 64
+unfolding whose every
+few-whose z id [] h = few-committed z noPlace (no-place-in-order z)
+few-whose z id (p ∷ ps) h =
+    by (hasId id p)
+    (λ e. rw (picks (hasId id p) p (whose id ps) e) (few-committed z p (both-left _ _ h)))
+    (λ e. rw (skips (hasId id p) p (whose id ps) e) (few-whose z id ps (both-right _ _ h)))
+
+pub length-each : (l : List ℕ) → length (each OnDisk l) ≡ length l
+unfolding each
+length-each [] = refl
+length-each (x ∷ xs) = ap suc (length-each xs)
+
+few-sought : (r : Sought) → length (spots (soughtSource r)) ≤ 1
+unfolding soughtSource spots
+few-sought (At x) = omega arith
+few-sought Nowhere = omega arith
+
+few-pick : (b : Bool) (l m : List Spot) → length l ≤ 64 → length m ≤ 64 → length (pick b l m) ≤ 64
+unfolding pick
+few-pick true l m u v = u
+few-pick false l m u v = v
+
+few-contract : (z : ℕ) (s : Setting) (p : Progress) (id : List ℕ) → every (placeInOrder z) (s .places) ≡ true → p .size / z ≤ 64
+    → length (spots (contractSource z s p id)) ≤ 64
+unfolding contractSource committedSpots parentSpots spots
+few-contract z s p id h u =
+    rw (pick-spots (not (whose id (s .places) .held)) missing (pick (same id (s .terms .head .contract)) (seen (parentSpots z s p)) (seen (committedSpots z (whose id (s .places))))))
+    (few-pick _ [] _ (omega arith)
+    (rw (pick-spots (same id (s .terms .head .contract)) (seen (parentSpots z s p)) (seen (committedSpots z (whose id (s .places)))))
+    (few-pick _ _ _ (omega (arith, length-tab 0 (p .size / z) (spotOf (parent s .slots) (p .staged)), u))
+    (omega (arith, length-each (committed z (whose id (s .places))), few-whose z id (s .places) h)))))
+
+pub few-spots : (z : ℕ) (s : Setting) (f : Spot → List ℕ) (p : Progress) (op : Op) (key : List ℕ) → every (placeInOrder z) (s .places) ≡ true → p .size / z ≤ 64
+    → length (spots (sourceOf z s f p op key)) ≤ 64
+unfolding sourceOf sectorSource spots
+few-spots z s f p Read key h u = few-contract z s p key h u
+few-spots z s f p ReadSector key h u = omega (arith, few-sought (firstSeat f key (seatsOf z s p)))
+few-spots z s f p Write key h u = omega arith
+few-spots z s f p Copy key h u = omega arith
+few-spots z s f p Swap key h u = omega arith
+few-spots z s f p Truncate key h u = omega arith
+few-spots z s f p Unknown key h u = omega arith

@@ -1,0 +1,154 @@
+-- A host in order takes every piece up to the declared length, and is in order after it. Assumes nothing.
+use mathlib.Core.Path.{_≡_, refl, sym, ap, _∙_, subst}
+use mathlib.Core.Bool.{Bool, true, false, not}
+use mathlib.Core.List.{List, [], _∷_}
+use Prim.Native.Nat.{ℕ, _+_, _*_, _≤_}
+use native.Mathlib.Omega.{arith}
+use lib.ListN.{length, length-append, length-replicate}
+use lib.Dec.{ltb, eqb}
+use borrow.Author.Tests.{le-leb, le-ltb, eq-eqb, eqb-true}
+use Rattle.area.specs.Pick.{pick, both}
+use Rattle.area.specs.Area.{put, zeros}
+use Rattle.area.proofs.Laws.Pick.{skips, both-left, both-right, both-join}
+use Rattle.area.proofs.Laws.Puts.{length-put}
+use Rattle.host.specs.With.{withProgram, withCame, withProgress, withStageRoots}
+use Rattle.host.specs.Order.{programInOrder, inOrder}
+use Rattle.host.proofs.Laws.Order.{order-facts}
+use Rattle.machine_rules.specs.View.{settingBy, settingOf, turnOf, withRun, diskRight, areasRight}
+use Rattle.machine_rules.specs.Run.{run}
+use Rattle.machine_rules.specs.Calls.{Pieced, accepted, inputRight, outputRight, piece, acceptedBy, pieceBy}
+use Rattle.machine_rules.specs.Trace.{together, AllAccepted}
+use Rattle.machine_rules.specs.Facts.{Good, Lent, Solid}
+use Rattle.machine_rules.proofs.Laws.Areas.{or-right, either-second, runs-alike}
+use Rattle.machine_rules.proofs.Laws.Kept.{progress-facts, facts-progress, runs-good}
+use Rattle.host.specs.declared.Progress.{Progress}
+use Rattle.host.specs.declared.Host.{Host}
+
+-- ---- a host that takes pieces
+
+-- a host in order with a program open, and areas as stated; its arrays are as declared
+pub record Taking (disk : List ℕ) (w : Pieced) : Type 0 where
+  pub order : inOrder (w .host) ≡ true
+  pub areas : areasRight (w .host) disk (w .stage) ≡ true
+  pub live : w .host .program .active ≡ true
+  pub input : length (w .input) ≡ w .host .program .terms .head .length
+  pub output : length (w .output) ≡ w .host .program .terms .room
+  pub entries : length (w .host .program .progress .staged) ≡ 64
+  pub diskRoots : length (w .host .diskroots) ≡ 2048
+  pub stageRoots : length (w .host .stageroots) ≡ 512
+
+-- the parts of `inOrder`
+pub order-lent : (h : Host) (disk : List ℕ) → inOrder h ≡ true → Lent (h .sector) (settingOf h disk)
+unfolding settingBy
+order-lent h disk e = let o = order-facts h e in record { size = o .size; few = o .stageMost; most = o .diskMost }
+
+-- areas of zeros, of the lengths that a host states: where its sectors are, and the roots kept beside them, do not hang on what is lent
+pub blank-right : (h : Host) → areasRight h (zeros (h .disk * h .sector)) (zeros (h .stage * h .sector)) ≡ true
+unfolding areasRight diskRight
+blank-right h =
+    both-join _ _ (eq-eqb _ _ (length-replicate {A = ℕ} (h .disk * h .sector) 0)) (eq-eqb _ _ (length-replicate {A = ℕ} (h .stage * h .sector) 0))
+
+-- a host in order whose areas are right
+pub order-solid : (h : Host) (disk stage : List ℕ) → inOrder h ≡ true → areasRight h disk stage ≡ true → Solid (h .sector) (settingOf h disk)
+unfolding areasRight diskRight settingBy
+order-solid h disk stage e areas =
+    let o = order-facts h e in
+    record {
+      lent = order-lent h disk e;
+      one = o .diskLeast;
+      small = o .contracts .each;
+      slots = o .contracts .below;
+      disk = eqb-true _ _ (both-left _ _ areas);
+    }
+
+pub areas-stage : (h : Host) (disk stage : List ℕ) → areasRight h disk stage ≡ true → length stage ≡ h .stage * h .sector
+unfolding areasRight
+areas-stage h disk stage e = eqb-true _ _ (both-right _ _ e)
+
+pub order-program : (h : Host) → inOrder h ≡ true → h .program .active ≡ true → programInOrder (h .sector) (h .disk) (h .stage) (h .places) (h .program) ≡ true
+unfolding inOrder
+order-program h e live = either-second (h .program .active) _ (both-right _ _ (both-right _ _ (both-right _ _ (both-right _ _ e)))) live
+
+pub order-good : (h : Host) (disk : List ℕ) → inOrder h ≡ true → h .program .active ≡ true → length (h .program .progress .staged) ≡ 64 → Good (h .sector) (settingOf h disk) (h .program .progress)
+unfolding settingBy programInOrder
+order-good h disk e live len =
+    let q = order-program h e live in
+    record { orderly = progress-facts (h .sector) (settingOf h disk) (h .program .progress) (both-right _ _ (both-right _ _ q)); terms = both-left _ _ q; entries = len }
+
+pub good-order : (h : Host) (disk : List ℕ) (k : ℕ) (p : Progress) (roots : List ℕ) → inOrder h ≡ true → k ≤ h .program .terms .head .length → Good (h .sector) (settingOf h disk) p → inOrder (withRun h k p roots) ≡ true
+unfolding inOrder withRun withStageRoots withProgram withProgress withCame programInOrder settingBy
+good-order h disk k p roots e le g =
+    let b = both-right _ _ e in
+    let c = both-right _ _ b in
+    both-join _ _ (both-left _ _ e) (both-join _ _ (both-left _ _ b) (both-join _ _ (both-left _ _ c) (both-join _ _ (both-left _ _ (both-right _ _ c))
+    (or-right _ _ (both-join _ _ (g .terms) (both-join _ _ (le-leb _ _ le) (facts-progress (h .sector) (settingOf h disk) p (g .orderly))))))))
+
+not-no : (b : Bool) → b ≡ true → not b ≡ false
+not-no b e = rw e
+
+both-no : (a b : Bool) → b ≡ false → both a b ≡ false
+unfolding pick
+both-no true b e = e
+both-no false b e = refl
+
+areas-again : (h : Host) (disk stage new : List ℕ) (k : ℕ) (p : Progress) (roots : List ℕ) → length new ≡ length stage → areasRight h disk stage ≡ true → areasRight (withRun h k p roots) disk new ≡ true
+unfolding areasRight diskRight withRun withStageRoots withProgram withProgress withCame
+areas-again h disk stage new k p roots e a = both-join _ _ (both-left _ _ a) (ap (λ (n : ℕ). eqb n (h .stage * h .sector)) e ∙ both-right _ _ a)
+
+module _ (disk : List ℕ) (w : Pieced) (t : Taking disk w) (b : List ℕ) (fit : w .host .program .came + length b ≤ w .host .program .terms .head .length) where
+  -- it is accepted
+  pub takes : piece disk (w .host) (w .stage) (w .input) (w .output) b ≡ accepted disk (w .host) (w .stage) (w .input) (w .output) b
+  unfolding pieceBy inputRight outputRight
+  takes =
+      let h = w .host in
+      let input : both (eqb (length (w .input)) (h .program .terms .head .length)) (eqb (length (w .output)) (h .program .terms .room)) ≡ true = both-join _ _ (eq-eqb _ _ (t .input)) (eq-eqb _ _ (t .output)) in
+      skips (not (inOrder h)) _ _ (not-no _ (t .order))
+      ∙ skips (not (areasRight h disk (w .stage))) _ _ (not-no _ (t .areas))
+      ∙ skips (both (h .program .active) (not (both (eqb (length (w .input)) (h .program .terms .head .length)) (eqb (length (w .output)) (h .program .terms .room))))) _ _ (both-no _ _ (not-no _ input))
+      ∙ skips (not (h .program .active)) _ _ (not-no _ (t .live))
+      ∙ skips (ltb (h .program .terms .head .length) (h .program .came + length b)) _ _ (le-ltb _ _ fit)
+
+  -- and leaves a host that takes pieces
+  pub stays : Taking disk (accepted disk (w .host) (w .stage) (w .input) (w .output) b)
+  unfolding acceptedBy run withRun withStageRoots withProgram withProgress withCame turnOf
+  stays =
+      let h = w .host in
+      let s = settingOf h disk in
+      let L = order-lent h disk (t .order) in
+      let g = runs-good (w .host .sector) s (put (w .input) (h .program .came) b) (h .program .came + length b) (s .terms .head .count) (turnOf h (w .stage) (w .output)) L (order-good h disk (t .order) (t .live) (t .entries)) in
+      let a = runs-alike (w .host .sector) s (put (w .input) (h .program .came) b) (h .program .came + length b) (s .terms .head .count) (turnOf h (w .stage) (w .output)) in
+      record {
+        order = good-order h disk (h .program .came + length b) _ _ (t .order) fit g;
+        areas = areas-again (w .host) disk (w .stage) _ _ _ _ (a .stage) (t .areas);
+        live = t .live;
+        input = length-put (w .input) _ b ∙ t .input;
+        output = a .output ∙ t .output;
+        entries = g .entries;
+        diskRoots = t .diskRoots;
+        stageRoots = a .roots ∙ t .stageRoots;
+      }
+
+came-accepted : (disk : List ℕ) (w : Pieced) (b : List ℕ) → accepted disk (w .host) (w .stage) (w .input) (w .output) b .host .program .came ≡ w .host .program .came + length b
+unfolding acceptedBy withRun withStageRoots withProgram withProgress withCame
+came-accepted disk w b = refl
+
+length-accepted : (disk : List ℕ) (w : Pieced) (b : List ℕ) → accepted disk (w .host) (w .stage) (w .input) (w .output) b .host .program .terms .head .length ≡ w .host .program .terms .head .length
+unfolding acceptedBy withRun withStageRoots withProgram withProgress withCame
+length-accepted disk w b = refl
+
+answer-accepted : (disk : List ℕ) (w : Pieced) (b : List ℕ) → accepted disk (w .host) (w .stage) (w .input) (w .output) b .number ≡ 0
+unfolding acceptedBy
+answer-accepted disk w b = refl
+
+-- pieces that together stay within the declared length are all accepted
+pub all-accepted : (disk : List ℕ) (w : Pieced) (bs : List (List ℕ)) → Taking disk w → w .host .program .came + length (together bs) ≤ w .host .program .terms .head .length → AllAccepted disk w bs
+unfolding together
+all-accepted disk w [] t h = tt
+all-accepted disk w (b ∷ bs) t h =
+    let fit : w .host .program .came + length b ≤ w .host .program .terms .head .length = omega (arith, length-append b (together bs)) in
+    let e = takes disk w t b fit in (
+      ap (λ (x : Pieced). x .number) e ∙ answer-accepted disk w b,
+      subst (λ (x : Pieced). AllAccepted disk x bs) (sym e)
+          (all-accepted disk (accepted disk (w .host) (w .stage) (w .input) (w .output) b) bs (stays disk w t b fit)
+          (omega (arith, length-append b (together bs), came-accepted disk w b, length-accepted disk w b))),
+    )

@@ -1,0 +1,162 @@
+-- The records of a run: with k bytes come they are the first m of the whole run's, m counted by the needs. Assumes nothing.
+use mathlib.Core.Path.{_≡_, refl, sym, ap, ap₂, _∙_}
+use mathlib.Core.Bool.{Bool, true, false}
+use mathlib.Core.Logic.{_⊎_, inl, inr, ⊎-elim}
+use mathlib.Core.List.{List, [], _∷_, _++_}
+use Prim.Native.Nat.{ℕ, zero, suc, _+_, _≤_, min}
+use native.Mathlib.Omega.{arith}
+use lib.ListN.{length, take}
+use lib.Seq.{take-append-seam}
+use lib.Dec.{leb, ltb, eqb}
+use borrow.Author.Tests.{leb-true, ltb-false, le-leb}
+use Rattle.area.specs.Pick.{pick, both}
+use Rattle.area.specs.Area.{put}
+use Rattle.area.proofs.Laws.Pick.{by, picks, skips, both-join}
+use Rattle.sia.specs.Names.{opOf}
+use Rattle.sia.specs.Encode.{operandsIn}
+use Rattle.host.specs.Lists.{some}
+use Rattle.machine_rules.specs.View.{Setting, Turn}
+use Rattle.machine_rules.specs.Inputs.{illFormed, pastEnd, largest, need, inputsOf, argsOf}
+use Rattle.machine_rules.specs.Plan.{judged}
+use Rattle.machine_rules.specs.Run.{failedProgress, failing, ranProgress, succeeding, stepped, current, step, going, ready, runs}
+use Rattle.machine_rules.specs.Trace.{recordOf, recorded, trail, ripe}
+use Rattle.machine_rules.proofs.Laws.Steps.{runs-go, runs-stop, ready-going, left, left-most, not-failed, step-left, none-left, ready-more}
+use Rattle.sia.specs.declared.Operand.{Operand}
+use Rattle.sia.specs.declared.Instruction.{Instruction}
+use Rattle.machine_rules.specs.Roots.{rootAt}
+
+pub stepped-output : (z : ℕ) (s : Setting) (i : Instruction) (l : List (List ℕ)) (t : Turn) → stepped z s i l t .output ≡ put (t .output) (t .progress .written) (recordOf z s i l t)
+unfolding stepped recordOf succeeding failing pick
+stepped-output z s i l t = under (eqb (judged z s (rootAt z s t) (t .progress) i l) 0) _ _ _ _ refl refl
+  where
+    under : (b : Bool) (x y : Turn) (u v : List ℕ) → x .output ≡ put (t .output) (t .progress .written) u → y .output ≡ put (t .output) (t .progress .written) v
+        → pick b x y .output ≡ put (t .output) (t .progress .written) (pick b u v)
+    under true x y u v p q = p
+    under false x y u v p q = q
+
+module _ (z : ℕ) (s : Setting) (a : List ℕ) where
+  pub trail-zero : (k : ℕ) (t : Turn) → trail z s a k 0 t ≡ []
+  unfolding trail
+  trail-zero k t = refl
+
+  pub trail-go : (k n : ℕ) (t : Turn) → ready s k t ≡ true → trail z s a k (suc n) t ≡ recorded z s a t ∷ trail z s a k n (step z s a t)
+  unfolding trail
+  trail-go k n t h = picks (ready s k t) _ [] h
+
+  pub trail-stop : (k n : ℕ) (t : Turn) → ready s k t ≡ false → trail z s a k n t ≡ []
+  unfolding trail
+  trail-stop k zero t h = refl
+  trail-stop k (suc n) t h = skips (ready s k t) _ [] h
+
+  trail-enough : (k n : ℕ) (t : Turn) → left s t ≤ n → trail z s a k (suc n) t ≡ trail z s a k n t
+  trail-enough k zero t h = trail-stop k 1 t (none-left s k t (omega arith)) ∙ sym (trail-stop k 0 t (none-left s k t (omega arith)))
+  trail-enough k (suc n) t h =
+      by (ready s k t)
+      (λ r. let d = step-left z s a k t r in
+      trail-go k (suc n) t r ∙ ap (λ (x : List (List ℕ)). recorded z s a t ∷ x) (trail-enough k n (step z s a t) (omega arith)) ∙ sym (trail-go k n t r))
+      (λ r. trail-stop k (suc (suc n)) t r ∙ sym (trail-stop k (suc n) t r))
+
+  runs-left : (k n : ℕ) (t : Turn) → left s (runs z s a k n t) ≤ left s t
+  unfolding runs
+  runs-left k zero t = omega arith
+  runs-left k (suc n) t =
+      by (ready s k t)
+      (λ r. let d = step-left z s a k t r in let e = runs-left k n (step z s a t) in rw (runs-go z s a k n t r) (omega arith))
+      (λ r. rw (runs-stop z s a k (suc n) t r) (omega arith))
+
+  -- the records with m bytes come are those with k, and then those of the run that goes on
+  pub trail-on : (k m n : ℕ) (t : Turn) → k ≤ m → left s t ≤ n → (j : ℕ) → n ≤ j → trail z s a m j t ≡ trail z s a k n t ++ trail z s a m j (runs z s a k n t)
+  trail-on k m zero t le h j g =
+      let q = none-left s k t (omega arith) in
+      sym (ap₂ _++_ (trail-stop k 0 t q) (ap (λ (x : Turn). trail z s a m j x) (runs-stop z s a k 0 t q)))
+  trail-on k m (suc n) t le h zero g = absurd (omega arith)
+  trail-on k m (suc n) t le h (suc j) g =
+      by (ready s k t)
+      (λ r. let d = step-left z s a k t r in let e = runs-left k n (step z s a t) in
+      trail-go m j t (ready-more s k m t le r)
+      ∙ ap (λ (x : List (List ℕ)). recorded z s a t ∷ x) (trail-on k m n (step z s a t) le (omega arith) j (omega arith) ∙ ap (λ (x : List (List ℕ)). trail z s a k n (step z s a t) ++ x) (sym (trail-enough m j (runs z s a k n (step z s a t)) (omega arith))))
+      ∙ sym (ap₂ _++_ (trail-go k n t r) (ap (λ (x : Turn). trail z s a m (suc j) x) (runs-go z s a k n t r))))
+      (λ r. sym (ap₂ _++_ (trail-stop k (suc n) t r) (ap (λ (x : Turn). trail z s a m (suc j) x) (runs-stop z s a k (suc n) t r))))
+
+  -- the first m records of the whole run
+  pub firsts : (k m : ℕ) (t : Turn) → k ≤ m
+      → take (length (trail z s a k (s .terms .head .count) t)) (trail z s a m (s .terms .head .count) t) ≡ trail z s a k (s .terms .head .count) t
+  firsts k m t le = ap (λ (x : List (List ℕ)). take (length (trail z s a k (s .terms .head .count) t)) x) (trail-on k m (s .terms .head .count) t le (left-most s t) (s .terms .head .count) (omega arith)) ∙ take-append-seam _ _
+
+some-none : (d : ℕ) (os : List Operand) → some (λ o. ltb d (o .offset + o .len)) os ≡ false → largest os ≤ d
+unfolding some largest
+some-none d [] h = omega arith
+some-none d (o ∷ os) h =
+    by (ltb d (o .offset + o .len))
+    (λ e. absurd (let q : true ≡ false = sym (picks (ltb d (o .offset + o .len)) true _ e) ∙ h in let r : _≡_ {A = ℕ} 0 1 = cc in omega arith))
+    (λ e. let le = ltb-false d (o .offset + o .len) e in
+    let more = some-none d os (sym (skips (ltb d (o .offset + o .len)) true _ e) ∙ h) in
+    by (eqb (o .len) 0)
+    (λ x. omega (arith, picks (eqb (o .len) 0) 0 (o .offset + o .len) x))
+    (λ x. omega (arith, skips (eqb (o .len) 0) 0 (o .offset + o .len) x)))
+
+past-none : (d : ℕ) (i : Instruction) → pastEnd d i ≡ false → largest (operandsIn i) ≤ d
+unfolding pastEnd
+past-none d i f = some-none d (operandsIn i) f
+
+-- "Need is 0 if 21 or 22 applies": no need passes the declared length
+pub need-within : (d : ℕ) (i : Instruction) → need d i ≤ d
+unfolding need
+need-within d i =
+    by (illFormed i)
+    (λ e. rw (picks (illFormed i) 0 (pick (pastEnd d i) 0 (largest (operandsIn i))) e) (omega arith))
+    (λ e. rw (skips (illFormed i) 0 (pick (pastEnd d i) 0 (largest (operandsIn i))) e)
+    (by (pastEnd d i)
+    (λ f. rw (picks (pastEnd d i) 0 (largest (operandsIn i)) f) (omega arith))
+    (λ f. rw (skips (pastEnd d i) 0 (largest (operandsIn i)) f) (past-none d i f))))
+
+stepped-next : (z : ℕ) (s : Setting) (i : Instruction) (l : List (List ℕ)) (t : Turn) → (stepped z s i l t .progress .ran ≡ t .progress .ran + 1) ⊎ (stepped z s i l t .progress .failed ≡ true)
+unfolding stepped succeeding failing ranProgress failedProgress pick
+stepped-next z s i l t = under (eqb (judged z s (rootAt z s t) (t .progress) i l) 0)
+  where
+    under : (b : Bool) → (pick b (succeeding z s (i .proof) (opOf (i .name)) (argsOf (opOf (i .name)) l) t) (failing z s (judged z s (rootAt z s t) (t .progress) i l) t) .progress .ran ≡ t .progress .ran + 1)
+        ⊎ (pick b (succeeding z s (i .proof) (opOf (i .name)) (argsOf (opOf (i .name)) l) t) (failing z s (judged z s (rootAt z s t) (t .progress) i l) t) .progress .failed ≡ true)
+    under true = inl refl
+    under false = inr refl
+
+failed-stops : (s : Setting) (k : ℕ) (t : Turn) → t .progress .failed ≡ true → ready s k t ≡ false
+failed-stops s k t e = by (ready s k t) (λ h. absurd (let q : true ≡ false = sym e ∙ not-failed s t (ready-going s k t h) in let r : _≡_ {A = ℕ} 0 1 = cc in omega arith)) (λ h. h)
+
+ready-if : (s : Setting) (k : ℕ) (t : Turn) → going (s .terms) (t .progress) ≡ true → need (s .terms .head .length) (current s t) ≤ k → ready s k t ≡ true
+unfolding ready
+ready-if s k t g h = both-join _ _ g (le-leb _ _ h)
+
+going-stops : (s : Setting) (k : ℕ) (t : Turn) → going (s .terms) (t .progress) ≡ false → ready s k t ≡ false
+unfolding ready
+going-stops s k t e = picks-no (going (s .terms) (t .progress)) _ e
+  where
+    picks-no : (b c : Bool) → b ≡ false → both b c ≡ false
+    picks-no b c e = skips b c false e
+
+need-stops : (s : Setting) (k : ℕ) (t : Turn) → leb (need (s .terms .head .length) (current s t)) k ≡ false → ready s k t ≡ false
+unfolding ready pick
+need-stops s k t e = both-no (going (s .terms) (t .progress)) _ e
+  where
+    both-no : (b c : Bool) → c ≡ false → both b c ≡ false
+    both-no true c e = e
+    both-no false c e = refl
+
+module _ (z : ℕ) (s : Setting) (a : List ℕ) where
+  -- m: as many records as instructions in a row whose need has come, but no more than the whole run writes
+  pub counted : (k n : ℕ) (t : Turn) → length (trail z s a k n t) ≡ min (ripe s k (t .progress .ran) n) (length (trail z s a (s .terms .head .length) n t))
+  unfolding ripe current step
+  counted k zero t = omega (arith, ap length (trail-zero z s a k t))
+  counted k (suc n) t =
+      let d : ℕ = s .terms .head .length in
+      by (going (s .terms) (t .progress))
+      (λ g. let rd : ready s d t ≡ true = ready-if s d t g (need-within d (current s t)) in
+      by (leb (need d (current s t)) k)
+      (λ e. let rk : ready s k t ≡ true = ready-if s k t g (leb-true _ _ e) in
+      let ih : length (trail z s a k n (step z s a t)) ≡ min (ripe s k (t .progress .ran + 1) n) (length (trail z s a d n (step z s a t))) =
+      ⊎-elim (λ r. counted k n (step z s a t) ∙ ap (λ (x : ℕ). min (ripe s k x n) (length (trail z s a d n (step z s a t)))) r)
+      (λ f. ap length (trail-stop z s a k n (step z s a t) (failed-stops s k (step z s a t) f)) ∙ omega (arith, ap length (trail-stop z s a d n (step z s a t) (failed-stops s d (step z s a t) f))))
+      (stepped-next z s (current s t) (inputsOf (current s t) a) t) in
+      omega (arith, ih, ap length (trail-go z s a k n t rk), ap length (trail-go z s a d n t rd), picks (leb (need d (current s t)) k) (suc (ripe s k (t .progress .ran + 1) n)) 0 e))
+      (λ e. let rk : ready s k t ≡ false = need-stops s k t e in
+      omega (arith, ap length (trail-stop z s a k (suc n) t rk), skips (leb (need d (current s t)) k) (suc (ripe s k (t .progress .ran + 1) n)) 0 e)))
+      (λ g. omega (arith, ap length (trail-stop z s a k (suc n) t (going-stops s k t g)), ap length (trail-stop z s a d (suc n) t (going-stops s d t g))))

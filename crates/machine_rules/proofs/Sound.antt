@@ -1,0 +1,220 @@
+-- "Keep the sector roots.": what is proved of kept roots, of a sound host and of any. Assumes nothing.
+pub mod Steps
+pub mod Programs
+pub mod Contracts
+pub mod Look
+use mathlib.Core.Path.{_≡_, refl, sym, ap, ap₂, _∙_}
+use mathlib.Core.Bool.{true, false, not}
+use mathlib.Core.List.{List, [], _∷_}
+use Prim.Native.Nat.{ℕ, _*_, _/_, _^_, _≤_}
+use native.Mathlib.Nat.{zero-mul, mul-le-mul-right}
+use native.Mathlib.Omega.{arith}
+use lib.ListN.{length}
+use Rattle.area.specs.Area.{same}
+use Rattle.area.specs.Slots.{Size}
+use Rattle.area.proofs.Laws.Pick.{picks, skips}
+use Rattle.area.proofs.Laws.Tab.{length-tab}
+use Rattle.tree.specs.Tree as Tree
+use Rattle.sia.specs.Encode.{every}
+use Rattle.host.specs.Places.{whose, committed}
+use Rattle.host.specs.Calls.{freshed}
+use Rattle.machine_rules.specs.View.{kept, worked, Setting, settingBy, settingOf, areasRight, parent, sector, spotOf, parentSpots, committedSpots}
+use Rattle.machine_rules.specs.Roots.{rootBy, rootOf, rootOnDisk}
+use Rattle.machine_rules.specs.Record.{pairOf, runningPair}
+use Rattle.machine_rules.specs.Facts.{Solid, valid}
+use Rattle.machine_rules.specs.Calls.{Pieced, piece, interrupt}
+use Rattle.machine_rules.specs.Sound.{right, rootsRight, sound, soundedAt, sounded}
+use Rattle.machine_rules.specs.Visit.{Areas, opens, gives, Declared, Ready, Sound}
+use Rattle.machine_rules.specs.Depot.{Depot, Call, forming, dropping, opening, piecing, interrupting, reaching, locating, closing, Said, AllSaid}
+use Rattle.machine_rules.specs.Depot.{Result, ofPiece, ofInterrupt, ofReached, ofLocated, ofClosing, lending, resultBy, left, resultsBy, endBy}
+use Rattle.machine_rules.specs.KeptRoots.{Faithful, Bytewise, Sounds, Lasting, Asked, KeptRoots}
+use Rattle.machine_rules.specs.Trace.{lentTo, sectorsOf, running, runningSectors, fedBy, wholeRunBy}
+use Rattle.machine_rules.proofs.Laws.Lengths.{sector-length}
+use Rattle.machine_rules.proofs.Laws.Worked.{contract-worked, proof-worked}
+use Rattle.machine_rules.proofs.Laws.Taking.{order-solid, order-good, areas-stage}
+use Rattle.machine_rules.proofs.Laws.Spots.{disk-valid, whose-every, few-whose, length-each, parent-valid}
+use Rattle.machine_rules.proofs.Arrays.{fresh, kept as keeps}
+use Rattle.host.specs.Order.{inOrder}
+use Rattle.host.specs.declared.Host.{Host}
+use Rattle.machine_rules.proofs.Laws.Readers.{agree, root-agree, all-committed, withWay, known-disk}
+use Rattle.machine_rules.proofs.Beside.{leaves}
+use Rattle.machine_rules.proofs.Sound.Steps.{few-sectors}
+use Rattle.machine_rules.proofs.Sound.Programs.{sound-order, sound-disk, piece-alike, records-alike, piece-sound, interrupt-alike, pair-alike, reached-alike, close-alike, close-sound, interrupt-sound}
+use Rattle.machine_rules.proofs.Sound.Contracts.{formed-sound, dropped-sound, opened-sound, fresh-sound}
+use Rattle.machine_rules.proofs.Sound.Look.{located-alike}
+use Rattle.host.specs.declared.Progress.{Progress}
+use Rattle.machine_rules.specs.declared.Pair.{Pair}
+use Rattle.machine_rules.specs.declared.Spot.{Spot}
+
+-- ---- the statements
+
+run-alike : (h : Host) (a : Areas) (all : List ℕ) → Declared h → sound (a .disk) h (a .stage) ≡ true → areasRight h (a .disk) (a .stage) ≡ true
+    → h .program .active ≡ true → wholeRunBy kept h a all ≡ wholeRunBy worked h a all
+unfolding wholeRunBy
+run-alike h a all d e areas live = records-alike (a .disk) h (a .stage) d e (a .output) all areas live
+
+-- a sound host can be called
+sound-ready : (h : Host) (disk stage : List ℕ) → Sound h disk stage → Ready h
+sound-ready h disk stage s = record { order = sound-order disk h stage (s .right); declared = s .declared }
+
+-- Every call leaves a sound host sound.
+sounds : (h : Host) (a : Areas) → Sound h (a .disk) (a .stage) → Sounds h a
+sounds h a s =
+    let d = s .declared in
+    let e = s .right in
+    let k = keeps h a (sound-ready h (a .disk) (a .stage) s) in
+    record {
+      forming = λ id. record { declared = k .forming id .declared; right = formed-sound (a .disk) h (a .stage) e id };
+      dropping = λ id. record { declared = k .dropping id .declared; right = dropped-sound (a .disk) h (a .stage) e id };
+      opening = λ o b. record {
+        declared = k .opening o b .declared;
+        right = opened-sound (a .disk) h (a .stage) e (o .bytes) (o .budget) (o .prices) (o .room) d b;
+      };
+      piece = λ b. record { declared = k .piece b .declared; right = piece-sound (a .disk) h (a .stage) d e (a .input) (a .output) b };
+      interrupt = record { declared = k .interrupt .declared; right = interrupt-sound (a .disk) h (a .stage) d e (a .output) };
+      closing = λ g. record { declared = k .closing g .declared; right = close-sound (a .disk) h (a .stage) d e (g .agree) (g .size) (g .root) };
+    }
+
+made-sound : (z d s : ℕ) (disk stage : List ℕ) → freshed z d s .number ≡ 0 → Sound (freshed z d s .host) disk stage
+made-sound z d s disk stage e = record { declared = fresh z d s e .declared; right = fresh-sound z d s disk stage e }
+
+fed-alike : (disk : List ℕ) (w : Pieced) (bs : List (List ℕ)) → Sound (w .host) disk (w .stage)
+    → fedBy kept disk w bs ≡ fedBy worked disk w bs
+unfolding fedBy
+fed-alike disk w [] s = refl
+fed-alike disk w (b ∷ bs) s =
+    let a : Areas = record { disk = disk; stage = w .stage; input = w .input; output = w .output } in
+    fed-alike disk (gives (w .host) a b) bs (sounds (w .host) a s .piece b)
+    ∙ ap (λ (x : Pieced). fedBy worked disk x bs) (piece-alike disk (w .host) (w .stage) (s .declared) (s .right) (w .input) (w .output) b)
+
+few-segments : (z n : ℕ) (size : Size z) → n ≤ 64 → n * 2 ^ (size .depth) ≤ 2 ^ 64
+few-segments z n size few = let hi = mul-le-mul-right {m = n} {n = 64} (2 ^ size .depth) few in omega (arith, hi, size .segments, size .most)
+
+-- And document 01 is what they give with roots worked out.
+bytewise : (z : ℕ) (s : Setting) (stage : List ℕ) (l : List Spot) → Solid z s → length stage ≡ s .copies * z → every (valid s) l ≡ true → length l ≤ 64
+    → Bytewise z s stage l
+bytewise z s stage l solid e v few =
+    let size = solid .lent .size in
+    let long : (x : Spot) → valid s x ≡ true → length (sector z (s .disk) stage x) ≡ z = λ x u. sector-length z s stage x (solid .disk) e u in
+    let most = few-segments z (length l) size few in
+    record {
+      root = contract-worked z (size .depth) (size .segments) (s .disk) stage (valid s) long l v most;
+      proof = proof-worked z (size .depth) (size .segments) (s .disk) stage (valid s) long l v most;
+    }
+
+parent-long : (z : ℕ) (s : Setting) (p : Progress) → length (parentSpots z s p) ≡ p .size / z
+unfolding parentSpots
+parent-long z s p = length-tab 0 (p .size / z) (spotOf (parent s .slots) (p .staged))
+
+-- the root of the running pair is that of the parent's bytes
+running-bytes : (h : Host) (a : Areas) → Sound h (a .disk) (a .stage) → areasRight h (a .disk) (a .stage) ≡ true → h .program .active ≡ true
+    → running h a .root ≡ Tree.root (runningSectors h a)
+unfolding runningPair rootOf rootBy settingBy parentSpots parent
+running-bytes h a s areas live =
+    let g = order-good h (a .disk) (sound-order (a .disk) h (a .stage) (s .right)) live (s .declared .staged) in
+    let solid = order-solid h (a .disk) (a .stage) (sound-order (a .disk) h (a .stage) (s .right)) areas in
+    let few = few-sectors (h .sector) (settingOf h (a .disk)) (h .program .progress) (solid .lent) g in
+    ap (λ (x : Pair). x .root) (pair-alike (a .disk) h (a .stage) (s .declared) (s .right) areas live)
+    ∙ bytewise (h .sector) (settingOf h (a .disk)) (a .stage) (parentSpots (h .sector) (settingOf h (a .disk)) (h .program .progress)) solid (areas-stage h (a .disk) (a .stage) areas)
+    (parent-valid (h .sector) (settingOf h (a .disk)) (h .program .progress) solid (g .orderly .staged) (omega (arith, few, g .entries)))
+    (omega (arith, few, parent-long (h .sector) (settingOf h (a .disk)) (h .program .progress))) .root
+
+few-held : (h : Host) (disk id : List ℕ) → Solid (h .sector) (settingOf h disk) → length (committedSpots (h .sector) (whose id (h .places))) ≤ 64
+unfolding committedSpots settingBy
+few-held h disk id solid = omega (arith, length-each (committed (h .sector) (whose id (h .places))), few-whose (h .sector) id (h .places) (solid .small))
+
+-- committed sectors are on the disk, so a stage of no slots will do
+abbrev unlent : Host → List ℕ → Setting
+unlent h disk = record { sectors = h .disk; copies = 0; places = h .places; terms = h .program .terms; disk = disk; roots = h .diskroots; way = kept }
+
+held-valid : (h : Host) (disk id : List ℕ) → Solid (h .sector) (settingOf h disk) → every (valid (unlent h disk)) (committedSpots (h .sector) (whose id (h .places))) ≡ true
+unfolding committedSpots settingBy
+held-valid h disk id solid = disk-valid (unlent h disk) (committed (h .sector) (whose id (h .places))) (whose-every _ (h .sector) id (h .places) (solid .slots))
+
+-- the root of a contract is that of its bytes
+held-bytes : (h : Host) (a : Areas) → Sound h (a .disk) (a .stage) → areasRight h (a .disk) (a .stage) ≡ true → (id : List ℕ)
+    → pairOf (h .sector) (rootOnDisk (h .sector) (settingOf h (a .disk))) (whose id (h .places)) .root ≡ Tree.root (sectorsOf (h .sector) (a .disk) (whose id (h .places)))
+unfolding pairOf sectorsOf rootOf rootBy settingBy withWay
+held-bytes h a s areas id =
+    let solid = order-solid h (a .disk) (a .stage) (sound-order (a .disk) h (a .stage) (s .right)) areas in
+    root-agree (rootOnDisk (h .sector) (settingBy kept h (a .disk))) (rootOnDisk (h .sector) (settingBy worked h (a .disk))) (committedSpots (h .sector) (whose id (h .places)))
+    (all-committed (h .sector) (settingOf h (a .disk)) _ (known-disk (h .sector) (settingOf h (a .disk)) [] [] (sound-disk (a .disk) h (a .stage) (s .right))) id)
+    ∙ contract-worked (h .sector) (solid .lent .size .depth) (solid .lent .size .segments) (a .disk) [] (valid (unlent h (a .disk)))
+    (λ x u. sector-length (h .sector) (unlent h (a .disk)) [] x (solid .disk) (sym (zero-mul (h .sector))) u) (committedSpots (h .sector) (whose id (h .places))) (held-valid h (a .disk) id solid)
+    (few-segments (h .sector) (length (committedSpots (h .sector) (whose id (h .places)))) (solid .lent .size) (few-held h (a .disk) id solid))
+
+-- For a sound host the kept roots give document 01.
+faithful : (h : Host) (a : Areas) → Sound h (a .disk) (a .stage) → Faithful h a
+faithful h a s =
+    let d = s .declared in
+    let e = s .right in
+    record {
+      piece = λ b. piece-alike (a .disk) h (a .stage) d e (a .input) (a .output) b;
+      interrupt = interrupt-alike (a .disk) h (a .stage) d e (a .output);
+      reached = reached-alike (a .disk) h (a .stage) d e;
+      closing = λ g. close-alike (a .disk) h (a .stage) d e (g .agree) (g .size) (g .root);
+      pieces = λ bs. fed-alike (a .disk) (lentTo h a) bs s;
+      visits = λ o b bs. fed-alike (a .disk) (lentTo (opens h o .host) a) bs (sounds h a s .opening o b);
+      records = λ all areas live. run-alike h a all d e areas live;
+      running = running-bytes h a s;
+      committed = held-bytes h a s;
+    }
+
+-- ---- the call that says whether a host is sound
+
+asked : (h : Host) (disk stage : List ℕ) → Asked h disk stage
+unfolding sounded sound
+asked h disk stage = record {
+  damaged = λ e. picks (not (inOrder h)) _ _ (ap not e);
+  lengths = λ o e. skips (not (inOrder h)) _ _ (ap not o) ∙ picks (not (areasRight h disk stage)) _ _ (ap not e);
+  says = λ o e. skips (not (inOrder h)) _ _ (ap not o) ∙ skips (not (areasRight h disk stage)) _ _ (ap not e)
+      ∙ ap (soundedAt 0) (sym (picks (inOrder h) (rootsRight disk h stage) false o));
+}
+
+-- ---- any calls in turn
+
+result-alike : (d : Depot) (c : Call) → Sound (d .host) (d .disk) (d .stage) → resultBy kept d c ≡ resultBy worked d c
+unfolding resultBy
+result-alike d (forming id) s = refl
+result-alike d (dropping id) s = refl
+result-alike d (opening p) s = refl
+result-alike d (piecing input output bytes) s = ap ofPiece (faithful (d .host) (lending d input output) s .piece bytes)
+result-alike d (interrupting output) s = ap ofInterrupt (faithful (d .host) (lending d [] output) s .interrupt)
+result-alike d reaching s = ap ofReached (faithful (d .host) (lending d [] []) s .reached)
+result-alike d (locating key) s = ap ofLocated (located-alike (d .host) (d .disk) (d .stage) s key)
+result-alike d (closing g) s = ap ofClosing (faithful (d .host) (lending d [] []) s .closing g)
+
+left-sound : (d : Depot) (c : Call) → Sound (d .host) (d .disk) (d .stage) → Said c
+    → let e = left d (resultBy kept d c) in Sound (e .host) (e .disk) (e .stage)
+unfolding resultBy left
+left-sound d (forming id) s q = sounds (d .host) (lending d [] []) s .forming id
+left-sound d (dropping id) s q = sounds (d .host) (lending d [] []) s .dropping id
+left-sound d (opening p) s q = sounds (d .host) (lending d [] []) s .opening p q
+left-sound d (piecing input output bytes) s q = sounds (d .host) (lending d input output) s .piece bytes
+left-sound d (interrupting output) s q = sounds (d .host) (lending d [] output) s .interrupt
+left-sound d reaching s q = s
+left-sound d (locating key) s q = s
+left-sound d (closing g) s q = sounds (d .host) (lending d [] []) s .closing g
+
+lasting : (d : Depot) (l : List Call) → Sound (d .host) (d .disk) (d .stage) → AllSaid l → Lasting d l
+unfolding resultsBy endBy
+lasting d [] s q = record { same = refl; ends = refl; sound = s }
+lasting d (c ∷ l) s q =
+    let r = result-alike d c s in
+    let on = lasting (left d (resultBy kept d c)) l (left-sound d c s (q .0)) (q .1) in
+    record {
+      same = ap₂ _∷_ r (on .same ∙ ap (λ (x : Result). resultsBy worked (left d x) l) r);
+      ends = on .ends ∙ ap (λ (x : Result). endBy worked (left d x) l) r;
+      sound = on .sound;
+    }
+
+pub kept-roots : KeptRoots
+kept-roots = record {
+  faithful = faithful;
+  bytewise = bytewise;
+  sounds = sounds;
+  made = made-sound;
+  lasting = lasting;
+  asked = asked;
+  leaves = leaves;
+}

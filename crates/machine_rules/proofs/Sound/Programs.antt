@@ -1,0 +1,215 @@
+-- The calls on an open program of a sound host: the kept roots give what document 01 says, and the host stays sound. Assumes nothing.
+use mathlib.Core.Path.{_≡_, refl, sym, ap, ap₂, _∙_}
+use mathlib.Core.Bool.{Bool, true, false, not}
+use mathlib.Core.List.{List, []}
+use Prim.Native.Nat.{ℕ, _+_}
+use lib.ListN.{length}
+use lib.IntN.{pos}
+use borrow.Author.Tests.{not-false, ltb-false}
+use Rattle.area.specs.Pick.{pick}
+use Rattle.area.specs.Area.{same, put}
+use Rattle.area.proofs.Laws.Pick.{by, picks, skips, never, both-left, both-right, both-join}
+use Rattle.sia.specs.Encode.{every}
+use Rattle.host.specs.Empty.{noProgram}
+use Rattle.host.specs.With.{withPlaces, withProgram, withDiskRoots, withStageRoots, withCame, withProgress}
+use Rattle.host.specs.Places.{taken}
+use Rattle.machine_rules.specs.View.{kept, worked, Turn, settingBy, settingOf, turnOf, withRun, areasRight, parent, sector, parentSpots, committedSpots}
+use Rattle.machine_rules.specs.Roots.{sectorRoot, keptRoot, rootBy, rootOf, rootOnDisk}
+use Rattle.machine_rules.specs.Record.{pairing, samePair, pairOf, startingPair, runningPair}
+use Rattle.machine_rules.specs.Run.{failedProgress, failing, run}
+use Rattle.machine_rules.specs.Calls.{Pieced, pieced, acceptedBy, pieceBy, piece, Interrupted, interrupted, stoppedBy, interruptBy, interrupt, reachedAt, reachedPairBy, reachedBy}
+use Rattle.machine_rules.specs.Commit.{Closed, closed, givenUp, commit, agreedBy, closeBy, close}
+use Rattle.machine_rules.specs.Sound.{right, stagedRight, rootsRight, sound}
+use Rattle.machine_rules.specs.Visit.{Areas, gives, Declared}
+use Rattle.machine_rules.specs.Trace.{running, wholeRunBy}
+use Rattle.machine_rules.proofs.Laws.Taking.{order-solid, order-good}
+use Rattle.machine_rules.proofs.Laws.Areas.{either-second, or-right}
+use Rattle.machine_rules.proofs.Laws.Ways.{either-way}
+use Rattle.machine_rules.proofs.Ordering.{accepted-order, stopped-order, given-up}
+use Rattle.machine_rules.proofs.Committing.{commit-order}
+use Rattle.machine_rules.proofs.Commits.{commit-right}
+use Rattle.host.specs.Order.{inOrder}
+use Rattle.host.specs.declared.Host.{Host}
+use Rattle.machine_rules.proofs.Laws.Readers.{agree, root-agree, all-start, all-parent, withWay, Known, known-disk, known-stage}
+use Rattle.machine_rules.proofs.Sound.Steps.{few-sectors, failing-alike, runs-alike, trail-alike, runs-known}
+use Rattle.machine_rules.specs.declared.Pair.{Pair}
+
+-- ---- the calls
+
+-- where the tests are the same, only what stands behind them matters
+behind : {R : Type 0} (b : Bool) (x y w : R) → (b ≡ false → y ≡ w) → pick b x y ≡ pick b x w
+behind b x y w f = by b (λ u. picks b x y u ∙ sym (picks b x w u)) (λ u. skips b x y u ∙ f u ∙ sym (skips b x w u))
+
+ahead : {R : Type 0} (b : Bool) (x y w : R) → (b ≡ true → x ≡ y) → pick b x w ≡ pick b y w
+ahead b x y w f = by b (λ u. picks b x w u ∙ f u ∙ sym (picks b y w u)) (λ u. skips b x w u ∙ sym (skips b y w u))
+
+pub sound-order : (disk : List ℕ) (h : Host) (stage : List ℕ) → sound disk h stage ≡ true → inOrder h ≡ true
+unfolding sound
+sound-order disk h stage e = both-left _ _ e
+
+pub sound-disk : (disk : List ℕ) (h : Host) (stage : List ℕ) → sound disk h stage ≡ true → every (right (h .sector) disk (h .diskroots)) (taken (h .sector) (h .places)) ≡ true
+unfolding sound rootsRight
+sound-disk disk h stage e = both-left _ _ (both-right _ _ e)
+
+pub sound-stage : (disk : List ℕ) (h : Host) (stage : List ℕ) → sound disk h stage ≡ true → h .program .active ≡ true
+    → stagedRight (h .sector) stage (h .stageroots) (h .program .progress .staged) ≡ true
+unfolding sound rootsRight
+sound-stage disk h stage e live = either-second (h .program .active) _ (both-right _ _ (both-right _ _ e)) live
+
+is-sound : (disk : List ℕ) (h : Host) (stage : List ℕ) → inOrder h ≡ true → every (right (h .sector) disk (h .diskroots)) (taken (h .sector) (h .places)) ≡ true
+    → (h .program .active ≡ true → stagedRight (h .sector) stage (h .stageroots) (h .program .progress .staged) ≡ true) → sound disk h stage ≡ true
+unfolding sound rootsRight
+is-sound disk h stage o d f =
+    both-join _ _ o (both-join _ _ d (by (h .program .active) (λ u. or-right _ _ (f u)) (λ u. picks (not (h .program .active)) true _ (ap not u))))
+
+-- areas with an input that a whole run does not look at
+abbrev lends : List ℕ → List ℕ → List ℕ → Areas
+lends disk stage output = record { disk = disk; stage = stage; input = []; output = output }
+
+module _ (disk : List ℕ) (h : Host) (stage : List ℕ) (shape : Declared h) (fine : sound disk h stage ≡ true) where
+  abbrev z : ℕ
+  z = h .sector
+
+  o : inOrder h ≡ true
+  o = sound-order disk h stage fine
+
+  start-known : (output : List ℕ) → h .program .active ≡ true → Known z (settingOf h disk) (turnOf h stage output)
+  unfolding settingBy turnOf
+  start-known output live = record { disk = sound-disk disk h stage fine; stage = sound-stage disk h stage fine live; kept = shape .stage; shaped = shape .places }
+
+  accepted-alike : (input output bytes : List ℕ) → areasRight h disk stage ≡ true → h .program .active ≡ true → acceptedBy kept disk h stage input output bytes ≡ acceptedBy worked disk h stage input output bytes
+  unfolding acceptedBy run settingBy withWay turnOf
+  accepted-alike input output bytes areas live =
+      let k = h .program .came + length bytes in
+      let area = put input (h .program .came) bytes in
+      ap (λ (t : Turn). pieced 0 (t .progress .tally) (withRun h (h .program .came + length bytes) (t .progress) (t .roots)) (t .stage) (put input (h .program .came) bytes) (t .output))
+      (runs-alike z (settingOf h disk) (order-solid h disk stage o areas) (put input (h .program .came) bytes) (h .program .came + length bytes) (h .program .terms .head .count) (turnOf h stage output)
+      (order-good h disk o live (shape .staged)) (start-known output live))
+
+  -- a piece on a sound host gives what document 01 says
+  pub piece-alike : (input output bytes : List ℕ) → pieceBy kept disk h stage input output bytes ≡ pieceBy worked disk h stage input output bytes
+  unfolding pieceBy
+  piece-alike input output bytes =
+      behind (not (inOrder h)) _ _ _ (λ _. behind (not (areasRight h disk stage)) _ _ _ (λ right. behind _ _ _ _ (λ _. behind (not (h .program .active)) _ _ _ (λ live.
+      behind _ _ _ _ (λ _. accepted-alike input output bytes (not-false _ right) (not-false _ live))))))
+
+  pub records-alike : (output all : List ℕ) → areasRight h disk stage ≡ true → h .program .active ≡ true → wholeRunBy kept h (lends disk stage output) all ≡ wholeRunBy worked h (lends disk stage output) all
+  unfolding wholeRunBy settingBy withWay turnOf
+  records-alike output all areas live =
+      trail-alike z (settingOf h disk) (order-solid h disk stage o areas) all (h .program .terms .head .length) (h .program .terms .head .count) (turnOf h stage output)
+      (order-good h disk o live (shape .staged)) (start-known output live)
+
+  -- and leaves it sound
+  accepted-sound : (input output bytes : List ℕ) → areasRight h disk stage ≡ true → h .program .active ≡ true → inOrder (acceptedBy kept disk h stage input output bytes .host) ≡ true
+      → sound disk (acceptedBy kept disk h stage input output bytes .host) (acceptedBy kept disk h stage input output bytes .stage) ≡ true
+  unfolding acceptedBy run withRun withStageRoots withProgram withProgress withCame settingBy withWay turnOf
+  accepted-sound input output bytes areas live order =
+      let known = runs-known z (settingOf h disk) (order-solid h disk stage o areas) (put input (h .program .came) bytes) (h .program .came + length bytes) (h .program .terms .head .count) (turnOf h stage output)
+      (order-good h disk o live (shape .staged)) (start-known output live) in
+      is-sound disk _ _ order (sound-disk disk h stage fine) (λ _. known .stage)
+
+  abbrev Stays : Pieced → Type 0
+  Stays r = sound disk (r .host) (r .stage) ≡ true
+
+  -- a refusal leaves it as it was
+  piece-refused : (input output : List ℕ) (b : Bool) (n : ℕ) (rest : Pieced) → (b ≡ false → Stays rest) → Stays (pick b (pieced n 0 h stage input output) rest)
+  piece-refused input output b n rest f = either-way Stays b (pieced n 0 h stage input output) rest (λ _. fine) f
+
+  pub piece-sound : (input output bytes : List ℕ) → sound disk (piece disk h stage input output bytes .host) (piece disk h stage input output bytes .stage) ≡ true
+  unfolding pieceBy
+  piece-sound input output bytes =
+      let or = piece-refused input output in
+      or _ 1 _ (λ _. or _ 2 _ (λ right. or _ 2 _ (λ _. or _ 4 _ (λ live. or _ 12 _ (λ fit.
+      accepted-sound input output bytes (not-false _ right) (not-false _ live) (accepted-order disk h stage input output bytes shape o (not-false _ live) (ltb-false _ _ fit)))))))
+
+  -- ---- interrupts
+
+  pub interrupt-alike : (output : List ℕ) → interruptBy kept disk h output ≡ interruptBy worked disk h output
+  unfolding interruptBy stoppedBy settingBy withWay
+  interrupt-alike output =
+      behind (not (inOrder h)) _ _ _ (λ _. behind _ _ _ _ (λ _. behind _ _ _ _ (λ _. behind _ _ _ _ (λ _. ahead _ _ _ _ (λ _.
+      ap (λ (t : Turn). record { number = 0; tally = t .progress .tally; host = withRun h (h .program .came) (t .progress) (t .roots); output = t .output })
+      (failing-alike z (settingOf h disk) 20 (turnOf h [] output) (sound-disk disk h stage fine)))))))
+
+  -- ---- the running pair
+
+  parent-right : areasRight h disk stage ≡ true → h .program .active ≡ true
+      → every (agree (rootOf z (settingBy kept h disk) stage (h .stageroots)) (rootOf z (settingBy worked h disk) stage (h .stageroots))) (parentSpots z (settingOf h disk) (h .program .progress)) ≡ true
+  unfolding settingBy withWay
+  parent-right areas live =
+      let s = settingOf h disk in
+      let g = order-good h disk o live (shape .staged) in
+      let solid = order-solid h disk stage o areas in
+      all-parent z (settingOf h disk) (h .program .progress) solid (g .orderly .staged) (few-sectors z (settingOf h disk) (h .program .progress) (solid .lent) g) (g .entries) (shape .places) _
+      (known-disk z (settingOf h disk) stage (h .stageroots) (sound-disk disk h stage fine)) (known-stage z (settingOf h disk) stage (h .stageroots) (h .program .progress .staged) (sound-stage disk h stage fine live))
+
+  pub pair-alike : areasRight h disk stage ≡ true → h .program .active ≡ true → runningPair z (settingBy kept h disk) (rootOf z (settingBy kept h disk) stage (h .stageroots)) (h .program .progress)
+      ≡ runningPair z (settingBy worked h disk) (rootOf z (settingBy worked h disk) stage (h .stageroots)) (h .program .progress)
+  unfolding runningPair parentSpots parent settingBy
+  pair-alike areas live = ap (λ (r : List ℕ). pairing (h .program .progress .size) r) (root-agree _ _ _ (parent-right areas live))
+
+  starting-alike : startingPair z (settingBy kept h disk) ≡ startingPair z (settingBy worked h disk)
+  unfolding startingPair pairOf parent settingBy withWay
+  starting-alike = ap (λ (r : List ℕ). pairing (parent (settingOf h disk) .size) r)
+      (root-agree (rootOnDisk z (settingBy kept h disk)) (rootOnDisk z (settingBy worked h disk)) (committedSpots z (parent (settingOf h disk))) (all-start z (settingOf h disk) _ (known-disk z (settingOf h disk) [] [] (sound-disk disk h stage fine))))
+
+  pub reached-alike : reachedBy kept disk h stage ≡ reachedBy worked disk h stage
+  unfolding reachedBy reachedPairBy
+  reached-alike =
+      behind (not (inOrder h)) _ _ _ (λ _. behind (not (areasRight h disk stage)) _ _ _ (λ right. behind (not (h .program .active)) _ _ _ (λ live.
+      ap (reachedAt 0) (ap₂ (λ (x y : Pair). pick (h .program .progress .failed) x y) starting-alike (pair-alike (not-false _ right) (not-false _ live))))))
+
+  -- ---- closing
+
+  pub close-alike : (agrees : Bool) (size : ℕ) (root : List ℕ) → closeBy kept disk h stage agrees size root ≡ closeBy worked disk h stage agrees size root
+  unfolding closeBy agreedBy
+  close-alike agrees size root =
+      behind (not (inOrder h)) _ _ _ (λ _. behind (not (areasRight h disk stage)) _ _ _ (λ right. behind (not (h .program .active)) _ _ _ (λ live. behind _ _ _ _ (λ _. behind _ _ _ _ (λ _.
+      ap₂ (λ (x y : Pair). pick (samePair x y) (givenUp 0 disk h) (pick (samePair (pairing size root) x) (commit disk h stage) (givenUp 14 disk h)))
+      (pair-alike (not-false _ right) (not-false _ live)) starting-alike)))))
+
+  abbrev Ends : Closed → Type 0
+  Ends r = sound (r .disk) (r .host) stage ≡ true
+
+  close-refused : (b : Bool) (n : ℕ) (rest : Closed) → (b ≡ false → Ends rest) → Ends (pick b (closed n 0 (pos 0) h disk) rest)
+  close-refused b n rest f = either-way Ends b (closed n 0 (pos 0) h disk) rest (λ _. fine) f
+
+  given-up-sound : (n : ℕ) → Ends (givenUp n disk h)
+  unfolding givenUp withProgram noProgram
+  given-up-sound n = is-sound disk _ stage (given-up n disk h o) (sound-disk disk h stage fine) (λ u. never (sym u))
+
+  commit-idle : commit disk h stage .host .program .active ≡ false
+  unfolding commit withProgram withPlaces withDiskRoots noProgram
+  commit-idle = refl
+
+  commit-sound : areasRight h disk stage ≡ true → h .program .active ≡ true → Ends (commit disk h stage)
+  unfolding agree rootOf rootBy settingBy keptRoot sectorRoot
+  commit-sound areas live =
+      is-sound (commit disk h stage .disk) (commit disk h stage .host) stage (commit-order disk h stage shape o live)
+      (commit-right disk h stage shape o areas live (parent-right areas live) (sound-disk disk h stage fine)) (λ u. never (sym u ∙ commit-idle))
+
+  pub close-sound : (agrees : Bool) (size : ℕ) (root : List ℕ) → sound (close disk h stage agrees size root .disk) (close disk h stage agrees size root .host) stage ≡ true
+  unfolding closeBy agreedBy
+  close-sound agrees size root =
+      close-refused _ 1 _ (λ _. close-refused _ 2 _ (λ right. close-refused _ 4 _ (λ live. either-way Ends _ (givenUp 0 disk h) _ (λ _. given-up-sound 0) (λ _. close-refused _ 13 _ (λ _.
+      either-way Ends _ (givenUp 0 disk h) _ (λ _. given-up-sound 0) (λ _.
+      either-way Ends _ (commit disk h stage) (givenUp 14 disk h) (λ _. commit-sound (not-false _ right) (not-false _ live)) (λ _. given-up-sound 14)))))))
+
+  -- an interrupt lends no stage
+  abbrev Breaks : Interrupted → Type 0
+  Breaks r = sound disk (r .host) stage ≡ true
+
+  break-refused : (output : List ℕ) (b : Bool) (n : ℕ) (rest : Interrupted) → (b ≡ false → Breaks rest) → Breaks (pick b (interrupted n 0 h output) rest)
+  break-refused output b n rest f = either-way Breaks b (interrupted n 0 h output) rest (λ _. fine) f
+
+  stopped-sound : (output : List ℕ) → h .program .active ≡ true → inOrder (stoppedBy kept disk h output .host) ≡ true → Breaks (stoppedBy kept disk h output)
+  unfolding stoppedBy failing failedProgress withRun withStageRoots withProgram withProgress withCame turnOf
+  stopped-sound output live order = is-sound disk _ stage order (sound-disk disk h stage fine) (λ _. sound-stage disk h stage fine live)
+
+  pub interrupt-sound : (output : List ℕ) → sound disk (interrupt disk h output .host) stage ≡ true
+  unfolding interruptBy
+  interrupt-sound output =
+      let or = break-refused output in
+      or _ 1 _ (λ _. or _ 2 _ (λ _. or _ 2 _ (λ _. or _ 4 _ (λ live.
+      either-way Breaks _ (stoppedBy kept disk h output) (interrupted 0 (h .program .progress .tally) h output)
+      (λ g. stopped-sound output (not-false _ live) (stopped-order disk h output shape o (not-false _ live) g)) (λ _. fine)))))

@@ -1,0 +1,174 @@
+-- Opening a program, giving it a piece, interrupting it, and what it has reached: what each call answers and leaves. A refusal leaves all
+-- as it was, and its other numbers are 0. The sector size is the one that the host holds. A call that needs roots is defined for any way to
+-- know them; the call itself takes those that are kept. Assumes nothing.
+use mathlib.Core.Bool.{Bool, true, not}
+use mathlib.Core.List.{List, []}
+use Prim.Native.Nat.{ℕ, _+_}
+use lib.ListN.{length}
+use lib.Dec.{leb, ltb, eqb}
+use Rattle.area.specs.Pick.{pick, both}
+use Rattle.area.specs.Area.{same, put, zeros}
+use Rattle.sia.specs.Names.{readOnly}
+use Rattle.sia.specs.Decode.{decode}
+use Rattle.host.specs.Empty.{started}
+use Rattle.host.specs.With.{withProgram}
+use Rattle.host.specs.Places.{whose}
+use Rattle.host.specs.Order.{inOrder}
+use Rattle.machine_rules.specs.View.{Way, kept, settingBy, turnOf, withRun, diskRight, areasRight}
+use Rattle.machine_rules.specs.Roots.{rootOf}
+use Rattle.machine_rules.specs.Record.{startingPair, runningPair}
+use Rattle.machine_rules.specs.Run.{failing, going, run}
+use Rattle.sia.specs.declared.Head.{Head}
+use Rattle.host.specs.declared.Prices.{Prices}
+use Rattle.host.specs.declared.Program.{Program}
+use Rattle.host.specs.declared.Host.{Host}
+use Rattle.machine_rules.specs.declared.Answer.{Answer}
+use Rattle.machine_rules.specs.declared.Pair.{Pair}
+use Rattle.machine_rules.specs.declared.Reached.{Reached}
+
+abbrev pub answered : ℕ → ℕ → Host → Answer
+answered n tally h = record { number = n; tally = tally; host = h }
+
+-- ---- opening
+
+-- "Opening takes a head, a budget (64-bit), seven prices (16-bit each) and an output length, 72 to 65,536."
+unfoldable pub roomRight : ℕ → Bool
+roomRight room = both (leb 72 room) (leb room 65536)
+
+-- the program as it is opened: "Init, is tallied at opening"; "Opening runs nothing."
+unfoldable pub begun : Host → Head → ℕ → Prices → ℕ → Program
+begun h head budget prices room = record {
+  active = true;
+  terms = record { head = head; prices = prices; budget = budget; room = room };
+  came = 0;
+  progress = started (prices .init) (whose (head .contract) (h .places) .size);
+}
+
+-- a head with the number that its reader answered: 1, 2, 3, "but opening checks 9 and 10 before 7", 11
+unfoldable pub openedHead : Host → ℕ → Head → ℕ → Prices → ℕ → Answer
+openedHead h fault head budget prices room =
+    pick (not (inOrder h)) (answered 1 0 h)
+    (pick (not (roomRight room)) (answered 2 0 h)
+    (pick (h .program .active) (answered 3 0 h)
+    (pick (not (eqb fault 0)) (answered fault 0 h)
+    (pick (both (not (same (head .contract) readOnly)) (not (whose (head .contract) (h .places) .held))) (answered 7 0 h)
+    (pick (ltb budget (prices .init)) (answered 11 0 h)
+    (answered 0 (prices .init) (withProgram h (begun h head budget prices room))))))))
+
+-- the head comes in its bytes
+unfoldable pub opened : Host → List ℕ → ℕ → Prices → ℕ → Answer
+opened h bytes budget prices room = openedHead h (decode bytes .number) (decode bytes .head) budget prices room
+
+-- ---- pieces
+
+-- the number, the tally, the host, and the areas as they are left
+pub record Pieced : Type 0 where
+  pub number : ℕ
+  pub tally : ℕ
+  pub host : Host
+  pub stage : List ℕ
+  pub input : List ℕ
+  pub output : List ℕ
+
+abbrev pub pieced : ℕ → ℕ → Host → List ℕ → List ℕ → List ℕ → Pieced
+pieced n tally h stage input output = record { number = n; tally = tally; host = h; stage = stage; input = input; output = output }
+
+-- "A piece is copied into the input area after the bytes already come. Then instructions run in turn while their need has come."
+unfoldable pub acceptedBy : Way → List ℕ → Host → List ℕ → List ℕ → List ℕ → List ℕ → Pieced
+acceptedBy way disk h stage input output bytes =
+    let k = h .program .came + length bytes in
+    let area = put input (h .program .came) bytes in
+    let t = run (h .sector) (settingBy way h disk) area k (turnOf h stage output) in
+    pieced 0 (t .progress .tally) (withRun h k (t .progress) (t .roots)) (t .stage) area (t .output)
+
+abbrev pub accepted : List ℕ → Host → List ℕ → List ℕ → List ℕ → List ℕ → Pieced
+accepted disk h stage input output bytes = acceptedBy kept disk h stage input output bytes
+
+-- "Pieces lend an input area of exactly the declared data length; pieces and interrupts lend an output area of the output length."
+unfoldable pub inputRight : Host → List ℕ → Bool
+inputRight h input = eqb (length input) (h .program .terms .head .length)
+
+unfoldable pub outputRight : Host → List ℕ → Bool
+outputRight h output = eqb (length output) (h .program .terms .room)
+
+-- 1, 2 ("2 tests input and output areas only if a program is open"), 4, 12
+unfoldable pub pieceBy : Way → List ℕ → Host → List ℕ → List ℕ → List ℕ → List ℕ → Pieced
+pieceBy way disk h stage input output bytes =
+    let done = acceptedBy way disk h stage input output bytes in
+    pick (not (inOrder h)) (pieced 1 0 h stage input output)
+    (pick (not (areasRight h disk stage)) (pieced 2 0 h stage input output)
+    (pick (both (h .program .active) (not (both (inputRight h input) (outputRight h output)))) (pieced 2 0 h stage input output)
+    (pick (not (h .program .active)) (pieced 4 0 h stage input output)
+    (pick (ltb (h .program .terms .head .length) (h .program .came + length bytes)) (pieced 12 0 h stage input output)
+    done))))
+
+-- the call
+abbrev pub piece : List ℕ → Host → List ℕ → List ℕ → List ℕ → List ℕ → Pieced
+piece disk h stage input output bytes = pieceBy kept disk h stage input output bytes
+
+-- ---- interrupts
+
+pub record Interrupted : Type 0 where
+  pub number : ℕ
+  pub tally : ℕ
+  pub host : Host
+  pub output : List ℕ
+
+abbrev pub interrupted : ℕ → ℕ → Host → List ℕ → Interrupted
+interrupted n tally h output = record { number = n; tally = tally; host = h; output = output }
+
+-- "An interrupt writes record 20 .. for the first instruction not run"
+unfoldable pub stoppedBy : Way → List ℕ → Host → List ℕ → Interrupted
+stoppedBy way disk h output =
+    let t = failing (h .sector) (settingBy way h disk) 20 (turnOf h [] output) in
+    interrupted 0 (t .progress .tally) (withRun h (h .program .came) (t .progress) (t .roots)) (t .output)
+
+abbrev pub stopped : List ℕ → Host → List ℕ → Interrupted
+stopped disk h output = stoppedBy kept disk h output
+
+-- 1, 2, 4; "if the program has ended or failed it answers 0 and changes nothing"
+unfoldable pub interruptBy : Way → List ℕ → Host → List ℕ → Interrupted
+interruptBy way disk h output =
+    let done = stoppedBy way disk h output in
+    pick (not (inOrder h)) (interrupted 1 0 h output)
+    (pick (not (diskRight h disk)) (interrupted 2 0 h output)
+    (pick (both (h .program .active) (not (outputRight h output))) (interrupted 2 0 h output)
+    (pick (not (h .program .active)) (interrupted 4 0 h output)
+    (pick (going (h .program .terms) (h .program .progress)) done (interrupted 0 (h .program .progress .tally) h output)))))
+
+-- the call
+abbrev pub interrupt : List ℕ → Host → List ℕ → Interrupted
+interrupt disk h output = interruptBy kept disk h output
+
+-- ---- what a program has reached
+
+-- the pair that an agreement would name; after a failure the starting pair
+unfoldable pub reachedPairBy : Way → List ℕ → Host → List ℕ → Pair
+reachedPairBy way disk h stage =
+    let p = h .program .progress in
+    let s = settingBy way h disk in
+    let starting = startingPair (h .sector) s in
+    let running = runningPair (h .sector) s (rootOf (h .sector) s stage (h .stageroots)) p in
+    pick (p .failed) starting running
+
+abbrev pub reachedPair : List ℕ → Host → List ℕ → Pair
+reachedPair disk h stage = reachedPairBy kept disk h stage
+
+abbrev pub reachedAt : ℕ → Pair → Reached
+reachedAt n pair = record { number = n; size = pair .size; root = pair .root }
+
+unfoldable pub noPair : Pair
+noPair = record { size = 0; root = zeros 32 }
+
+-- 1, 2, 4, as a piece
+unfoldable pub reachedBy : Way → List ℕ → Host → List ℕ → Reached
+reachedBy way disk h stage =
+    let pair = reachedPairBy way disk h stage in
+    pick (not (inOrder h)) (reachedAt 1 noPair)
+    (pick (not (areasRight h disk stage)) (reachedAt 2 noPair)
+    (pick (not (h .program .active)) (reachedAt 4 noPair)
+    (reachedAt 0 pair)))
+
+-- the call
+abbrev pub reached : List ℕ → Host → List ℕ → Reached
+reached disk h stage = reachedBy kept disk h stage

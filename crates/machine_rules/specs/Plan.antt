@@ -1,0 +1,212 @@
+-- Whether an instruction can run and what it costs: numbers alone, but for ReadSector, which looks a root up: f reads roots. z is the sector size.
+-- Assumes nothing.
+use mathlib.Core.Bool.{Bool, true, false, not}
+use mathlib.Core.List.{List, [], _∷_}
+use Prim.Native.Nat.{ℕ, _+_, _*_, _/_, _%_}
+use lib.ListN.{length, getD}
+use lib.Dec.{ltb, eqb}
+use Rattle.area.specs.Pick.{pick, both, either}
+use Rattle.area.specs.Area.{same}
+use Rattle.sia.specs.Names.{opOf}
+use Rattle.host.specs.Lists.{those}
+use Rattle.host.specs.Empty.{none}
+use Rattle.host.specs.Places.{whose, others}
+use Rattle.machine_rules.specs.View.{Setting, readOnlyMode, freeCopies, parentSpots, committedSpots}
+use Rattle.machine_rules.specs.Roots.{rangeCount}
+use Rattle.machine_rules.specs.Seats.{seatsOf, firstSeat}
+use Rattle.machine_rules.specs.Inputs.{illFormed, pastEnd, wellFormed, Args, argsOf}
+use Rattle.sia.specs.declared.Instruction.{Instruction}
+use Rattle.sia.specs.declared.Op.{Op}
+use Rattle.sia.specs.declared.Op.the-variants.{Read, ReadSector, Write, Copy, Swap, Truncate, Unknown}
+use Rattle.host.specs.declared.Prices.{Prices}
+use Rattle.host.specs.declared.Progress.{Progress}
+use Rattle.machine_rules.specs.declared.Spot.{Spot}
+use Rattle.machine_rules.specs.declared.Sought.{Sought}
+use Rattle.machine_rules.specs.declared.Sought.the-variants.{At, Nowhere}
+
+-- 24: "Write, Copy, Swap or Truncate"
+unfoldable pub changes : Op → Bool
+changes Read = false
+changes ReadSector = false
+changes Write = true
+changes Copy = true
+changes Swap = true
+changes Truncate = true
+changes Unknown = false
+
+-- ---- 25: what is read
+
+-- the sectors that are read, or none: "contract or sector root not found"
+pub data Source : Type 0 where
+  missing : Source
+  seen : List Spot → Source
+
+unfoldable pub isThere : Source → Bool
+isThere missing = false
+isThere (seen l) = true
+
+unfoldable pub spots : Source → List Spot
+spots missing = []
+spots (seen l) = l
+
+-- Read: the parent as it is now, another contract as committed
+unfoldable pub contractSource : ℕ → Setting → Progress → List ℕ → Source
+contractSource z s p id =
+    let other = whose id (s .places) in
+    let own = seen (parentSpots z s p) in
+    let committed = seen (committedSpots z other) in
+    pick (not (other .held)) missing (pick (same id (s .terms .head .contract)) own committed)
+
+-- ReadSector: the sector that has that root
+unfoldable pub soughtSource : Sought → Source
+soughtSource (At x) = seen (x .spot ∷ [])
+soughtSource Nowhere = missing
+
+unfoldable pub sectorSource : ℕ → Setting → (Spot → List ℕ) → Progress → List ℕ → Source
+sectorSource z s f p key = soughtSource (firstSeat f key (seatsOf z s p))
+
+-- the other instructions look nothing up
+unfoldable pub sourceOf : ℕ → Setting → (Spot → List ℕ) → Progress → Op → List ℕ → Source
+sourceOf z s f p Read key = contractSource z s p key
+sourceOf z s f p ReadSector key = sectorSource z s f p key
+sourceOf z s f p Write key = seen []
+sourceOf z s f p Copy key = seen []
+sourceOf z s f p Swap key = seen []
+sourceOf z s f p Truncate key = seen []
+sourceOf z s f p Unknown key = seen []
+
+-- ---- 26: spans
+
+-- "span: length 0, past the end, or across a sector edge"
+unfoldable pub badSpan : ℕ → ℕ → ℕ → ℕ → Bool
+badSpan z end at n = either (eqb n 0) (either (ltb end (at + n)) (ltb z (at % z + n)))
+
+-- "Truncate to no multiple of 4,096 or by more than one sector", where "4,096" is read "as the host's size"
+unfoldable pub badSize : ℕ → ℕ → ℕ → Bool
+badSize z size new = either (not (eqb (new % z) 0)) (either (ltb (size + z) new) (ltb (new + z) size))
+
+-- of a read the span in what is read; Copy and Swap both spans, and Write's, in the parent
+unfoldable pub badSpans : ℕ → ℕ → Source → Op → Args → Bool
+badSpans z size from Read a = badSpan z (length (spots from) * z) (a .first) (a .len)
+badSpans z size from ReadSector a = badSpan z (length (spots from) * z) (a .first) (a .len)
+badSpans z size from Write a = badSpan z size (a .first) (a .len)
+badSpans z size from Copy a = either (badSpan z size (a .first) (a .len)) (badSpan z size (a .second) (a .len))
+badSpans z size from Swap a = either (badSpan z size (a .first) (a .len)) (badSpan z size (a .second) (a .len))
+badSpans z size from Truncate a = badSize z size (a .first)
+badSpans z size from Unknown a = false
+
+-- "Read or ReadSector"
+unfoldable pub reads : Op → Bool
+reads Read = true
+reads ReadSector = true
+reads Write = false
+reads Copy = false
+reads Swap = false
+reads Truncate = false
+reads Unknown = false
+
+-- 27: "proof asked of other than Read or ReadSector, or with offset or length no multiple of 64"
+unfoldable pub badProof : Op → Args → Bool
+badProof op a = either (not (reads op)) (either (not (eqb (a .first % 64) 0)) (not (eqb (a .len % 64) 0)))
+
+-- ---- 28: cost
+
+-- "Times: Read, ReadSector 10; Write, Copy 20; Swap 30; Truncate 5."
+unfoldable pub time : Op → ℕ
+time Read = 10
+time ReadSector = 10
+time Write = 20
+time Copy = 20
+time Swap = 30
+time Truncate = 5
+time Unknown = 0
+
+-- "read R = ReadBase + ReadLength × length"
+abbrev pub readPrice : Prices → ℕ → ℕ
+readPrice p n = p .readbase + p .readlength * n
+
+-- "write W = WriteBase + WriteLength × data length (count excluded)"
+abbrev pub writePrice : Prices → ℕ → ℕ
+writePrice p n = p .writebase + p .writelength * n
+
+-- "Own: .. Copy R + W; Swap 2 × (R + W); Truncate TruncateBase."
+unfoldable pub own : Prices → Op → ℕ → ℕ
+own p Read n = readPrice p n
+own p ReadSector n = readPrice p n
+own p Write n = writePrice p n
+own p Copy n = readPrice p n + writePrice p n
+own p Swap n = 2 * (readPrice p n + writePrice p n)
+own p Truncate n = p .truncatebase
+own p Unknown n = 0
+
+-- "(1,048,576 + declared length) × time × Memory, plus the instruction's own"
+unfoldable pub cost : ℕ → Prices → Op → ℕ → ℕ
+cost declared p op n = (1048576 + declared) * time op * p .memory + own p op n
+
+-- ---- 40: stage slots
+
+-- positions written to, in the order in which they take slots: "Swap takes offset 2's slot first"
+unfoldable pub touched : ℕ → ℕ → Op → Args → List ℕ
+touched z size Read a = []
+touched z size ReadSector a = []
+touched z size Write a = a .first / z ∷ []
+touched z size Copy a = a .first / z ∷ []
+touched z size Swap a = pick (eqb (a .first / z) (a .second / z)) (a .second / z ∷ []) (a .second / z ∷ a .first / z ∷ [])
+touched z size Truncate a = pick (ltb size (a .first)) (size / z ∷ []) []
+touched z size Unknown a = []
+
+-- "A sector written to, .. gets a stage copy unless it has one": how many need a slot
+unfoldable pub wanted : ℕ → Progress → Op → Args → ℕ
+wanted z p op a = length (those (λ at. eqb (getD (p .staged) at none) none) (touched z (p .size) op a))
+
+-- ---- 41: the new size
+
+unfoldable pub newSize : ℕ → Op → Args → ℕ
+newSize size Read a = size
+newSize size ReadSector a = size
+newSize size Write a = size
+newSize size Copy a = size
+newSize size Swap a = size
+newSize size Truncate a = a .first
+newSize size Unknown a = size
+
+-- ---- 42: the record's length
+
+unfoldable pub proofCount : ℕ → Bool → Source → Args → ℕ
+proofCount z asked from a = let n = rangeCount z (spots from) (a .first) (a .len) in pick asked n 0
+
+-- Read and ReadSector hand out what they read
+unfoldable pub outputCount : Op → Args → ℕ
+outputCount op a = pick (reads op) (a .len) 0
+
+-- number, cost, size, root and the two counts are 72 bytes
+unfoldable pub recordCount : ℕ → Bool → Source → Op → Args → ℕ
+recordCount z asked from op a = 72 + 32 * proofCount z asked from a + outputCount op a
+
+-- ---- "Checks, first match wins": the failure's number, or 0 where it can run
+
+-- 26 to 42, where what is read was found
+unfoldable pub judgedSource : ℕ → Setting → Progress → Bool → Source → Op → Args → ℕ
+judgedSource z s p asked from op a =
+    pick (badSpans z (p .size) from op a) 26
+    (pick (both asked (badProof op a)) 27
+    (pick (ltb (s .terms .budget) (p .tally + cost (s .terms .head .length) (s .terms .prices) op (a .len))) 28
+    (pick (ltb (freeCopies s p) (wanted z p op a)) 40
+    (pick (ltb (s .sectors * z) (newSize (p .size) op a + others (s .terms .head .contract) (s .places))) 41
+    (pick (ltb (s .terms .room) (p .written + recordCount z asked from op a + 72)) 42 0)))))
+
+-- 23 to 42, where name and operands are right
+unfoldable pub judgedInputs : ℕ → Setting → (Spot → List ℕ) → Progress → Instruction → Op → List (List ℕ) → ℕ
+judgedInputs z s f p i op l =
+    let a = argsOf op l in
+    let from = sourceOf z s f p op (a .key) in
+    pick (not (wellFormed op l)) 23
+    (pick (both (changes op) (readOnlyMode (s .terms))) 24
+    (pick (not (isThere from)) 25
+    (judgedSource z s p (i .proof) from op a)))
+
+unfoldable pub judged : ℕ → Setting → (Spot → List ℕ) → Progress → Instruction → List (List ℕ) → ℕ
+judged z s f p i l =
+    pick (illFormed i) 21
+    (pick (pastEnd (s .terms .head .length) i) 22
+    (judgedInputs z s f p i (opOf (i .name)) l))

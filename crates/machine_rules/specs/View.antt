@@ -1,0 +1,112 @@
+-- What instructions run against, and where the bytes of sectors are. z is the sector size. Assumes nothing.
+use mathlib.Core.Bool.{Bool}
+use mathlib.Core.List.{List}
+use Prim.Native.Nat.{ℕ, _*_, _/_}
+use lib.ListN.{length, getD}
+use lib.Dec.{eqb}
+use Rattle.area.specs.Pick.{pick, both}
+use Rattle.area.specs.Area.{same, part, tab}
+use Rattle.sia.specs.Names.{readOnly}
+use Rattle.sia.specs.Encode.{joined}
+use Rattle.host.specs.Lists.{each, count, unused}
+use Rattle.host.specs.Empty.{none}
+use Rattle.host.specs.With.{withProgram, withStageRoots, withCame, withProgress}
+use Rattle.host.specs.Places.{whose, committed}
+use Rattle.host.specs.declared.Place.{Place}
+use Rattle.host.specs.declared.Terms.{Terms}
+use Rattle.host.specs.declared.Progress.{Progress}
+use Rattle.host.specs.declared.Host.{Host}
+use Rattle.machine_rules.specs.declared.Spot.{Spot}
+use Rattle.machine_rules.specs.declared.Spot.the-variants.{OnDisk, InStage}
+
+-- ---- what stays and what changes while instructions run
+
+-- how the root of a sector is known: as it is kept beside the sector's slot, which is what the calls do; or worked out from the sector's
+-- bytes, which is document 01
+pub data Way : Type 0 where
+  kept : Way
+  worked : Way
+
+-- what stays: the sectors of disk and stage, the contracts, the terms of the program, the disk's bytes, the roots kept beside its slots, and
+-- how roots are known
+pub record Setting : Type 0 where
+  pub sectors : ℕ
+  pub copies : ℕ
+  pub places : List Place
+  pub terms : Terms
+  pub disk : List ℕ
+  pub roots : List ℕ
+  pub way : Way
+
+-- what changes: the progress of the program, the stage's bytes, the output's bytes, the roots kept beside the stage's slots
+pub record Turn : Type 0 where
+  pub progress : Progress
+  pub stage : List ℕ
+  pub output : List ℕ
+  pub roots : List ℕ
+
+-- that of the calls
+abbrev pub setting : ℕ → ℕ → List Place → Terms → List ℕ → List ℕ → Setting
+setting sectors copies places terms disk roots =
+    record { sectors = sectors; copies = copies; places = places; terms = terms; disk = disk; roots = roots; way = kept }
+
+abbrev pub turn : Progress → List ℕ → List ℕ → List ℕ → Turn
+turn progress stage output roots = record { progress = progress; stage = stage; output = output; roots = roots }
+
+unfoldable pub settingBy : Way → Host → List ℕ → Setting
+settingBy way h disk =
+    record { sectors = h .disk; copies = h .stage; places = h .places; terms = h .program .terms; disk = disk; roots = h .diskroots; way = way }
+
+abbrev pub settingOf : Host → List ℕ → Setting
+settingOf h disk = settingBy kept h disk
+
+unfoldable pub turnOf : Host → List ℕ → List ℕ → Turn
+turnOf h stage output = turn (h .program .progress) stage output (h .stageroots)
+
+-- the host when k bytes have come, its program has made this progress, and these roots are kept beside the stage's slots
+unfoldable pub withRun : Host → ℕ → Progress → List ℕ → Host
+withRun h k p roots = withStageRoots (withProgram h (withProgress (withCame (h .program) k) p)) roots
+
+-- "a call that lends them must lend the same lengths"
+unfoldable pub diskRight : Host → List ℕ → Bool
+diskRight h disk = eqb (length disk) (h .disk * h .sector)
+
+unfoldable pub areasRight : Host → List ℕ → List ℕ → Bool
+areasRight h disk stage = both (diskRight h disk) (eqb (length stage) (h .stage * h .sector))
+
+-- ---- the parent
+
+-- "The contract "ReadOnly", .. means read-only mode."
+unfoldable pub readOnlyMode : Terms → Bool
+readOnlyMode t = same (t .head .contract) readOnly
+
+-- the contract that the head names; no contract in read-only mode
+unfoldable pub parent : Setting → Place
+parent s = whose (s .terms .head .contract) (s .places)
+
+-- how many stage slots are free
+unfoldable pub freeCopies : Setting → Progress → ℕ
+freeCopies s p = count (unused (p .staged)) 0 (s .copies)
+
+-- ---- sectors
+
+-- "the part of whichever holds it is handed back"
+unfoldable pub sector : ℕ → List ℕ → List ℕ → Spot → List ℕ
+sector z disk stage (OnDisk n) = part disk (n * z) z
+sector z disk stage (InStage n) = part stage (n * z) z
+
+-- "The parent is read from the stage where it has a copy, else from the disk"
+unfoldable pub spotOf : List ℕ → List ℕ → ℕ → Spot
+spotOf slots staged at = pick (eqb (getD staged at none) none) (OnDisk (getD slots at 0)) (InStage (getD staged at none))
+
+-- the parent's sectors up to its running size
+unfoldable pub parentSpots : ℕ → Setting → Progress → List Spot
+parentSpots z s p = tab 0 (p .size / z) (spotOf (parent s .slots) (p .staged))
+
+-- "Read of another contract" sees "committed sectors only"
+unfoldable pub committedSpots : ℕ → Place → List Spot
+committedSpots z p = each OnDisk (committed z p)
+
+-- the bytes of sectors, one after another
+unfoldable pub whole : ℕ → List ℕ → List ℕ → List Spot → List ℕ
+whole z disk stage l = joined (sector z disk stage) l

@@ -1,0 +1,8 @@
+-- The laws, a file for each subject.
+-- The laws, a file for each subject.
+-- The laws, a file for each subject.
+pub mod Gathered
+pub mod Sights
+pub mod Lookup
+pub mod Sectors
+pub mod Roots

@@ -1,0 +1,12 @@
+-- `kept_root` meets its contract: kept roots are an area with slots of 32 bytes. Assumes nothing.
+use borrow.Author.Needs.{needs}
+use Rattle.machine_rules.specs.Roots.{keptRoot}
+use Rattle.machine_sight.proofs.sector_roots.kept_root.Statement.{statement}
+use Rattle.machine_sight.proofs.sector_roots.kept_root.Tie as tie
+
+returns : tie.Need-returns
+unfolding keptRoot
+returns c = c .sector .ensures
+
+pub kept-root-spec : {M : Type 1} → statement M
+kept-root-spec = tie.close (tie.spec (λ c κs. search needs) returns)

@@ -1,0 +1,14 @@
+-- `nothing` meets its contract. Assumes nothing.
+use mathlib.Core.Path.{refl}
+use native.Mathlib.Omega.{arith}
+use Rattle.area.specs.Area.{tab}
+use Rattle.machine_sight.specs.Seen.{spotsOf}
+use Rattle.machine_sight.proofs.sights.nothing.Statement.{statement}
+use Rattle.machine_sight.proofs.sights.nothing.Tie as tie
+
+returns : tie.Need-returns
+unfolding spotsOf tab
+returns c = (refl, omega arith)
+
+pub nothing-spec : {M : Type 1} → statement M
+nothing-spec = tie.close (tie.spec returns)

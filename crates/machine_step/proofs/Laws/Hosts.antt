@@ -1,0 +1,103 @@
+-- What a host in order gives the functions that read its parent. Assumes nothing.
+use mathlib.Core.Path.{_≡_, refl, sym, ap, _∙_, subst}
+use mathlib.Core.Bool.{true}
+use mathlib.Core.List.{List, [], _∷_}
+use Prim.Native.Nat.{ℕ, _*_}
+use native.Mathlib.Omega.{arith}
+use lib.ListN.{length}
+use borrow.Author.Tests.{eqb-true}
+use Rattle.area.specs.Pick.{pick}
+use Rattle.area.specs.Area.{zeros}
+use Rattle.area.proofs.Laws.Pick.{by, picks, skips, both-left, both-right}
+use Rattle.sia.specs.Encode.{every}
+use Rattle.host.specs.Empty.{noPlace}
+use Rattle.host.specs.Places.{hasId, whose, taken}
+use Rattle.host.specs.Order.{placeInOrder, inOrder}
+use Rattle.host.proofs.Laws.Order.{order-facts}
+use Rattle.machine_rules.specs.View.{settingBy, settingOf, turnOf, diskRight, areasRight, parent, parentSpots}
+use Rattle.machine_rules.specs.Roots.{keptRoot, rootBy, rootOf}
+use Rattle.machine_rules.specs.Record.{startingPair, runningPair}
+use Rattle.machine_rules.specs.Calls.{outputRight}
+use Rattle.machine_rules.proofs.Laws.Spots.{whose-every}
+use Rattle.machine_rules.proofs.Laws.Taking.{blank-right, order-good, order-solid, areas-stage}
+use Rattle.machine_sight.specs.Seen.{holds}
+use Rattle.machine_sight.proofs.Callers.{slots-hold}
+use Rattle.machine_sight.specs.Lookup.{Stands}
+use Rattle.machine_step.specs.Asks.{Reads}
+use Rattle.machine_step.proofs.Laws.Planned.{reads-good}
+use Rattle.machine_step.specs.Turns.{Ready, Runs}
+use Rattle.host.specs.declared.Place.{Place}
+use Rattle.host.specs.declared.Host.{Host}
+
+none-order : (z : ℕ) → placeInOrder z noPlace ≡ true
+unfolding placeInOrder noPlace pick
+none-order z = refl
+
+-- a contract of an id is in order, where all are
+whose-order : (z : ℕ) (id : List ℕ) (ps : List Place) → every (placeInOrder z) ps ≡ true → placeInOrder z (whose id ps) ≡ true
+unfolding whose every
+whose-order z id [] h = none-order z
+whose-order z id (p ∷ ps) h =
+    by (hasId id p)
+    (λ e. ap (placeInOrder z) (picks (hasId id p) p (whose id ps) e) ∙ both-left _ _ h)
+    (λ e. ap (placeInOrder z) (skips (hasId id p) p (whose id ps) e) ∙ whose-order z id ps (both-right _ _ h))
+
+pub disk-long : (h : Host) (disk : List ℕ) → diskRight h disk ≡ true → length disk ≡ h .disk * h .sector
+unfolding diskRight
+disk-long h disk e = eqb-true _ _ e
+
+pub areas-disk : (h : Host) (disk stage : List ℕ) → areasRight h disk stage ≡ true → diskRight h disk ≡ true
+unfolding areasRight
+areas-disk h disk stage e = both-left _ _ e
+
+-- the contract of any id stands: a root is kept beside each of its slots
+pub stands : (h : Host) (id : List ℕ) {p : Place} → length (h .diskroots) ≡ 2048 → p ≡ whose id (h .places) → inOrder h ≡ true
+    → Stands (h .sector) (h .diskroots) p
+stands h id long e o =
+    let z = h .sector in
+    let f = order-facts h o in
+    let held = slots-hold 32 (h .diskroots) (h .disk) (taken z (h .places)) (omega (arith, long, f .diskMost)) (f .contracts .below) in
+    subst (Stands z (h .diskroots)) (sym e) (record {
+      size = f .size;
+      order = whose-order z id (h .places) (f .contracts .each);
+      slots = whose-every (holds 32 (h .diskroots)) z id (h .places) held;
+    })
+
+-- the parent is read with a root kept beside each of its sectors
+pub reads : (h : Host) {p : Place} → length (h .program .progress .staged) ≡ 64 → length (h .diskroots) ≡ 2048 → length (h .stageroots) ≡ 512
+    → p ≡ whose (h .program .terms .head .contract) (h .places) → inOrder h ≡ true → h .program .active ≡ true
+    → Reads (h .sector) (h .diskroots) (h .stageroots) p (h .program .progress)
+unfolding settingBy parent
+reads h long d s e o live =
+    let disk = zeros (h .disk * h .sector) in
+    let stage = zeros (h .stage * h .sector) in
+    reads-good (h .sector) (settingOf h disk) (h .program .progress) (h .diskroots) (h .stageroots) _
+    (order-solid h disk stage o (blank-right h)) (order-good h disk o live long) d s e
+
+-- instructions in turn on a host in order, with its areas as stated
+pub turns-right : (h : Host) (disk stage input output : List ℕ) → length (h .program .progress .staged) ≡ 64 → length (h .diskroots) ≡ 2048
+    → length (h .stageroots) ≡ 512 → Ready disk h stage → length input ≡ h .program .terms .head .length → outputRight h output ≡ true
+    → Runs (h .sector) (settingOf h disk) (turnOf h stage output) input
+unfolding outputRight turnOf settingBy
+turns-right h disk stage input output long d s r i o = record {
+  solid = order-solid h disk stage (r .order) (r .areas);
+  good = order-good h disk (r .order) (r .live) long;
+  input = i;
+  stage = areas-stage h disk stage (r .areas);
+  output = eqb-true _ _ o;
+  way = refl;
+  diskroots = d;
+  stageroots = s;
+}
+
+-- ---- kept roots look at no area
+
+pub starting-any : (h : Host) (disk : List ℕ) → startingPair (h .sector) (settingOf h []) ≡ startingPair (h .sector) (settingOf h disk)
+unfolding startingPair parent settingBy rootOf rootBy
+starting-any h disk = refl
+
+pub running-any : (h : Host) (disk stage : List ℕ) → let s = settingOf h disk in
+    runningPair (h .sector) (settingOf h []) (keptRoot (h .diskroots) (h .stageroots)) (h .program .progress)
+    ≡ runningPair (h .sector) s (rootOf (h .sector) s stage (h .stageroots)) (h .program .progress)
+unfolding runningPair parentSpots parent settingBy rootOf rootBy
+running-any h disk stage = refl

@@ -1,0 +1,11 @@
+-- `machine_step::going` meets its contract. Assumes nothing.
+use Rattle.machine_rules.specs.Run.{going}
+use Rattle.machine_step.proofs.going.Statement.{statement}
+use Rattle.machine_step.proofs.going.Tie as tie
+
+returns : tie.Need-returns
+unfolding going
+returns c = c .goes-on .ensures
+
+pub going-spec : {M : Type 1} → statement M
+going-spec = tie.close (tie.spec (λ c κs. tt) returns)

@@ -1,0 +1,45 @@
+-- `machine_step::pairs::running_pair` meets its contract: the running size, and the root of the parent's sectors as they are read. Assumes nothing.
+use mathlib.Core.Path.{ap, _∙_}
+use mathlib.Core.List.{List}
+use Prim.Native.Nat.{ℕ, _/_}
+use Rattle.area.specs.Area.{tab}
+use Rattle.host.proofs.Laws.Lengths.{hosted, disk-rooted, stage-rooted}
+use Rattle.machine_rules.specs.View.{settingBy, parent, spotOf, parentSpots}
+use Rattle.machine_rules.specs.Roots.{keptRoot, contractRoot}
+use Rattle.machine_rules.specs.Record.{pairing, runningPair}
+use Rattle.machine_step.proofs.Laws.Hosts.{reads}
+use Rattle.host.specs.declared.Place.{Place}
+use borrow.Author.Needs.{needs}
+use Rattle.machine_step.proofs.pairs.running_pair.Statement.{statement}
+use Rattle.machine_step.proofs.pairs.running_pair.Tie as tie
+
+parent-requires : tie.Need-parent-requires
+parent-requires c κs = search needs
+
+slice-aggregate-running-root : tie.Need-slice-aggregate-running-root
+slice-aggregate-running-root c = search needs
+
+slice-aggregate-running-root-2 : tie.Need-slice-aggregate-running-root-2
+slice-aggregate-running-root-2 c = search needs
+
+running-root-requires : tie.Need-running-root-requires
+running-root-requires c κs =
+    let found = c .before .before .before .before in
+    let s = found .before .before .before in
+    let h = s .args .host in
+    reads h (hosted h _ (s .good .0)) (disk-rooted h _ (s .good .0)) (stage-rooted h _ (s .good .0)) (found .parent .ensures) (s .pre .0) (s .pre .1)
+
+returns : tie.Need-returns
+unfolding runningPair parentSpots parent settingBy
+returns c =
+    let found = c .before .before .before .before .before in
+    let h = found .before .before .before .args .host in
+    let z = h .sector in
+    let p = h .program .progress in
+    let root : Place → List ℕ = λ q. contractRoot (keptRoot (h .diskroots) (h .stageroots)) (tab 0 (p .size / z) (spotOf (q .slots) (p .staged))) in
+    ap (pairing (p .size)) (c .running-root .ensures ∙ ap root (found .parent .ensures))
+
+pub running-pair-spec : {M : Type 1} → statement M
+running-pair-spec =
+    tie.close
+    (tie.spec parent-requires slice-aggregate-running-root slice-aggregate-running-root-2 running-root-requires returns)

@@ -1,0 +1,33 @@
+-- `machine_step::pairs::starting_pair` meets its contract: the parent's size, and the root of its committed sectors. Assumes nothing.
+use mathlib.Core.Path.{ap, _∙_}
+use mathlib.Core.List.{[]}
+use Rattle.host.proofs.Laws.Lengths.{disk-rooted}
+use Rattle.machine_rules.specs.View.{settingBy, parent}
+use Rattle.machine_rules.specs.Roots.{keptRoot, rootBy, rootOf}
+use Rattle.machine_rules.specs.Record.{pairing, pairOf, startingPair}
+use Rattle.machine_step.proofs.Laws.Hosts.{stands}
+use borrow.Author.Needs.{needs}
+use Rattle.machine_step.proofs.pairs.starting_pair.Statement.{statement}
+use Rattle.machine_step.proofs.pairs.starting_pair.Tie as tie
+
+parent-requires : tie.Need-parent-requires
+parent-requires c κs = search needs
+
+slice-aggregate-committed-root : tie.Need-slice-aggregate-committed-root
+slice-aggregate-committed-root c = search needs
+
+committed-root-requires : tie.Need-committed-root-requires
+committed-root-requires c κs =
+    let found = c .before .before in
+    let s = found .before in
+    stands (s .args .host) _ (disk-rooted (s .args .host) _ (s .good .0)) (found .parent .ensures) (s .pre)
+
+returns : tie.Need-returns
+unfolding startingPair pairOf parent settingBy rootOf rootBy
+returns c =
+    let found = c .before .before .before in
+    let h = found .before .args .host in
+    ap (pairing (found .parent .result .size)) (c .committed-root .ensures) ∙ ap (pairOf (h .sector) (keptRoot (h .diskroots) [])) (found .parent .ensures)
+
+pub starting-pair-spec : {M : Type 1} → statement M
+starting-pair-spec = tie.close (tie.spec parent-requires slice-aggregate-committed-root committed-root-requires returns)

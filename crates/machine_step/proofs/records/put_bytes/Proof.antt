@@ -1,0 +1,45 @@
+-- `machine_step::records::put_bytes` meets its contract: nothing is laid where nothing is read. Assumes nothing.
+use mathlib.Core.Path.{sym, ap, subst, _∙_}
+use mathlib.Core.List.{[]}
+use Prim.Native.Nat.{ℕ, _≤_}
+use native.Mathlib.Omega.{arith}
+use lib.ListN.{length}
+use Rattle.area.specs.Area.{put}
+use Rattle.area.proofs.Laws.Pick.{picks, skips}
+use Rattle.area.proofs.Laws.Parts.{part-whole}
+use Rattle.area.proofs.Laws.Puts.{put-nil}
+use Rattle.sia.proofs.Laws.Joined.{lay-same}
+use Rattle.machine_step.specs.Shown.{shownBytes}
+use borrow.Author.Needs.{needs}
+use Rattle.machine_step.proofs.records.put_bytes.Statement.{statement}
+use Rattle.machine_step.proofs.records.put_bytes.Tie as tie
+
+span-requires : tie.Need-span-requires
+span-requires c κs = let start = c .before .before .before .before in (start .pre .0, start .pre .1 .0 (c .if1 .taken))
+
+copy-between-requires : tie.Need-copy-between-requires
+copy-between-requires c κs =
+    let start = c .before .before .before .before .before .before in
+    let read = c .before .span .ensures .1 in
+    let reads = picks (start .args .reads) (start .args .n) 0 (c .before .before .if1 .taken) in
+    let room = subst (λ (k : ℕ). k ≤ length (start .args .out .now)) reads (start .pre .1 .1) in
+    (omega arith, omega arith)
+
+same-length : tie.Need-same-length
+same-length c = search needs
+
+returns : tie.Need-returns
+unfolding shownBytes
+returns c =
+    let at-span = c .before .before .before .before in
+    let read = at-span .span .ensures in
+    lay-same _ 0 _ (c .before .before .copy-between .ensures)
+    (part-whole _ _ (sym (read .1)) ∙ read .0 ∙ sym (picks _ _ [] (at-span .before .if1 .taken)))
+
+returns-2 : tie.Need-returns-2
+unfolding shownBytes
+returns-2 c = sym (ap (put _ 0) (skips _ _ [] (c .if1 .left)) ∙ put-nil _ 0)
+
+pub put-bytes-spec : {M : Type 1} → statement M
+put-bytes-spec =
+    tie.close (tie.spec span-requires copy-between-requires same-length returns returns-2)

@@ -1,0 +1,34 @@
+-- `machine_step::records::put_failure` meets its contract: the front, then a count of 0. Assumes nothing.
+use mathlib.Core.Path.{refl, sym, ap, _∙_}
+use mathlib.Core.List.{List, [], _++_, append-nil}
+use Prim.Native.Nat.{ℕ}
+use Rattle.area.specs.Little.{le8}
+use Rattle.sia.proofs.Laws.Joined.{lay-same, lay-two}
+use Rattle.machine_rules.specs.Record.{pairing, recordBytes}
+use Rattle.machine_step.specs.Front.{front}
+use Rattle.machine_step.proofs.Laws.Parts.{record-front, length-front}
+use borrow.Author.Needs.{needs}
+use Rattle.machine_step.proofs.records.put_failure.Statement.{statement}
+use Rattle.machine_step.proofs.records.put_failure.Tie as tie
+
+put-front-requires : tie.Need-put-front-requires
+put-front-requires c κs = search needs
+
+store-requires : tie.Need-store-requires
+store-requires c κs = search needs
+
+same-length : tie.Need-same-length
+same-length c = search needs
+
+returns : tie.Need-returns
+unfolding recordBytes
+returns c =
+    let front-laid = c .before .before .before .before .before .before in
+    let start = front-laid .before .before .before in
+    let p = pairing (start .args .size) (start .args .root) in
+    lay-same _ 0 _
+    (lay-two _ 0 _ _ 64 (front-laid .put-front .ensures) (c .before .before .store .ensures) (length-front _ _ p 0 (start .good .1 .1 .0 .1 .0 .1)) refl)
+    (ap (λ (l : List ℕ). front (start .args .number) 0 p 0 ++ l) (sym (append-nil (le8 0))) ∙ sym (record-front (start .args .number) 0 p 0 (le8 0 ++ [])))
+
+pub put-failure-spec : {M : Type 1} → statement M
+put-failure-spec = tie.close (tie.spec put-front-requires store-requires same-length returns)

@@ -1,0 +1,60 @@
+-- `machine_step::records::put_front` meets its contract: five parts, one behind the other. Assumes nothing.
+use mathlib.Core.Path.{_≡_, refl, sym}
+use lib.ListN.{length}
+use Rattle.area.proofs.Laws.Parts.{part-whole}
+use Rattle.area.proofs.Laws.Little.{length-bytes}
+use Rattle.sia.proofs.Laws.Joined.{lay-same, lay-two}
+use Rattle.machine_step.specs.Front.{front}
+use borrow.Author.Needs.{needs}
+use Rattle.machine_step.proofs.records.put_front.Statement.{statement}
+use Rattle.machine_step.proofs.records.put_front.Tie as tie
+
+store-requires : tie.Need-store-requires
+store-requires c κs = search needs
+
+store-requires-2 : tie.Need-store-requires-2
+store-requires-2 c κs = search needs
+
+store-requires-3 : tie.Need-store-requires-3
+store-requires-3 c κs = search needs
+
+slice-aggregate-copy-between : tie.Need-slice-aggregate-copy-between
+slice-aggregate-copy-between c = search needs
+
+copy-between-requires : tie.Need-copy-between-requires
+copy-between-requires c κs = search needs
+
+store-requires-4 : tie.Need-store-requires-4
+store-requires-4 c κs = search needs
+
+same-length : tie.Need-same-length
+same-length c = search needs
+
+returns : tie.Need-returns
+unfolding front
+returns c =
+    let number = c .before .before .before .before .before .before .before .before .before .before .before .before .before .before .before .before .before .before .before in
+    let cost = c .before .before .before .before .before .before .before .before .before .before .before .before .before .before .before in
+    let size = c .before .before .before .before .before .before .before .before .before .before .before in
+    let root = c .before .before .before .before .before .before in
+    let long : length (number .before .before .before .args .t4) ≡ 32 = number .before .before .before .good .1 .1 .1 .0 .1 .0 .1 in
+    lay-two _ 0 _ _ 8 (number .store .ensures)
+    (lay-two _ 8 _ _ 16 (cost .store2 .ensures)
+    (lay-two _ 16 _ _ 24 (size .store3 .ensures)
+    (lay-two _ 24 _ _ 56 (lay-same _ _ _ (root .copy-between .ensures) (part-whole _ 32 (sym long))) (c .before .before .store4 .ensures) long refl)
+    (length-bytes 8 _) refl)
+    (length-bytes 8 _) refl)
+    (length-bytes 8 _) refl
+
+pub put-front-spec : {M : Type 1} → statement M
+put-front-spec =
+    tie.close
+    (tie.spec
+    store-requires
+    store-requires-2
+    store-requires-3
+    slice-aggregate-copy-between
+    copy-between-requires
+    store-requires-4
+    same-length
+    returns)

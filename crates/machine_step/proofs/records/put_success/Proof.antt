@@ -1,0 +1,113 @@
+-- `machine_step::records::put_success` meets its contract: the front, the proof, the count and the bytes, one behind the other. Assumes nothing.
+use mathlib.Core.Path.{_≡_}
+use Prim.Native.Nat.{_+_, _*_}
+use native.Mathlib.Omega.{arith}
+use lib.ListN.{length}
+use Rattle.sia.proofs.Laws.Joined.{lay-same}
+use Rattle.machine_rules.specs.Record.{pairing}
+use Rattle.machine_step.proofs.Laws.Parts.{length-front, rest-long, record-parts, length-two, length-three, behind, lay-behind}
+use borrow.Author.Needs.{needs}
+use Rattle.machine_step.proofs.records.put_success.Statement.{statement}
+use Rattle.machine_step.proofs.records.put_success.Tie as tie
+
+-- ---- the places of what was laid before
+
+abbrev at-start : tie.After-put-front → tie.Start
+at-start c = c .before .before .before .before .before .before .before
+
+abbrev at-front : tie.After-put-proof → tie.After-put-front
+at-front c = c .before .before .before .before
+
+abbrev at-proof : tie.After-store → tie.After-put-proof
+at-proof c = c .before .before .before .before .before
+
+-- ---- the needs
+
+put-front-requires : tie.Need-put-front-requires
+put-front-requires c κs = search needs
+
+sub-put-proof : tie.Need-sub-put-proof
+sub-put-proof c = search needs
+
+part-put-proof-start : tie.Need-part-put-proof-start
+part-put-proof-start c = search needs
+
+part-put-proof-end : tie.Need-part-put-proof-end
+part-put-proof-end c = search needs
+
+put-proof-requires : tie.Need-put-proof-requires
+put-proof-requires c κs =
+    let shows = at-start (c .before .before .before) .pre in
+    let out = c .before .before .before .put-front .last .1 .1 .1 .1 .1 .0 in
+    (shows .known, (shows .lies, (shows .ranged, omega (arith, shows .count, shows .room, rest-long out 64))))
+
+mul-behind : tie.Need-mul-behind
+mul-behind c = search needs
+
+add-behind : tie.Need-add-behind
+add-behind c = search needs
+
+count-of-requires : tie.Need-count-of-requires
+count-of-requires c κs = search needs
+
+store-requires : tie.Need-store-requires
+store-requires c κs = search needs
+
+add-put-bytes : tie.Need-add-put-bytes
+add-put-bytes c = omega (arith, at-start (at-front (at-proof (c .before .before))))
+
+sub-put-bytes : tie.Need-sub-put-bytes
+sub-put-bytes c = search needs
+
+part-put-bytes-start : tie.Need-part-put-bytes-start
+part-put-bytes-start c = search needs
+
+part-put-bytes-end : tie.Need-part-put-bytes-end
+part-put-bytes-end c = search needs
+
+put-bytes-requires : tie.Need-put-bytes-requires
+put-bytes-requires c κs =
+    let start = at-start (at-front (at-proof (c .before .before .before))) in
+    let shows = start .pre in
+    let out = c .before .before .before .store .last .0 in
+    (shows .lies, (shows .inside, omega (arith, shows .room, rest-long out (64 + 32 * start .args .hashes + 8))))
+
+same-length : tie.Need-same-length
+same-length c = search needs
+
+returns : tie.Need-returns
+returns c =
+    let stored = c .before .before .before .before .before .before in
+    let proof = at-proof stored in
+    let start = at-start (at-front proof) in
+    let shows = start .pre in
+    let p = pairing (start .args .size) (start .args .root) in
+    let long : length (p .root) ≡ 32 = start .good .1 .1 .1 .0 .1 .0 .1 in
+    lay-same _ 0 _
+    (behind _ _ _ (64 + 32 * start .args .hashes + 8)
+    (lay-behind _ _ _ (64 + 32 * start .args .hashes)
+    (behind _ _ _ 64 (at-front proof .put-front .ensures) (length-front 0 (start .args .cost) p (start .args .hashes) long) (proof .put-proof .ensures))
+    (stored .store .ensures) (length-two 0 (start .args .cost) p (start .args .hashes) _ long (shows .count)))
+    (length-three 0 (start .args .cost) p (start .args .hashes) _ _ long (shows .count)) (c .before .before .put-bytes .ensures))
+    (record-parts 0 (start .args .cost) p (start .args .hashes) _ _ _ (stored .before .before .count-of .ensures))
+
+pub put-success-spec : {M : Type 1} → statement M
+put-success-spec =
+    tie.close
+    (tie.spec
+    put-front-requires
+    sub-put-proof
+    part-put-proof-start
+    part-put-proof-end
+    put-proof-requires
+    mul-behind
+    add-behind
+    count-of-requires
+    store-requires
+    add-put-bytes
+    sub-put-bytes
+    part-put-bytes-start
+    part-put-bytes-end
+    put-bytes-requires
+    same-length
+    returns)

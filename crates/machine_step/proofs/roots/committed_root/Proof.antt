@@ -1,0 +1,26 @@
+-- `machine_step::pairs::committed_root` meets its contract. Assumes nothing.
+use mathlib.Core.Path.{ap, _∙_}
+use Rattle.machine_rules.specs.Roots.{contractRoot}
+use Rattle.machine_sight.proofs.Laws.Lookup.{committed-known}
+use borrow.Author.Needs.{needs}
+use Rattle.machine_step.proofs.roots.committed_root.Statement.{statement}
+use Rattle.machine_step.proofs.roots.committed_root.Tie as tie
+
+committed-seen-requires : tie.Need-committed-seen-requires
+committed-seen-requires c κs = search needs
+
+slice-aggregate-contract-root : tie.Need-slice-aggregate-contract-root
+slice-aggregate-contract-root c = search needs
+
+contract-root-requires : tie.Need-contract-root-requires
+contract-root-requires c κs =
+    let told = c .before .committed-seen .ensures in
+    committed-known _ _ _ _ _ (told .0) (told .1) (c .before .before .before .pre)
+
+returns : tie.Need-returns
+returns c = c .contract-root .ensures ∙ ap (contractRoot _) (c .before .before .committed-seen .ensures .0)
+
+pub committed-root-spec : {M : Type 1} → statement M
+committed-root-spec =
+    tie.close
+    (tie.spec committed-seen-requires slice-aggregate-contract-root contract-root-requires returns)

@@ -1,0 +1,57 @@
+-- `machine_step::pairs::fail` meets its contract: the record stands behind those written. Assumes nothing.
+use mathlib.Core.Path.{refl, ap, _∙_}
+use mathlib.Core.List.{List, []}
+use Prim.Native.Nat.{ℕ}
+use Rattle.area.specs.Area.{put}
+use Rattle.area.proofs.Laws.Lent.{lent}
+use Rattle.machine_rules.specs.Record.{pairing, pairOf, recordBytes}
+use Rattle.machine_rules.specs.Run.{failedProgress}
+use borrow.Author.Needs.{needs}
+use Rattle.machine_step.proofs.roots.fail.Statement.{statement}
+use Rattle.machine_step.proofs.roots.fail.Tie as tie
+
+committed-root-requires : tie.Need-committed-root-requires
+committed-root-requires c κs = search needs
+
+sub-put-failure : tie.Need-sub-put-failure
+sub-put-failure c = search needs
+
+part-put-failure-start : tie.Need-part-put-failure-start
+part-put-failure-start c = search needs
+
+part-put-failure-end : tie.Need-part-put-failure-end
+part-put-failure-end c = search needs
+
+put-failure-requires : tie.Need-put-failure-requires
+put-failure-requires c κs = search needs
+
+add-after : tie.Need-add-after
+add-after c = search needs
+
+same-length : tie.Need-same-length
+same-length c = search needs
+
+returns : tie.Need-returns
+unfolding failedProgress pairOf
+returns c =
+    let laid = c .before .before .before in
+    let rooted = laid .before .before in
+    let a = rooted .before .before .before .args in (
+      refl,
+      lent _ _ _ (laid .put-failure .ensures)
+          ∙ ap (λ (r : List ℕ). put (a .output .now) (a .progress .written) (recordBytes (a .number) 0 (pairing (a .parent .size) r) 0 [] 0 []))
+          (rooted .committed-root .ensures),
+    )
+
+pub fail-spec : {M : Type 1} → statement M
+fail-spec =
+    tie.close
+    (tie.spec
+    committed-root-requires
+    sub-put-failure
+    part-put-failure-start
+    part-put-failure-end
+    put-failure-requires
+    add-after
+    same-length
+    returns)

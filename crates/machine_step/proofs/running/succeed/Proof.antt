@@ -1,0 +1,117 @@
+-- `machine_step::running::succeed` meets its contract: the effect, the roots, the progress, the root, then the record behind those written. Assumes nothing.
+use mathlib.Core.Path.{refl}
+use Prim.Native.Nat.{_≤_}
+use native.Mathlib.Omega.{arith}
+use lib.ListN.{length}
+use Rattle.area.proofs.Laws.Lent.{lent}
+use Rattle.machine_step.specs.Ran.{stageAfter, rootsAfter}
+use Rattle.machine_step.proofs.Laws.Running.{run-rehashes, run-reads, run-shows, ran-is}
+use borrow.Author.Needs.{needs}
+use Rattle.machine_step.proofs.running.succeed.Statement.{statement}
+use Rattle.machine_step.proofs.running.succeed.Tie as tie
+
+-- ---- the places of the calls
+
+abbrev at-start : tie.After-effect → tie.Start
+at-start c = c .before .before .before .before .before .before .before .before .before .before .before
+
+abbrev at-effect : tie.After-rehash → tie.After-effect
+at-effect c = c .before .before .before .before .before
+
+abbrev at-rehash : tie.After-advanced → tie.After-rehash
+at-rehash c = c .before .before .before
+
+abbrev at-advanced : tie.After-running-root → tie.After-advanced
+at-advanced c = c .before .before
+
+-- ---- the needs
+
+effect-requires : tie.Need-effect-requires
+effect-requires c κs = let s = c .before .before .before .before .before .before .before .before .before .before in (s .pre .stands, s .pre .source)
+
+rehash-requires : tie.Need-rehash-requires
+unfolding stageAfter
+rehash-requires c κs =
+    let left = c .before .before .before .before in
+    let s = at-start left in
+    run-rehashes _ (s .args .copies) (s .args .parent) (s .args .diskroots .now) _ _ (s .args .plan) (s .args .asked) _ _ (left .effect .ensures) (s .pre)
+
+advanced-requires : tie.Need-advanced-requires
+advanced-requires c κs =
+    let s = at-start (at-effect (c .before .before)) in
+    (s .pre .ran, (s .pre .tally, omega (arith, s .pre .written, s .good)))
+
+running-root-requires : tie.Need-running-root-requires
+unfolding stageAfter rootsAfter
+running-root-requires c κs =
+    let rooted = at-rehash (c .before) in
+    let left = at-effect rooted in
+    let s = at-start left in
+    run-reads _ (s .args .copies) (s .args .parent) (s .args .diskroots .now) _ _ (s .args .plan) (s .args .asked) _ _ (left .effect .ensures) _
+    (rooted .rehash .ensures) (s .pre) (c .before .advanced .ensures)
+
+reads-requires : tie.Need-reads-requires
+reads-requires c κs = search needs
+
+within : (c : tie.After-put-success-arg2) → let s = at-start (at-effect (at-rehash (at-advanced (c .before .before .before .before)))) in
+    s .args .progress .written ≤ length (s .args .output .now)
+within c = let s = at-start (at-effect (at-rehash (at-advanced (c .before .before .before .before)))) in omega (arith, s .pre .written)
+
+sub-put-success : tie.Need-sub-put-success
+sub-put-success c = within c
+
+part-put-success-start : tie.Need-part-put-success-start
+part-put-success-start c = within c
+
+part-put-success-end : tie.Need-part-put-success-end
+part-put-success-end c = search needs
+
+put-success-requires : tie.Need-put-success-requires
+unfolding stageAfter rootsAfter
+put-success-requires c κs =
+    let read = c .before .before .before .before in
+    let rooted = at-rehash (at-advanced (read .before)) in
+    let left = at-effect rooted in
+    let s = at-start left in
+    run-shows _ (s .args .copies) (s .args .parent) (s .args .diskroots .now) _ _ (s .args .plan) (s .args .asked) _ _ (left .effect .ensures) _
+    (rooted .rehash .ensures) _ (s .pre) refl (read .reads .ensures)
+
+same-length : tie.Need-same-length
+same-length c = search needs
+
+same-length-2 : tie.Need-same-length-2
+same-length-2 c = search needs
+
+same-length-3 : tie.Need-same-length-3
+same-length-3 c = search needs
+
+returns : tie.Need-returns
+unfolding stageAfter rootsAfter
+returns c =
+    let laid = c .before .before in
+    let read = laid .before .before .before .before .before in
+    let next = at-advanced (read .before) in
+    let rooted = at-rehash next in
+    let left = at-effect rooted in
+    let s = at-start left in
+    ran-is _ (s .args .copies) (s .args .parent) (s .args .diskroots .now) _ _ (s .args .plan) (s .args .asked) _ _ (left .effect .ensures) _
+    (rooted .rehash .ensures) (next .advanced .ensures) (read .before .running-root .ensures) (read .reads .ensures)
+    (lent _ _ _ (laid .put-success .ensures))
+
+pub succeed-spec : {M : Type 1} → statement M
+succeed-spec =
+    tie.close
+    (tie.spec
+    effect-requires
+    rehash-requires
+    advanced-requires
+    running-root-requires
+    reads-requires
+    sub-put-success
+    part-put-success-start
+    part-put-success-end
+    put-success-requires
+    same-length
+    same-length-2
+    same-length-3
+    returns)

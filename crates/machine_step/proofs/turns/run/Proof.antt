@@ -1,0 +1,151 @@
+-- `machine_step::running::run` meets its contract: each turn is the run's next, and as many are left as there are instructions. Assumes nothing.
+use mathlib.Core.Path.{_≡_, refl, sym, _∙_}
+use mathlib.Core.Bool.{true}
+use Prim.Native.Nat.{_<_}
+use native.Mathlib.Omega.{arith}
+use lib.ListN.{getD}
+use borrow.Author.Tests.{not-true, not-false}
+use Rattle.machine_rules.specs.View.{Setting, setting, Turn, turn}
+use Rattle.machine_rules.specs.Run.{current, going, ready}
+use Rattle.machine_rules.proofs.Laws.Steps.{left}
+use Rattle.machine_step.proofs.Laws.Known.{known-terms}
+use Rattle.machine_step.proofs.Laws.Turns.{turn-is, steps-turn, goes, waits, ends, few-ran, Reached, steps, further, fewer, ended}
+use borrow.Author.Needs.{needs}
+use Rattle.sia.specs.declared.Instruction.{Instruction}
+use Rattle.machine_step.proofs.turns.run.Statement.{statement}
+use Rattle.machine_step.proofs.turns.run.Tie as tie
+
+abbrev Inv-loop : tie.InvT-loop
+Inv-loop z sectors copies places terms diskroots disk input k stageroots₀ stage₀ output₀ head progress₀ stageroots stage output progress =
+    Reached z (setting sectors copies places terms disk diskroots) input k (turn progress₀ stage₀ output₀ stageroots₀)
+    (turn progress stage output stageroots)
+
+abbrev μ-loop : tie.MeasureT-loop
+μ-loop z sectors copies places terms diskroots disk input k stageroots₀ stage₀ output₀ head progress₀ stageroots stage output progress =
+    left (setting sectors copies places terms disk diskroots) (turn progress stage output stageroots)
+
+-- ---- where an instruction has its turn, and what is known there
+
+abbrev at-start : tie.Then1 Inv-loop μ-loop → tie.Start Inv-loop μ-loop
+at-start c = let head = c .before .before .before in head .before .before .before .before .before .before .before
+
+abbrev the-set : tie.Then1 Inv-loop μ-loop → Setting
+the-set c = let a = at-start c .args in setting (a .sectors) (a .copies) (a .places) (a .terms) (a .disk .now) (a .diskroots .now)
+
+abbrev the-turn : tie.Then1 Inv-loop μ-loop → Turn
+the-turn c = let l = c .before .before .loop in turn (l .progress) (l .stage) (l .output) (l .stageroots)
+
+-- the program goes on
+on : (c : tie.Then1 Inv-loop μ-loop) → going (the-set c .terms) (the-turn c .progress) ≡ true
+unfolding going
+on c = sym (c .before .goes-on .ensures) ∙ c .if1 .taken
+
+below : (c : tie.Then1 Inv-loop μ-loop) → the-turn c .progress .ran < 32
+below c = few-ran _ (the-set c) (the-turn c) _ (c .before .before .loop .inv .kept) (on c)
+
+-- the entry that is read is the instruction whose turn it is
+its : (c : tie.Then1 Inv-loop μ-loop) (d : Instruction)
+    → getD (the-set c .terms .head .instructions) (the-turn c .progress .ran) d ≡ current (the-set c) (the-turn c)
+its c d =
+    let s = at-start c in
+    let long = known-terms (s .args .terms) _ (s .good .1 .1 .1 .1 .0) .1 in
+    turn-is (the-set c) (the-turn c) d (omega (arith, long, below c))
+
+-- its need has come
+told : (c : tie.Else2 Inv-loop μ-loop) → let o = c .before .before .before in ready (the-set o) (at-start o .args .k) (the-turn o) ≡ true
+told c =
+    let o = c .before .before .before in
+    goes (the-set o) _ (the-turn o) (its o _) (on o) (sym (c .before .ready .ensures) ∙ not-false _ (c .if2 .left))
+
+-- ---- the needs
+
+loop-holds : tie.Need-loop-holds Inv-loop μ-loop
+loop-holds c = record { ends = refl; kept = c .before .before .before .before .before .before .before .pre }
+
+mul-i : tie.Need-mul-i Inv-loop μ-loop
+mul-i c = omega (arith, below c)
+
+element-copy-out-i : tie.Need-element-copy-out-i Inv-loop μ-loop
+element-copy-out-i c = below c
+
+same-length : tie.Need-same-length Inv-loop μ-loop
+same-length c = let o = c .before .before .before in o .before .before .loop .inv .kept .stageroots ∙ sym (at-start o .pre .stageroots)
+
+same-length-2 : tie.Need-same-length-2 Inv-loop μ-loop
+same-length-2 c = let o = c .before .before .before in o .before .before .loop .inv .kept .stage ∙ sym (at-start o .pre .stage)
+
+same-length-3 : tie.Need-same-length-3 Inv-loop μ-loop
+same-length-3 c = let o = c .before .before .before in o .before .before .loop .inv .kept .output ∙ sym (at-start o .pre .output)
+
+returns : tie.Need-returns Inv-loop μ-loop
+returns c =
+    let o = c .before .before .before in
+    ended _ _ _ _ _ _ (o .before .before .loop .inv)
+    (waits (the-set o) _ (the-turn o) (its o _) (sym (c .before .ready .ensures) ∙ not-true _ (c .if2 .taken)))
+
+step-requires : tie.Need-step-requires Inv-loop μ-loop
+step-requires c κs =
+    let test = c .before .before .before in
+    let o = test .before .before .before in
+    steps _ (the-set o) _ _ (the-turn o) (o .before .before .loop .inv .kept) (told test)
+
+-- after the step
+abbrev at-test : tie.After-step Inv-loop μ-loop → tie.Else2 Inv-loop μ-loop
+at-test c = c .before .before .before .before
+
+loop-less : tie.Need-loop-less Inv-loop μ-loop
+loop-less c =
+    let done = c .before .before .before .before .before .before in
+    let test = at-test done in
+    let o = test .before .before .before in
+    fewer _ (the-set o) _ _ (the-turn o) (told test) (steps-turn _ (the-set o) _ (the-turn o) (its o _) (done .step .ensures))
+
+loop-again : tie.Need-loop-again Inv-loop μ-loop
+loop-again c =
+    let done = c .before .before .before .before .before .before in
+    let test = at-test done in
+    let o = test .before .before .before in
+    further _ (the-set o) _ _ _ (the-turn o) (o .before .before .loop .inv) (told test)
+    (steps-turn _ (the-set o) _ (the-turn o) (its o _) (done .step .ensures))
+
+-- at the end of the loop
+abbrev start-of : tie.Else1 Inv-loop μ-loop → tie.Start Inv-loop μ-loop
+start-of c = let head = c .before .before .before in head .before .before .before .before .before .before .before
+
+same-length-4 : tie.Need-same-length-4 Inv-loop μ-loop
+same-length-4 c = c .before .before .loop .inv .kept .stageroots ∙ sym (start-of c .pre .stageroots)
+
+same-length-5 : tie.Need-same-length-5 Inv-loop μ-loop
+same-length-5 c = c .before .before .loop .inv .kept .stage ∙ sym (start-of c .pre .stage)
+
+same-length-6 : tie.Need-same-length-6 Inv-loop μ-loop
+same-length-6 c = c .before .before .loop .inv .kept .output ∙ sym (start-of c .pre .output)
+
+returns-2 : tie.Need-returns-2 Inv-loop μ-loop
+unfolding going
+returns-2 c =
+    let l = c .before .before in
+    ended _ _ _ _ _ _ (l .loop .inv) (ends _ _ _ (sym (c .before .goes-on .ensures) ∙ c .if1 .left))
+
+pub run-spec : {M : Type 1} → statement M
+run-spec =
+    tie.close
+    (tie.spec
+    Inv-loop
+    μ-loop
+    loop-holds
+    (λ c κs. tt)
+    mul-i
+    element-copy-out-i
+    (λ c κs. search needs)
+    same-length
+    same-length-2
+    same-length-3
+    returns
+    step-requires
+    loop-less
+    loop-again
+    same-length-4
+    same-length-5
+    same-length-6
+    returns-2)

@@ -1,0 +1,64 @@
+// The roots of the parent: as committed, and as it is read now. And the record of a failure, which shows the first.
+ghost use mathlib.Core.Path.{_≡_};
+ghost use mathlib.Core.List.{[]};
+ghost use Prim.Native.Nat.{_+_, _/_, _≤_};
+ghost use lib.ListN.{length};
+ghost use Rattle.area.specs.Area.{put, tab};
+ghost use Rattle.machine_rules.specs.View.{spotOf, committedSpots};
+ghost use Rattle.machine_rules.specs.Roots.{keptRoot, contractRoot};
+ghost use Rattle.machine_rules.specs.Record.{pairOf, recordBytes};
+ghost use Rattle.machine_rules.specs.Run.{failedProgress};
+ghost use Rattle.machine_sight.specs.Lookup.{Stands};
+ghost use Rattle.machine_step.specs.Asks.{Reads};
+use crate::records;
+use host::Place;
+use host::Progress;
+
+// The root of a contract's committed sectors, from the roots kept beside them; zeros where there is none.
+pub fn committed_root(z: u64, diskroots: &[u8], parent: Place) -> [u8; 32]
+    requires { ⌜ Stands z (now diskroots) parent ⌝ }
+    ensures { λ r. ⌜ r ≡ contractRoot (keptRoot (now (diskroots .entry)) []) (committedSpots z parent) ⌝ }
+{
+    let seen = machine_sight::committed_seen(z, parent);
+    machine_sight::contract_root(diskroots, b"", seen)
+}
+
+// The root of the parent as it is read now.
+pub fn running_root<'a>(
+    z: u64,
+    diskroots: &'a [u8],
+    stageroots: &'a [u8],
+    parent: Place,
+    progress: Progress,
+) -> [u8; 32]
+    requires { ⌜ Reads z (now diskroots) (now stageroots) parent progress ⌝ }
+    ensures { λ r. ⌜ r ≡ contractRoot (keptRoot (now (diskroots .entry)) (now (stageroots .entry)))
+        (tab 0 (progress .size / z) (spotOf (parent .slots) (progress .staged))) ⌝ }
+{
+    let staged = progress.staged;
+    let seen = machine_sight::parent_seen(z, parent, staged, progress.size);
+    machine_sight::contract_root(diskroots, stageroots, seen)
+}
+
+// A failure: it ends the program, and otherwise only writes its record.
+pub fn fail(
+    z: u64,
+    number: u64,
+    diskroots: &[u8],
+    parent: Place,
+    progress: Progress,
+    output: &mut [u8],
+) -> Progress
+    requires { ⌜ Stands z (now diskroots) parent ⌝ }
+    requires { ⌜ progress .written + 72 ≤ length (now output) ⌝ }
+    ensures { λ r. ⌜ (r ≡ failedProgress progress) × (now (output .exit) ≡
+        put (now (output .entry)) (progress .written) (recordBytes number 0 (pairOf z (keptRoot (now (diskroots .entry)) []) parent) 0 [] 0 [])) ⌝ }
+{
+    let root = committed_root(z, diskroots, parent);
+    let at = progress.written as usize;
+    records::put_failure(number, parent.size, root, &mut output[at..]);
+    let mut after = progress;
+    after.written = progress.written + 72;
+    after.failed = true;
+    after
+}

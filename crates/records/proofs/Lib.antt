@@ -1,2 +1,0 @@
--- The laws that the proofs of the writers share.
-pub mod Laws

@@ -1,2 +1,0 @@
--- What the code asks of its callers.
-pub mod Asks

@@ -1,0 +1,40 @@
+-- `sia_read::eight` meets its contract: fewer than 8 bytes are left, or 8 are loaded. Assumes nothing.
+use mathlib.Core.Path.{ap}
+use Prim.Native.Nat.{ℕ, _+_}
+use native.Mathlib.Omega.{arith}
+use lib.ListN.{drop}
+use Rattle.area.specs.Pick.{pick}
+use Rattle.sia.specs.Decode.{value, number, reading}
+use Rattle.sia.proofs.Laws.Reading.{short, long}
+use borrow.Author.Needs.{needs}
+use Rattle.sia_read.proofs.eight.Statement.{statement}
+use Rattle.sia_read.proofs.eight.Tie as tie
+
+sub-if1 : tie.Need-sub-if1
+sub-if1 c = search needs
+
+returns : tie.Need-returns
+unfolding number
+returns c =
+    let a = c .before .before .args in
+    record { stays = omega arith; says = short _ (a .bytes .now) (a .at) 8 _ _ (c .if1 .taken) }
+
+add-t3 : tie.Need-add-t3
+add-t3 c = search needs
+
+load-requires : tie.Need-load-requires
+load-requires c κs = search needs
+
+returns-2 : tie.Need-returns-2
+unfolding number reading pick
+returns-2 c =
+    let a = c .before .before .before .args in
+    record {
+      stays = omega arith;
+      says =
+          long _ (a .bytes .now) (a .at) 8 (c .before .if1 .left)
+          (ap (λ (n : ℕ). value n (drop (a .at + 8) (a .bytes .now))) (c .load .ensures));
+    }
+
+pub eight-spec : {M : Type 1} → statement M
+eight-spec = tie.close (tie.spec sub-if1 returns add-t3 load-requires returns-2)

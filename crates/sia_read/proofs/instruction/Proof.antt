@@ -1,0 +1,143 @@
+-- `sia_read::instruction` meets its contract: name, operand count, operands and flag, one behind the other. The entry's name and
+-- operands are empty, so the name that is laid over is the one that was read, and the fixed name is that name. Assumes nothing.
+use mathlib.Core.Path.{_≡_, sym, ap, _∙_}
+use mathlib.Core.List.{List}
+use Prim.Native.Nat.{ℕ, _+_, _-_, _≤_}
+use native.Mathlib.Omega.{arith}
+use lib.ListN.{length, drop}
+use Rattle.area.specs.Pick.{pick}
+use Rattle.area.specs.Area.{part}
+use Rattle.sia.specs.declared.Instruction.{Instruction}
+use Rattle.sia.specs.Decode.{Reading, value, after, bytes, instruction, reading}
+use Rattle.area.proofs.Laws.Puts.{put-part}
+use Rattle.sia.proofs.Laws.Reading.{fine, short, long, stops, goes}
+use Rattle.sia.proofs.Laws.Inverse.{limited-within}
+use borrow.Author.Needs.{needs}
+use Rattle.sia_read.proofs.instruction.Statement.{statement}
+use Rattle.sia_read.proofs.instruction.Tie as tie
+
+-- ---- seen from the count on: where the function begins, that 16 bytes were there, and the name read from them
+
+abbrev copied : tie.After-limited → tie.After-copy-between
+copied c = c .before .before .before
+
+abbrev tested : tie.After-copy-between → tie.Else1
+tested c = c .before .before .before
+
+abbrev start : tie.After-limited → tie.Start
+start c = tested (copied c) .before .before
+
+there : (c : tie.After-limited) → 16 ≤ length (start c .args .bytes .now) - start c .args .at
+there c = tested (copied c) .if1 .left
+
+named : (c : tie.After-limited) (next : List ℕ → List ℕ → Reading Instruction) {r : Reading Instruction}
+    → r ≡ next (part (start c .args .bytes .now) (start c .args .at) 16) (drop (start c .args .at + 16) (start c .args .bytes .now))
+    → r ≡ after (bytes 16 (drop (start c .args .at) (start c .args .bytes .now))) next
+named c next q = long next (start c .args .bytes .now) (start c .args .at) 16 (there c) q
+
+-- ---- the answers
+
+sub-if1 : tie.Need-sub-if1
+sub-if1 c = search needs
+
+returns : tie.Need-returns
+unfolding instruction
+returns c =
+    let a = c .before .before .args in
+    record { stays = search needs; says = short _ (a .bytes .now) (a .at) 16 _ _ (c .if1 .taken) }
+
+slice-aggregate-copy-between : tie.Need-slice-aggregate-copy-between
+slice-aggregate-copy-between c = search needs
+
+copy-between-requires : tie.Need-copy-between-requires
+copy-between-requires c κs =
+    let named = ap (λ (x : Instruction). length (x .name)) (c .before .before .before .before .pre .1) in
+    (omega arith, omega arith)
+
+add-limited : tie.Need-add-limited
+add-limited c = search needs
+
+limited-requires : tie.Need-limited-requires
+limited-requires c κs = search needs
+
+returns-2 : tie.Need-returns-2
+unfolding instruction
+returns-2 c =
+    let count = c .before .before in
+    record { stays = search needs; says = named count _ (stops _ _ _ (count .limited .ensures) (c .if2 .taken)) }
+
+operands-requires : tie.Need-operands-requires
+operands-requires c κs =
+    let count = c .before .before .before in
+    let read = count .limited .ensures in
+    (read .stays, (limited-within _ _ (sym (read .says) ∙ fine _ _ _ (c .before .if2 .left)), ap (λ (x : Instruction). x .operands) (start count .pre .1)))
+
+returns-3 : tie.Need-returns-3
+unfolding instruction
+returns-3 c =
+    let list = c .before .before in
+    let count = list .before .before .before .before in
+    record {
+      stays = search needs;
+      says =
+          named count _
+          (goes _ (count .limited .ensures) (list .before .before .if2 .left)
+          (stops _ _ _ (list .operands .ensures) (c .if3 .taken)));
+    }
+
+flag-requires : tie.Need-flag-requires
+flag-requires c κs = search needs
+
+returns-4 : tie.Need-returns-4
+unfolding instruction
+returns-4 c =
+    let list = c .before .before .before .before .before in
+    let count = list .before .before .before .before in
+    record {
+      stays = search needs;
+      says =
+          named count _
+          (goes _ (count .limited .ensures) (list .before .before .if2 .left)
+          (goes _ (list .operands .ensures) (c .before .before .before .if3 .left)
+          (stops _ _ _ (c .before .before .flag .ensures) (c .if4 .taken))));
+    }
+
+returns-5 : tie.Need-returns-5
+unfolding instruction reading pick
+returns-5 c =
+    let proof = c .before .before .before in
+    let list = proof .before .before .before in
+    let count = list .before .before .before .before in
+    let bytes = start count .args .bytes .now in
+    let entry = start count .args .entry .name in
+    let empty = ap (λ (x : Instruction). length (x .name)) (start count .pre .1) in
+    let name =
+    count .before .fixed-name .ensures
+    ∙ put-part entry bytes (start count .args .at) 16 empty (omega (arith, there count)) (copied count .copy-between .ensures) in
+    record {
+      stays = proof .flag .ensures .stays;
+      says =
+          named count _
+          (goes _ (count .limited .ensures) (list .before .before .if2 .left)
+          (goes _ (list .operands .ensures) (proof .before .if3 .left)
+          (goes _ (proof .flag .ensures) (c .before .if4 .left)
+          (ap (λ (bs : List ℕ). value (record { name = bs; count = count .limited .result .value; operands = list .operands .result .list; proof = proof .flag .result .value }) (drop (proof .flag .result .next) bytes)) name))));
+    }
+
+pub instruction-spec : {M : Type 1} → statement M
+instruction-spec =
+    tie.close
+    (tie.spec
+    sub-if1
+    returns
+    slice-aggregate-copy-between
+    copy-between-requires
+    (λ c κs. search needs)
+    add-limited
+    limited-requires
+    returns-2
+    operands-requires
+    returns-3
+    flag-requires
+    returns-4
+    returns-5)

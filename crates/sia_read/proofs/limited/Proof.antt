@@ -1,0 +1,35 @@
+-- `sia_read::limited` meets its contract: a number, and then the limit. Assumes nothing.
+use mathlib.Core.Path.{refl}
+use borrow.Author.Tests.{lt-ltb, le-ltb}
+use Rattle.area.specs.Pick.{pick}
+use Rattle.area.proofs.Laws.Pick.{yes, no}
+use Rattle.sia.specs.Decode.{limited, reading}
+use Rattle.sia.proofs.Laws.Reading.{fine, stops, goes}
+use borrow.Author.Needs.{needs}
+use Rattle.sia_read.proofs.limited.Statement.{statement}
+use Rattle.sia_read.proofs.limited.Tie as tie
+
+eight-requires : tie.Need-eight-requires
+eight-requires c κs = search needs
+
+returns : tie.Need-returns
+unfolding limited
+returns c =
+    let read = c .before .before .eight .ensures in
+    record { stays = read .stays; says = stops _ _ _ read (c .if1 .taken) }
+
+returns-2 : tie.Need-returns-2
+unfolding limited reading pick
+returns-2 c =
+    let read = c .before .before .before .before .eight .ensures in
+    record { stays = search needs; says = goes _ read (c .before .before .if1 .left) (yes _ _ _ (lt-ltb _ _ (c .if2 .taken)) refl) }
+
+returns-3 : tie.Need-returns-3
+unfolding limited
+returns-3 c =
+    let read = c .before .before .before .before .eight .ensures in
+    let zero = c .before .before .if1 .left in
+    record { stays = read .stays; says = goes _ read zero (no _ _ _ (le-ltb _ _ (c .if2 .left)) (fine _ _ _ zero)) }
+
+pub limited-spec : {M : Type 1} → statement M
+limited-spec = tie.close (tie.spec eight-requires returns returns-2 returns-3)

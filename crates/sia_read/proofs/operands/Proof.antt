@@ -1,0 +1,64 @@
+-- `sia_read::operands` meets its contract. The loop's invariant: the first i operands were read into a list that is empty behind
+-- them. Assumes nothing.
+use Prim.Native.Nat.{_-_}
+use native.Mathlib.Omega.{arith}
+use Rattle.sia.specs.Empty.{noOperand}
+use Rattle.sia.specs.Decode.{operand}
+use Rattle.sia.proofs.Laws.Entries.{Entered, begin, further, stop, done}
+use borrow.Author.Needs.{needs}
+use Rattle.sia_read.proofs.operands.Statement.{statement}
+use Rattle.sia_read.proofs.operands.Tie as tie
+
+abbrev Inv-loop : tie.InvT-loop
+Inv-loop bytes at n list₀ place₀ i₀ list place i = Entered operand 4 noOperand n bytes at list place i
+
+abbrev μ-loop : tie.MeasureT-loop
+μ-loop bytes at n list₀ place₀ i₀ list place i = n - i
+
+loop-holds : tie.Need-loop-holds Inv-loop μ-loop
+loop-holds c = begin _ _ _ _ _ _ (c .before .pre .0) (c .before .pre .1 .1)
+
+operand-requires : tie.Need-operand-requires Inv-loop μ-loop
+operand-requires c κs = c .before .loop .inv .stays
+
+returns : tie.Need-returns Inv-loop μ-loop
+returns c =
+    let l = c .before .before .before .before .loop in
+    stop _ _ _ _ _ _ (l .inv) (c .before .before .before .loop-test .taken) (c .before .before .operand .ensures) (c .if1 .taken)
+
+mul-list : tie.Need-mul-list Inv-loop μ-loop
+mul-list c = search needs
+
+array-set-from-list : tie.Need-array-set-from-list Inv-loop μ-loop
+array-set-from-list c = omega arith
+
+add-i : tie.Need-add-i Inv-loop μ-loop
+add-i c = search needs
+
+loop-less : tie.Need-loop-less Inv-loop μ-loop
+loop-less c = omega arith
+
+loop-again : tie.Need-loop-again Inv-loop μ-loop
+loop-again c =
+    let l = c .before .before .before .before .before .loop in
+    let a = c .before .before .before .before .before .before .before in
+    further _ _ _ _ _ _ (l .inv) (c .before .before .before .before .loop-test .taken) (a .pre .1 .0) (c .before .before .before .operand .ensures) (c .before .if1 .left)
+
+returns-2 : tie.Need-returns-2 Inv-loop μ-loop
+returns-2 c = done _ _ _ _ _ _ (c .before .loop .inv) (c .loop-test .left) (c .before .before .before .pre .1 .0)
+
+pub operands-spec : {M : Type 1} → statement M
+operands-spec =
+    tie.close
+    (tie.spec
+    Inv-loop
+    μ-loop
+    loop-holds
+    operand-requires
+    returns
+    mul-list
+    array-set-from-list
+    add-i
+    loop-less
+    loop-again
+    returns-2)

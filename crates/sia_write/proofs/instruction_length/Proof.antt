@@ -1,0 +1,22 @@
+-- `sia_write::instruction_length` meets its contract. Assumes nothing.
+use mathlib.Core.Path.{sym}
+use native.Mathlib.Omega.{arith}
+use Rattle.sia.proofs.Laws.Known.{known-instruction}
+use Rattle.sia.proofs.Laws.Joined.{length-instruction}
+use borrow.Author.Needs.{needs}
+use Rattle.sia_write.proofs.instruction_length.Statement.{statement}
+use Rattle.sia_write.proofs.instruction_length.Tie as tie
+
+mul-result : tie.Need-mul-result
+mul-result c = search needs
+
+add-result : tie.Need-add-result
+add-result c = search needs
+
+returns : tie.Need-returns
+returns c =
+    let long = known-instruction (c .args .x) _ (c .good .0) in
+    (sym (length-instruction (c .args .x) (long .0) (long .1) (c .pre)), omega arith)
+
+pub instruction-length-spec : {M : Type 1} → statement M
+instruction-length-spec = tie.close (tie.spec mul-result add-result returns)

@@ -1,0 +1,75 @@
+-- `sia_write::instructions_length` meets its contract. The loop's invariant: the total is the length of the bytes of the first i
+-- instructions, each of which is at most 89 bytes long. Assumes nothing.
+use mathlib.Core.Path.{_≡_, refl, sym, ap, _∙_}
+use Prim.Native.Nat.{ℕ, _+_, _-_, _*_, _≤_}
+use native.Mathlib.Omega.{arith}
+use lib.ListN.{length, take}
+use borrow.Author.Tests.{leb-true}
+use Rattle.sia.specs.Encode.{joined, instructionBytes, fewOperands}
+use Rattle.sia.proofs.Laws.Every.{every-at}
+use Rattle.sia.proofs.Laws.Joined.{length-more}
+use borrow.Author.Needs.{needs}
+use Rattle.sia_write.proofs.instructions_length.Statement.{statement}
+use Rattle.sia_write.proofs.instructions_length.Tie as tie
+
+abbrev Inv-loop : tie.InvT-loop
+Inv-loop n list total₀ i₀ total i = (i ≤ n) × (total ≡ length (joined instructionBytes (take i list))) × (total ≤ 89 * i)
+
+abbrev μ-loop : tie.MeasureT-loop
+μ-loop n list total₀ i₀ total i = n - i
+
+loop-holds : tie.Need-loop-holds Inv-loop μ-loop
+unfolding joined
+loop-holds c = (omega arith, refl, omega arith)
+
+mul-x : tie.Need-mul-x Inv-loop μ-loop
+mul-x c = search needs
+
+array-copy-out-x : tie.Need-array-copy-out-x Inv-loop μ-loop
+array-copy-out-x c = omega arith
+
+instruction-length-requires : tie.Need-instruction-length-requires Inv-loop μ-loop
+instruction-length-requires c κs =
+    let s = c .before .before .before in
+    leb-true _ _ (every-at fewOperands _ _ (c .before .before .loop .i) _ (s .pre .1) (c .before .loop-test .taken) (omega (arith, s .good .0 .1 .0 .1)))
+
+add-total : tie.Need-add-total Inv-loop μ-loop
+add-total c = omega arith
+
+add-i : tie.Need-add-i Inv-loop μ-loop
+add-i c = search needs
+
+loop-less : tie.Need-loop-less Inv-loop μ-loop
+loop-less c = omega arith
+
+loop-again : tie.Need-loop-again Inv-loop μ-loop
+loop-again c =
+    let l = c .before .before .before .loop in
+    let s = c .before .before .before .before in (
+      omega arith,
+      (λ x. l .inv .1 x + c .instruction-length .ensures .0 x) ∙ sym (length-more instructionBytes (s .args .t1) (l .i) _ (omega (arith, s .good .0 .1 .0 .1))),
+      omega arith,
+    )
+
+returns : tie.Need-returns Inv-loop μ-loop
+returns c =
+    let l = c .before .loop in
+    let n = c .before .before .args .n in
+    let all : l .i ≡ n = omega arith in
+    (l .inv .1 ∙ ap (λ (k : ℕ). length (joined instructionBytes (take k (c .before .before .args .t1)))) all, omega arith)
+
+pub instructions-length-spec : {M : Type 1} → statement M
+instructions-length-spec =
+    tie.close
+    (tie.spec
+    Inv-loop
+    μ-loop
+    loop-holds
+    mul-x
+    array-copy-out-x
+    instruction-length-requires
+    add-total
+    add-i
+    loop-less
+    loop-again
+    returns)

@@ -1,0 +1,120 @@
+-- `sia_write::put_instruction` meets its contract: four pieces, one behind the other. The fixed name is the name. Assumes nothing.
+use mathlib.Core.Path.{_≡_, refl, sym, ap, _∙_}
+use mathlib.Core.List.{[], _∷_}
+use Prim.Native.Nat.{ℕ, _+_, _*_, _≤_}
+use native.Mathlib.Omega.{arith}
+use lib.ListN.{length}
+use lib.Seq.{length-take-le}
+use Rattle.area.proofs.Laws.Little.{length-bytes}
+use Rattle.area.proofs.Laws.Parts.{part-whole}
+use Rattle.sia.specs.Encode.{instructionBytes, operandsIn}
+use Rattle.sia.proofs.Laws.Known.{known-instruction}
+use Rattle.sia.proofs.Laws.Joined.{length-operands, length-instruction, lay-same, lay-four}
+use borrow.Author.Needs.{needs}
+use Rattle.sia_write.proofs.put_instruction.Statement.{statement}
+use Rattle.sia_write.proofs.put_instruction.Tie as tie
+
+-- ---- the places that the answers look back to
+
+abbrev fixed : tie.After-copy-between → tie.After-fixed-name
+fixed c = c .before .before .before
+
+abbrev start : tie.After-fixed-name → tie.Start
+start c = c .before .before .before
+
+abbrev before-name : tie.After-copy-between → tie.Start
+before-name c = start (fixed c)
+
+abbrev before-count : tie.After-store → tie.After-copy-between
+before-count c = c .before .before .before .before
+
+abbrev before-operands : tie.After-put-operands → tie.After-store
+before-operands c = c .before .before .before .before .before
+
+-- the lengths of the parts, and the room that the area has for them
+record Room (s : tie.Start) : Type 0 where
+  few : s .args .x .count ≤ 4
+  name : length (s .args .x .name) ≡ 16
+  operands : length (s .args .x .operands) ≡ 4
+  fits : s .args .at + (25 + 16 * s .args .x .count) ≤ length (s .args .out .now)
+
+room : (s : tie.Start) → Room s
+room s =
+    let x = s .args .x in
+    let long = known-instruction x _ (s .good .0) in
+    record { few = s .pre .0; name = long .0; operands = long .1; fits = omega (arith, length-instruction x (long .0) (long .1) (s .pre .0)) }
+
+-- ---- the answers
+
+copy-between-requires : tie.Need-copy-between-requires
+copy-between-requires c κs =
+    let at-fixed = c .before .before in
+    let r = room (start at-fixed) in
+    let long = ap length (at-fixed .fixed-name .ensures) in
+    (omega arith, omega arith)
+
+add-store : tie.Need-add-store
+add-store c = search needs
+
+store-requires : tie.Need-store-requires
+store-requires c κs = let r = room (before-name (c .before .before .before)) in omega arith
+
+add-put-operands : tie.Need-add-put-operands
+add-put-operands c = search needs
+
+put-operands-requires : tie.Need-put-operands-requires
+put-operands-requires c κs = let r = room (before-name (before-count (c .before .before .before .before))) in (r .few, omega arith)
+
+add-fill : tie.Need-add-fill
+add-fill c = search needs
+
+mul-fill : tie.Need-mul-fill
+mul-fill c = search needs
+
+add-fill-2 : tie.Need-add-fill-2
+add-fill-2 c = search needs
+
+flag-byte-requires : tie.Need-flag-byte-requires
+flag-byte-requires c κs = search needs
+
+fill-requires : tie.Need-fill-requires
+fill-requires c κs = let r = room (before-name (before-count (before-operands (c .before .before .before .before)))) in omega arith
+
+same-length : tie.Need-same-length
+same-length c = search needs
+
+returns : tie.Need-returns
+unfolding instructionBytes
+returns c =
+    let operands = c .before .before .before .before .before .before .before in
+    let count = before-operands operands in
+    let name = before-count count in
+    let r = room (before-name name) in
+    let x = before-name name .args .x in
+    let same = fixed name .fixed-name .ensures in
+    lay-four _ _ _ _ _ _ _ _ _
+    (lay-same _ _ _ (name .copy-between .ensures) (part-whole _ 16 (sym (ap length same ∙ r .name)) ∙ same))
+    (count .store .ensures)
+    (operands .put-operands .ensures)
+    (lay-same _ _ _ (c .before .before .fill .ensures) (ap (λ (b : ℕ). b ∷ []) (c .before .before .before .flag-byte .ensures)))
+    (r .name) (length-bytes 8 _) (length-operands (operandsIn x) ∙ ap (λ (n : ℕ). 16 * n) (length-take-le (x .count) (x .operands) (omega arith)))
+    refl (omega arith) refl
+
+pub put-instruction-spec : {M : Type 1} → statement M
+put-instruction-spec =
+    tie.close
+    (tie.spec
+    (λ c κs. search needs)
+    (λ c. search needs)
+    copy-between-requires
+    add-store
+    store-requires
+    add-put-operands
+    put-operands-requires
+    add-fill
+    mul-fill
+    add-fill-2
+    flag-byte-requires
+    fill-requires
+    same-length
+    returns)

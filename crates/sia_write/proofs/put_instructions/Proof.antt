@@ -1,0 +1,114 @@
+-- `sia_write::put_instructions` meets its contract. The loop's invariant: the bytes of the first i instructions are laid, and the place
+-- is the one behind them. Assumes nothing.
+use mathlib.Core.Path.{_≡_, refl, sym, ap, _∙_}
+use mathlib.Core.Bool.{false}
+use mathlib.Core.List.{[]}
+use Prim.Native.Nat.{ℕ, _+_, _-_, _≤_, _<_}
+use native.Mathlib.Omega.{arith}
+use lib.ListN.{length, take}
+use borrow.Author.Tests.{leb-true}
+use Rattle.area.specs.Area.{put}
+use Rattle.area.proofs.Laws.Puts.{put-nil}
+use Rattle.sia.specs.declared.Instruction.{Instruction}
+use Rattle.sia.specs.Encode.{joined, instructionBytes, fewOperands}
+use Rattle.sia.proofs.Laws.Every.{every-at}
+use Rattle.sia.proofs.Laws.Joined.{length-more, room-next, lay-more}
+use borrow.Author.Needs.{needs}
+use Rattle.sia_write.proofs.put_instructions.Statement.{statement}
+use Rattle.sia_write.proofs.put_instructions.Tie as tie
+
+-- what a list of instructions has past its end
+abbrev past : Instruction
+past = record { name = []; count = 0; operands = []; proof = false }
+
+further : (at m n : ℕ) {k : ℕ} → m + n ≡ k → at + m + n ≡ at + k
+further at m n e = omega arith
+
+abbrev Inv-loop : tie.InvT-loop
+Inv-loop n out₀ at list place₀ i₀ out place i =
+    (i ≤ n) × (length out ≡ length out₀) × (place ≡ at + length (joined instructionBytes (take i list)))
+    × (out ≡ put out₀ at (joined instructionBytes (take i list)))
+
+abbrev μ-loop : tie.MeasureT-loop
+μ-loop n out₀ at list place₀ i₀ out place i = n - i
+
+loop-holds : tie.Need-loop-holds Inv-loop μ-loop
+unfolding joined
+loop-holds c = (omega arith, refl, omega arith, sym (put-nil _ _))
+
+mul-x : tie.Need-mul-x Inv-loop μ-loop
+mul-x c = search needs
+
+array-copy-out-x : tie.Need-array-copy-out-x Inv-loop μ-loop
+array-copy-out-x c = omega arith
+
+put-instruction-requires : tie.Need-put-instruction-requires Inv-loop μ-loop
+put-instruction-requires c κs =
+    let l = c .before .before .before .loop in
+    let s = c .before .before .before .before .before in
+    let t = c .before .before .loop-test .taken in
+    let long : s .args .n ≤ length (s .args .t1) = omega (arith, s .good .0 .1 .0 .1) in
+    let room : s .args .at + length (joined instructionBytes (take (s .args .n) (s .args .t1))) ≤ length (l .out) = omega (arith, s .pre .1 .1) in (
+      leb-true _ _ (every-at fewOperands _ _ (l .i) _ (s .pre .1 .0) t (omega arith)),
+      room-next instructionBytes (s .args .t1) (l .i) (s .args .n) (s .args .at) _ t long room (l .inv .2),
+    )
+
+instruction-length-requires : tie.Need-instruction-length-requires Inv-loop μ-loop
+instruction-length-requires c κs =
+    let s = c .before .before .before .before .before .before .before .before in
+    leb-true _ _ (every-at fewOperands _ _ (c .before .before .before .before .before .before .loop .i) _ (s .pre .1 .0) (c .before .before .before .before .before .loop-test .taken) (omega (arith, s .good .0 .1 .0 .1)))
+
+add-place : tie.Need-add-place Inv-loop μ-loop
+add-place c =
+    let l = c .before .before .before .before .before .before .before .loop in
+    let s = c .before .before .before .before .before .before .before .before .before in
+    let long : s .args .n ≤ length (s .args .t1) = omega (arith, s .good .0 .1 .0 .1) in
+    let room : s .args .at + length (joined instructionBytes (take (s .args .n) (s .args .t1))) ≤ length (l .out) = omega (arith, s .pre .1 .1) in
+    omega (arith, c .instruction-length .ensures .0, room-next instructionBytes (s .args .t1) (l .i) (s .args .n) (s .args .at) past (c .before .before .before .before .before .before .loop-test .taken) long room (l .inv .2))
+
+add-i : tie.Need-add-i Inv-loop μ-loop
+add-i c = search needs
+
+loop-less : tie.Need-loop-less Inv-loop μ-loop
+loop-less c = omega arith
+
+loop-again : tie.Need-loop-again Inv-loop μ-loop
+loop-again c =
+    let l = c .before .before .before .before .before .before .before .loop in
+    let s = c .before .before .before .before .before .before .before .before .before in
+    let long : l .i < length (s .args .t1) = omega (arith, s .good .0 .1 .0 .1) in (
+      omega arith,
+      search needs,
+      (λ x. l .inv .2 x + c .instruction-length .ensures .0 x) ∙ further _ _ _ (sym (length-more instructionBytes (s .args .t1) (l .i) _ long)),
+      c .before .before .before .put-instruction .ensures ∙ lay-more instructionBytes _ _ (s .args .t1) (l .i) _ _ long (l .inv .2) (l .inv .3),
+    )
+
+same-length : tie.Need-same-length Inv-loop μ-loop
+same-length c = search needs
+
+returns : tie.Need-returns Inv-loop μ-loop
+returns c =
+    let l = c .before .loop in
+    let s = c .before .before .before in
+    let all : l .i ≡ s .args .n = omega arith in (
+      l .inv .2 ∙ ap (λ (k : ℕ). s .args .at + length (joined instructionBytes (take k (s .args .t1)))) all,
+      l .inv .3 ∙ ap (λ (k : ℕ). put (s .args .out .now) (s .args .at) (joined instructionBytes (take k (s .args .t1)))) all,
+    )
+
+pub put-instructions-spec : {M : Type 1} → statement M
+put-instructions-spec =
+    tie.close
+    (tie.spec
+    Inv-loop
+    μ-loop
+    loop-holds
+    mul-x
+    array-copy-out-x
+    put-instruction-requires
+    instruction-length-requires
+    add-place
+    add-i
+    loop-less
+    loop-again
+    same-length
+    returns)

@@ -1,2 +1,0 @@
--- What the functions that look a root up ask of their callers.
-pub mod Asks

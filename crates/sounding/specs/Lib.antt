@@ -1,2 +1,0 @@
--- What the functions that look at kept roots ask of their callers.
-pub mod Asks

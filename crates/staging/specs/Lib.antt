@@ -1,3 +1,0 @@
--- What effects look at and change, as the code has it, and what the code asks of its callers.
-pub mod Parts
-pub mod Asks

@@ -1,7 +1,0 @@
--- The laws, a file for each subject.
-pub mod Known
-pub mod Sights
-pub mod Running
-pub mod Readers
-pub mod Planned
-pub mod Taking

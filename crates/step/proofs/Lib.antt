@@ -1,2 +1,0 @@
--- The laws that the proofs of a step share.
-pub mod Laws

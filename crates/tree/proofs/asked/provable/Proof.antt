@@ -1,0 +1,22 @@
+-- `asked::provable` meets its contract, test by test. Assumes nothing.
+use mathlib.Core.Path.{refl}
+use borrow.Author.Tests.{eq-eqb, ne-eqb}
+use Rattle.area.proofs.Laws.Pick.{yes, no}
+use Rattle.tree.specs.Answers.{provable, wholes}
+use borrow.Author.Needs.{needs}
+use Rattle.tree.proofs.asked.provable.Statement.{statement}
+use Rattle.tree.proofs.asked.provable.Tie as tie
+
+returns : tie.Need-returns
+unfolding provable wholes
+returns c = no _ _ _ (ne-eqb _ _ (c .if1 .taken)) refl
+
+ranged-requires : tie.Need-ranged-requires
+ranged-requires c κs = search needs
+
+returns-2 : tie.Need-returns-2
+unfolding provable wholes
+returns-2 c = yes _ _ _ (eq-eqb _ _ (c .before .if1 .left)) (c .ranged .ensures)
+
+pub provable-spec : {M : Type 1} → statement M
+provable-spec = tie.close (tie.spec returns ranged-requires returns-2)

@@ -1,0 +1,38 @@
+-- `asked::provable_in` meets its contract, test by test. Assumes nothing.
+use mathlib.Core.Path.{refl, sym, _∙_}
+use borrow.Author.Tests.{eq-eqb, ne-eqb, lt-ltb, le-ltb}
+use Rattle.area.proofs.Laws.Pick.{yes, no}
+use Rattle.tree.specs.Answers.{provableIn, wholes}
+use borrow.Author.Needs.{needs}
+use Rattle.tree.proofs.asked.provable_in.Statement.{statement}
+use Rattle.tree.proofs.asked.provable_in.Tie as tie
+
+returns : tie.Need-returns
+unfolding provableIn wholes
+returns c = no _ _ _ (ne-eqb _ _ (c .if1 .taken)) refl
+
+returns-2 : tie.Need-returns-2
+unfolding provableIn wholes
+returns-2 c = yes _ _ _ (eq-eqb _ _ (c .before .if1 .left)) (no _ _ _ (le-ltb _ _ (c .if2 .taken)) refl)
+
+is-power-requires : tie.Need-is-power-requires
+is-power-requires c κs = search needs
+
+provable-requires : tie.Need-provable-requires
+provable-requires c κs = search needs
+
+returns-3 : tie.Need-returns-3
+unfolding provableIn wholes
+returns-3 c =
+    yes _ _ _ (eq-eqb _ _ (c .before .before .before .before .if1 .left))
+    (yes _ _ _ (lt-ltb _ _ (c .before .before .before .if2 .left)) (yes _ _ _ (sym (c .before .before .is-power .ensures) ∙ c .before .if3 .taken) (c .provable .ensures)))
+
+returns-4 : tie.Need-returns-4
+unfolding provableIn wholes
+returns-4 c =
+    yes _ _ _ (eq-eqb _ _ (c .before .before .before .if1 .left))
+    (yes _ _ _ (lt-ltb _ _ (c .before .before .if2 .left)) (no _ _ _ (sym (c .before .is-power .ensures) ∙ c .if3 .left) refl))
+
+pub provable-in-spec : {M : Type 1} → statement M
+provable-in-spec =
+    tie.close (tie.spec returns returns-2 is-power-requires provable-requires returns-3 returns-4)

@@ -1,0 +1,124 @@
+-- `check` meets its contract: each test in turn says no, and past them all the rebuilt root decides. Assumes nothing.
+use mathlib.Core.Path.{_≡_, refl, sym, ap, _∙_}
+use mathlib.Core.Bool.{true}
+use mathlib.Core.List.{List}
+use Prim.Native.Nat.{ℕ, _≤_, _*_}
+use native.Mathlib.Omega.{arith}
+use lib.ListN.{length}
+use lib.Dec.{leb}
+use borrow.Author.Needs.{needs}
+use borrow.Author.Tests.{not-true, not-false, le-leb, lt-leb, eq-eqb, ne-eqb}
+use Rattle.area.specs.Pick.{both}
+use Rattle.area.specs.Area.{same}
+use Rattle.area.proofs.Laws.Pick.{yes, no, both-join, both-not-left, both-not-right}
+use Rattle.tree.specs.Walk.{hashes, count}
+use Rattle.tree.specs.Checker.{limit, rebuild, verdict}
+use Rattle.tree.proofs.Laws.Counts.{hashes-few}
+use Rattle.tree.proofs.Laws.Levels.{walked-deep, room-deep}
+use Rattle.tree.proofs.Laws.Built.{built-deep}
+use Rattle.tree.proofs.Laws.Answered.{ranged-tells, from-top}
+use Rattle.tree.proofs.checking.check.Statement.{statement}
+use Rattle.tree.proofs.checking.check.Tie as tie
+
+limited : (n : ℕ) → 1 ≤ n → n ≤ limit → both (leb 1 n) (leb n limit) ≡ true
+limited n a b = both-join _ _ (le-leb 1 n a) (le-leb n limit b)
+
+returns : tie.Need-returns
+unfolding verdict
+returns c = no _ _ _ (both-not-left _ _ (lt-leb _ _ (c .if1 .taken))) refl
+
+returns-2 : tie.Need-returns-2
+unfolding verdict
+returns-2 c = no _ _ _ (both-not-right _ _ (lt-leb _ _ (c .if2 .taken))) refl
+
+ranged-requires : tie.Need-ranged-requires
+ranged-requires c κs = search needs
+
+returns-3 : tie.Need-returns-3
+unfolding verdict
+returns-3 c =
+    yes _ _ _ (limited _ (c .before .before .before .if1 .left) (c .before .before .if2 .left)) (no _ _ _ (sym (c .before .ranged .ensures) ∙ not-true _ (c .if3 .taken)) refl)
+
+sub-if4 : tie.Need-sub-if4
+sub-if4 c = let r = ranged-tells _ _ _ (sym (c .before .ranged .ensures) ∙ not-false _ (c .if3 .left)) in omega arith
+
+mul-if4 : tie.Need-mul-if4
+mul-if4 c = let r = ranged-tells _ _ _ (sym (c .before .ranged .ensures) ∙ not-false _ (c .if3 .left)) in omega arith
+
+returns-4 : tie.Need-returns-4
+unfolding verdict
+returns-4 c =
+    yes _ _ _ (limited _ (c .before .before .before .before .if1 .left) (c .before .before .before .if2 .left))
+    (yes _ _ _ (sym (c .before .before .ranged .ensures) ∙ not-false _ (c .before .if3 .left)) (no _ _ _ (ne-eqb _ _ (c .if4 .taken)) refl))
+
+count-requires : tie.Need-count-requires
+count-requires c κs = omega arith
+
+mul-if5 : tie.Need-mul-if5
+unfolding count
+mul-if5 c =
+    let a = c .before .before .before .before .before .before .before .before .before .args in
+    omega (arith, c .count .ensures, hashes-few 64 0 (a .count) (a .first) (a .end) (omega arith) (omega arith))
+
+returns-5 : tie.Need-returns-5
+unfolding verdict count
+returns-5 c =
+    let a = c .before .before .before .before .before .before .before .before .before .before .args in
+    let other : length (a .hashes .now) ≡ 32 * hashes 64 0 (a .count) (a .first) (a .end) → ⊥ = λ e. omega (arith, e, c .if5 .taken, c .before .count .ensures) in
+    yes _ _ _ (limited _ (c .before .before .before .before .before .before .if1 .left) (c .before .before .before .before .before .if2 .left))
+    (yes _ _ _ (sym (c .before .before .before .before .ranged .ensures) ∙ not-false _ (c .before .before .before .if3 .left))
+    (yes _ _ _ (eq-eqb _ _ (c .before .before .if4 .left)) (no _ _ _ (ne-eqb _ _ other) refl)))
+
+depth-requires : tie.Need-depth-requires
+depth-requires c κs = search needs
+
+rebuild-requires : tie.Need-rebuild-requires
+unfolding count
+rebuild-requires c κs =
+    let holds = c .depth .ensures in
+    record {
+      walked = walked-deep (from-top _ (omega arith) (omega arith)) holds;
+      given = omega (arith, c .before .before .before .if4 .left);
+      enough = room-deep _ _ _ _ _ _ _ holds (omega (arith, c .before .if5 .left, c .before .before .count .ensures));
+    }
+
+slice-aggregate-agrees : tie.Need-slice-aggregate-agrees
+slice-aggregate-agrees c = search needs
+
+agrees-requires : tie.Need-agrees-requires
+agrees-requires c κs = search needs
+
+returns-6 : tie.Need-returns-6
+unfolding verdict count rebuild
+returns-6 c =
+    let deep = c .before .before .before .before in
+    let same-count = deep .before .before in
+    let a = same-count .before .before .before .before .before .before .before .before .before .args in
+    let used : length (a .hashes .now) ≡ 32 * hashes 64 0 (a .count) (a .first) (a .end) =
+    omega (arith, deep .before .if5 .left, same-count .count .ensures) in
+    let built = built-deep _ _ _ _ _ _ _ _ (deep .depth .ensures) (c .before .before .before .rebuild .ensures) in
+    yes _ _ _ (limited _ (same-count .before .before .before .before .before .if1 .left) (same-count .before .before .before .before .if2 .left))
+    (yes _ _ _ (sym (same-count .before .before .before .ranged .ensures) ∙ not-false _ (same-count .before .before .if3 .left))
+    (yes _ _ _ (eq-eqb _ _ (same-count .before .if4 .left))
+    (yes _ _ _ (eq-eqb _ _ used)
+    (c .agrees .ensures ∙ ap (λ (l : List ℕ). same (a .root .now) l) (built .1)))))
+
+pub check-spec : {M : Type 1} → statement M
+check-spec =
+    tie.close
+    (tie.spec
+    returns
+    returns-2
+    ranged-requires
+    returns-3
+    sub-if4
+    mul-if4
+    returns-4
+    count-requires
+    mul-if5
+    returns-5
+    depth-requires
+    rebuild-requires
+    slice-aggregate-agrees
+    agrees-requires
+    returns-6)

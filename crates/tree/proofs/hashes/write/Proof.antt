@@ -1,0 +1,18 @@
+-- `hashes::write` meets its contract: what is laid from the least depth that holds the leaves is what depth 64 gives. Assumes nothing.
+use borrow.Author.Needs.{needs}
+use Rattle.tree.proofs.Laws.Levels.{walked-deep, room-deep}
+use Rattle.tree.proofs.Laws.Laid.{laid-deep}
+use Rattle.tree.proofs.hashes.write.Statement.{statement}
+use Rattle.tree.proofs.hashes.write.Tie as tie
+
+walk-requires : tie.Need-walk-requires
+walk-requires c κs =
+    let holds = c .before .depth .ensures in
+    let w = c .before .before .before .before .pre in
+    record { walked = walked-deep (w .walked) holds; all = w .all; room = room-deep _ _ _ _ _ _ _ holds (w .room) }
+
+returns : tie.Need-returns
+returns c = laid-deep _ _ _ _ _ _ _ _ _ (c .before .before .before .before .depth .ensures) (c .before .before .walk .ensures)
+
+pub write-spec : {M : Type 1} → statement M
+write-spec = tie.close (tie.spec (λ c κs. search needs) walk-requires (λ c. search needs) returns)

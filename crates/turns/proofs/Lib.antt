@@ -1,2 +1,0 @@
--- The laws that the proofs share, and what callers use.
-pub mod Laws

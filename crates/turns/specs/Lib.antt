@@ -1,2 +1,0 @@
--- What the code asks of its callers. What the turns mean is crate rules'.
-pub mod Asks
