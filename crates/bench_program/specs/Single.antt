@@ -13,7 +13,7 @@ use Rattle.machine_rules.specs.Calls.{opened, piece, reached}
 use Rattle.machine_rules.specs.Commit.{Closed, close}
 use Rattle.host.specs.declared.Prices.{Prices}
 use Rattle.host.specs.declared.Host.{Host}
-use Rattle.host.specs.declared.Answer.{Answer}
+use Rattle.host.specs.declared.Made.{Made}
 use Rattle.bench_program.specs.declared.Outcome.{Outcome}
 
 -- the number, how many bytes of the output area are records to be written out, the host, and the areas as they are left
@@ -41,7 +41,7 @@ unfoldable pub idsIn : List ℕ → List (List ℕ)
 idsIn bs = tab 0 (length bs / 32) (λ i. part bs (i * 32) 32)
 
 -- contracts formed in turn, up to the first refusal
-unfoldable pub formedInTurn : Host → List (List ℕ) → Answer
+unfoldable pub formedInTurn : Host → List (List ℕ) → Made
 formedInTurn h [] = answered 0 h
 formedInTurn h (id ∷ ids) =
     let r = formed h id in

@@ -4,9 +4,9 @@ ghost use Prim.Native.Nat.{_+_, _≤_};
 ghost use lib.ListN.{length};
 ghost use Rattle.area.specs.Area.{part};
 ghost use Rattle.bench_program.specs.Single.{idsIn, formedInTurn};
-use host::Answer;
-use host::Host;
-use host::Place;
+use machine::Made;
+use machine::Host;
+use machine::Place;
 
 // The id that stands at a place.
 fn id_at(ids: &[u8], at: usize) -> [u8; 32]
@@ -19,7 +19,7 @@ fn id_at(ids: &[u8], at: usize) -> [u8; 32]
 }
 
 // Forms the contracts of ids that stand one behind another, up to the first refusal: 0; or its number.
-pub fn form_in_turn(host: Host, ids: &[u8]) -> Answer
+pub fn form_in_turn(host: Host, ids: &[u8]) -> Made
     ensures { λ r. ⌜ r ≡ formedInTurn host (idsIn (now (ids .entry))) ⌝ }
 {
     let n = ids.len() / Place::ID;
@@ -35,7 +35,7 @@ pub fn form_in_turn(host: Host, ids: &[u8]) -> Answer
         made = next;
         i += 1;
     }
-    Answer {
+    Made {
         number: 0,
         host: made,
     }

@@ -10,8 +10,8 @@ mod playing; // playing.rt: opening, the piece and the close
 mod reading; // reading.rt: the whole input in its bytes
 mod speaking; // speaking.rt: what is written out
 
-use host::Host;
-use host::Prices;
+use machine::Host;
+use machine::Prices;
 pub use playing::begin;
 pub use playing::least;
 pub use speaking::play;
@@ -28,7 +28,8 @@ impl Outcome {
     pub const FRONT: usize = 80;
 }
 
-// Plays one program on a fresh host with sectors of that size for the areas that are lent: 2 for the size and their lengths; 5, 15, 6, 8 of the first id that is refused; opening's 2,
+// Plays one program on a fresh host with sectors of that size for the areas that are lent: 2 for the size and their lengths; 5, 15, 6, 8 of the first
+// id that is refused; opening's 2,
 // 9, 10, 7, 11; the piece's 2, 12; closing's 13. The ids stand one behind another, 32 bytes each.
 pub fn run(
     sector: u64,
@@ -43,7 +44,8 @@ pub fn run(
     output: &mut [u8],
 ) -> Outcome
     ensures { λ r. ⌜ leaves r (now (disk .exit)) (now (stage .exit)) (now (input .exit)) (now (output .exit)) ≡
-        Says.run sector prices budget (now (ids .entry)) (now (head .entry)) (now (bytes .entry)) (now (disk .entry)) (now (stage .entry)) (now (input .entry)) (now (output .entry)) ⌝ }
+        Says.run sector prices budget (now (ids .entry)) (now (head .entry)) (now (bytes .entry)) (now (disk .entry)) (now (stage .entry))
+            (now (input .entry)) (now (output .entry)) ⌝ }
 {
     let fresh = machine::fresh(sector, disk.len() as u64, stage.len() as u64);
     let empty = fresh.host;

@@ -6,8 +6,8 @@ ghost use Rattle.bench_program.specs.Single as Says;
 ghost use Rattle.bench_program.specs.Single.{leaves, ended, given, begun};
 use crate::Outcome;
 use machine::Closing;
-use host::Host;
-use host::Prices;
+use machine::Host;
+use machine::Prices;
 
 // A refusal shows no record.
 pub fn refused(number: u64, host: Host) -> Outcome
@@ -102,7 +102,8 @@ pub fn begin(
     output: &mut [u8],
 ) -> Outcome
     ensures { λ r. ⌜ leaves r (now (disk .exit)) (now (stage .exit)) (now (input .exit)) (now (output .exit)) ≡
-        begun host prices budget (now (head .entry)) (now (bytes .entry)) (now (disk .entry)) (now (stage .entry)) (now (input .entry)) (now (output .entry)) ⌝ }
+        begun host prices budget (now (head .entry)) (now (bytes .entry)) (now (disk .entry)) (now (stage .entry)) (now (input .entry))
+            (now (output .entry)) ⌝ }
 {
     let opened = machine::open(host, head, budget, prices, output.len() as u64);
     if opened.number != 0 {

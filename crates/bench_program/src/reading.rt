@@ -6,7 +6,7 @@ ghost use lib.ListN.{length};
 ghost use Rattle.bench_program.specs.Input as Says;
 ghost use Rattle.bench_program.specs.Input.{numberAt, pricesRight, cutShort, idsEnd, headEnd, pricesIn};
 use crate::Outcome;
-use host::Prices;
+use machine::Prices;
 
 // Whether no price passes 65,535.
 fn prices_right(all: &[u8]) -> bool

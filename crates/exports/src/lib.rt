@@ -4,7 +4,7 @@ ghost use mathlib.Core.Path.{_≡_};
 ghost use Rattle.exports.specs.Numbers.{numbered, rootLaid};
 ghost use Rattle.exports.specs.Programs.{shown, priced, played};
 ghost use Rattle.blake2b.specs.Answers.{digested};
-use host::Prices;
+use machine::Prices;
 
 // blake2b::digest. 0: done; 2: a digest or a key of another length, and the area is as it was.
 #[no_mangle]

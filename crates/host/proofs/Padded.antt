@@ -19,7 +19,7 @@ use Rattle.host.specs.Calls.{padded, formed}
 use Rattle.host.specs.Padded.{Padding, Fifteen}
 use Rattle.host.proofs.Laws.Ways.{either-way}
 use Rattle.host.specs.declared.Host.{Host}
-use Rattle.host.specs.declared.Answer.{Answer}
+use Rattle.host.specs.declared.Made.{Made}
 
 -- ---- the bytes of an id
 
@@ -58,7 +58,7 @@ word = refl
 not-word : (id : List ℕ) → padded id ≡ true → same id readOnly ≡ false
 not-word id e = by (same id readOnly) (λ w. never (sym e ∙ ap padded (same-eq id readOnly w) ∙ word)) (λ w. w)
 
-abbrev Tells : Host → List ℕ → Answer → Type 0
+abbrev Tells : Host → List ℕ → Made → Type 0
 Tells h id r = r .number ≡ 15 → (padded id ≡ true) × (inOrder h ≡ true) × (h .program .active ≡ false)
 
 pub fifteen : (h : Host) (id : List ℕ) → Fifteen h id

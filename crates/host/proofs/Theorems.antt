@@ -45,5 +45,6 @@ no-slots-dropped id = picks _ _ _ (ap not no-slots-refused)
 -- ---- "(P) Ids equal but for byte 31 form two contracts."
 
 pub two-contracts : twoForms (idOf 1) (idOf 2) ≡ 0 ∷ 0 ∷ 2 ∷ []
-unfolding twoForms benchHost freshed isSize doubled lengthRight lent bare noPlace noProgram noTerms noPrices noProgress padded formed inOrder placesInOrder placeInOrder twins taken committed every joined some those apart whose hasId same formedAt newPlace withPlaces pick
+unfolding twoForms benchHost freshed isSize doubled lengthRight lent bare noPlace noProgram noTerms noPrices noProgress padded formed inOrder
+    placesInOrder placeInOrder twins taken committed every joined some those apart whose hasId same formedAt newPlace withPlaces pick
 two-contracts = refl

@@ -17,9 +17,9 @@ use Rattle.host.specs.Places.{hasId, whose}
 use Rattle.host.specs.Order.{lent, inOrder}
 use Rattle.host.specs.declared.Place.{Place}
 use Rattle.host.specs.declared.Host.{Host}
-use Rattle.host.specs.declared.Answer.{Answer}
+use Rattle.host.specs.declared.Made.{Made}
 
-abbrev pub answered : ℕ → Host → Answer
+abbrev pub answered : ℕ → Host → Made
 answered n h = record { number = n; host = h }
 
 -- "Disk area: 1 to 64 whole sectors. Stage area: 1 to 16.": a length in bytes
@@ -28,7 +28,7 @@ lengthRight z most n = both (eqb (n % z) 0) (lent most (n / z))
 
 -- "any power of two from 4,096 to 4,194,304, else 2"; "Making a host with bad lengths answers 2 and a host with no slots", and of sector
 -- size 0; the lengths of both areas in bytes
-unfoldable pub freshed : ℕ → ℕ → ℕ → Answer
+unfoldable pub freshed : ℕ → ℕ → ℕ → Made
 freshed z disk stage =
     pick (not (isSize z)) (answered 2 (bare 0 0 0))
     (pick (not (lengthRight z 64 disk)) (answered 2 (bare 0 0 0))
@@ -45,7 +45,7 @@ formedAt id [] = []
 formedAt id (p ∷ ps) = let rest = p ∷ formedAt id ps in let here = newPlace id ∷ ps in pick (p .held) rest here
 
 -- forming a contract: 1, 3, 5, 15 ("checked right after 5"), 6, 8
-unfoldable pub formed : Host → List ℕ → Answer
+unfoldable pub formed : Host → List ℕ → Made
 formed h id =
     pick (not (inOrder h)) (answered 1 h)
     (pick (h .program .active) (answered 3 h)
@@ -60,7 +60,7 @@ unfoldable pub replaced : List ℕ → Place → List Place → List Place
 replaced id p ps = each (λ q. pick (hasId id q) p q) ps
 
 -- dropping a contract: 1, 3, 5, 7; "dropping, at any size, frees place and slots"
-unfoldable pub dropped : Host → List ℕ → Answer
+unfoldable pub dropped : Host → List ℕ → Made
 dropped h id =
     pick (not (inOrder h)) (answered 1 h)
     (pick (h .program .active) (answered 3 h)

@@ -86,7 +86,7 @@ pub struct Host {
 }
 
 // What a call answers: document 01's number, and the host.
-pub struct Answer {
+pub struct Made {
     pub number: u64,
     pub host: Host,
 }

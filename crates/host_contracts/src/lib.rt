@@ -6,7 +6,7 @@ ghost use Prim.Native.Nat.{_<_};
 ghost use Rattle.host.specs.Lists.{some};
 ghost use Rattle.host.specs.Empty.{newPlace, bare};
 ghost use Rattle.host.specs.Calls.{answered, lengthRight, freshed, padded, formedAt, formed, dropped};
-use host::Answer;
+use host::Made;
 use host::Host;
 use host::Place;
 
@@ -22,16 +22,16 @@ fn length_right(z: u64, n: u64, most: u64) -> bool
 }
 
 // What a host is refused with: a host with no slots, which every later call refuses with 1.
-fn unmade() -> Answer
+fn unmade() -> Made
     ensures { λ r. ⌜ r ≡ answered 2 (bare 0 0 0) ⌝ }
 {
     let host = Host::bare(0, 0, 0);
-    Answer { number: 2, host }
+    Made { number: 2, host }
 }
 
 // Makes a host with sectors of this size, any power of two from 4,096 to 4,194,304, for areas of these lengths in bytes, that holds no
 // contract and no open program: 0; or 2 for another size or a bad length.
-pub fn fresh(sector: u64, disk: u64, stage: u64) -> Answer
+pub fn fresh(sector: u64, disk: u64, stage: u64) -> Made
     ensures { λ r. ⌜ r ≡ freshed sector disk stage ⌝ }
 {
     if !host::is_size(sector) {
@@ -44,7 +44,7 @@ pub fn fresh(sector: u64, disk: u64, stage: u64) -> Answer
         return unmade();
     }
     let host = Host::bare(sector, disk / sector, stage / sector);
-    Answer { number: 0, host }
+    Made { number: 0, host }
 }
 
 // Whether an id is an identifier of the old service, four bytes filled with zeros: bytes 4 to 31 are all zero.
@@ -109,64 +109,64 @@ fn formed_at(places: [Place; 8], id: [u8; 32]) -> [Place; 8]
 
 // Forms the contract of an id, of size 0, in the lowest free place: 0; or 1, 3, 5 (the ReadOnly word), 15 (a padded short id), 6
 // (already present), 8 (no free place).
-pub fn form(host: Host, id: [u8; 32]) -> Answer
+pub fn form(host: Host, id: [u8; 32]) -> Made
     ensures { λ r. ⌜ r ≡ formed host id ⌝ }
 {
     if !host_order::in_order(host) {
-        return Answer { number: 1, host };
+        return Made { number: 1, host };
     }
     let program = host.program;
     if program.active {
-        return Answer { number: 3, host };
+        return Made { number: 3, host };
     }
     if sia::is_read_only(id) {
-        return Answer { number: 5, host };
+        return Made { number: 5, host };
     }
     let places = host.places;
     let own = host::place_of(places, id);
     let short = padded(id);
     if short {
-        return Answer { number: 15, host };
+        return Made { number: 15, host };
     }
     if own.held {
-        return Answer { number: 6, host };
+        return Made { number: 6, host };
     }
     if !has_free(places) {
-        return Answer { number: 8, host };
+        return Made { number: 8, host };
     }
     let mut after = host;
     let ps = formed_at(places, id);
     after.places = ps;
-    Answer {
+    Made {
         number: 0,
         host: after,
     }
 }
 
 // Drops the contract of an id, at any size, and frees its place and slots: 0; or 1, 3, 5 (the ReadOnly word), 7 (not found).
-pub fn drop(host: Host, id: [u8; 32]) -> Answer
+pub fn drop(host: Host, id: [u8; 32]) -> Made
     ensures { λ r. ⌜ r ≡ dropped host id ⌝ }
 {
     if !host_order::in_order(host) {
-        return Answer { number: 1, host };
+        return Made { number: 1, host };
     }
     let program = host.program;
     if program.active {
-        return Answer { number: 3, host };
+        return Made { number: 3, host };
     }
     if sia::is_read_only(id) {
-        return Answer { number: 5, host };
+        return Made { number: 5, host };
     }
     let places = host.places;
     let own = host::place_of(places, id);
     if !own.held {
-        return Answer { number: 7, host };
+        return Made { number: 7, host };
     }
     let mut after = host;
     let none = Place::none();
     let ps = host::replaced_in(places, id, none);
     after.places = ps;
-    Answer {
+    Made {
         number: 0,
         host: after,
     }

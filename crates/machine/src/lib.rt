@@ -15,6 +15,7 @@ mod sounding; // sounding.rt: whether a host is sound
 pub use closing::Closing;
 pub use closing::close;
 pub use host::Host;
+pub use host::Made;
 pub use host::Place;
 pub use host::Prices;
 pub use host::Program;

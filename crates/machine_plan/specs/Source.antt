@@ -1,6 +1,5 @@
 -- What is read, as the code says it: whether it is there, and its sectors; and what its look-up asks. Assumes nothing.
 use mathlib.Core.Path.{_≡_}
-use mathlib.Core.Bool.{true}
 use mathlib.Core.List.{List, []}
 use Prim.Native.Nat.{ℕ, _*_, _≤_}
 use lib.ListN.{length}

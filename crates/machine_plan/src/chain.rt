@@ -71,7 +71,8 @@ fn argued<'a>(
 ) -> Plan
     requires { ⌜ Plans z (setting sectors copies places terms [] []) p (now diskroots) (now stageroots) ⌝ }
     requires { ⌜ Good z (setting sectors copies places terms [] []) p ⌝ }
-    ensures { λ r. ⌜ said r ≡ argued z (setting sectors copies places terms [] []) (keptRoot (now (diskroots .entry)) (now (stageroots .entry))) p asked op args ⌝ }
+    ensures { λ r. ⌜ said r ≡ argued z (setting sectors copies places terms [] []) (keptRoot (now (diskroots .entry)) (now (stageroots .entry))) p
+        asked op args ⌝ }
 {
     let head = terms.head;
     let id = head.contract;

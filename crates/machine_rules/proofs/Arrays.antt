@@ -22,7 +22,8 @@ use Rattle.machine_rules.specs.Inputs.{inputsOf, argsOf}
 use Rattle.machine_rules.specs.Plan.{judged}
 use Rattle.machine_rules.specs.Effect.{groundOf}
 use Rattle.machine_rules.specs.Run.{failedProgress, failing, ranProgress, succeeding, stepped, current, step, ready, runs, run}
-use Rattle.machine_rules.specs.Calls.{answered, begun, openedHead, opened, Pieced, pieced, accepted, piece, Interrupted, stopped, interrupt, acceptedBy, interruptBy, stoppedBy}
+use Rattle.machine_rules.specs.Calls.{answered, begun, openedHead, opened, Pieced, pieced, accepted, piece, Interrupted, interrupt}
+use Rattle.machine_rules.specs.Calls.{acceptedBy, interruptBy, stoppedBy}
 use Rattle.machine_rules.specs.Commit.{Closed, givenUp, finalSlots, finalPlace, commit}
 use Rattle.machine_rules.specs.Visit.{Areas, Opening, Agreement, opens, gives, stops, closes, Shaped, Declared, Ready}
 use Rattle.machine_rules.specs.Trace.{fed, fedBy}
@@ -42,7 +43,7 @@ use Rattle.machine_rules.proofs.Laws.Ways.{either-way}
 use Rattle.sia.specs.declared.Instruction.{Instruction}
 use Rattle.host.specs.declared.Place.{Place}
 use Rattle.host.specs.declared.Host.{Host}
-use Rattle.host.specs.declared.Answer.{Answer as Contract}
+use Rattle.host.specs.declared.Made.{Made}
 use Rattle.machine_rules.specs.declared.Answer.{Answer}
 
 -- ---- arrays keep their lengths
@@ -149,7 +150,7 @@ shaped-formed id (p ∷ ps) h =
     (λ e. subst Shaped (sym (picks (p .held) (p ∷ formedAt id ps) _ e)) (h .0, shaped-formed id ps (h .1)))
     (λ e. subst Shaped (sym (skips (p .held) (p ∷ formedAt id ps) _ e)) (refl, h .1))
 
-abbrev Fine : Contract → Type 0
+abbrev Fine : Made → Type 0
 Fine r = Declared (r .host)
 
 declared-formed : (h : Host) (id : List ℕ) → Declared h → Fine (formed h id)
@@ -221,7 +222,8 @@ module _ (disk : List ℕ) (h : Host) (stage : List ℕ) (r : Ready h) (live : h
       let f = final (h .sector) (h .disk) size id (h .places) s (order-some h (r .order)) (q .1) (q .0) (d .places) (g .whole) (g .within) in
       let long = ap (λ (x : Place). length (finalSlots (h .sector) (h .disk) (h .places) x size)) (s .whose-is) ∙ ap length (f .is) ∙ f .long in
       let few : size / h .sector ≤ h .disk =
-      le-of-mul-le-mul-right {m = size / h .sector} {n = h .disk} {k = (h .sector)} (omega (arith, whole-sectors (h .sector) size (g .whole), g .within)) (order-some h (r .order)) in
+      le-of-mul-le-mul-right {m = size / h .sector} {n = h .disk} {k = (h .sector)}
+          (omega (arith, whole-sectors (h .sector) size (g .whole), g .within)) (order-some h (r .order)) in
       shaped-replaced id _ (h .places) (final-long _ size _ (omega (arith, long, few, q .1))) (d .places))
       (λ e. subst Shaped (sym (replaced-none id _ (h .places) (none-of id (h .places) e))) (d .places))
 

@@ -60,7 +60,8 @@ unfoldable open-host : ℕ
 unfolding HostSizes.doubled HostSizes.isSize HostLists.some HostLists.those HostLists.each HostLists.firstOf
     HostLists.apart HostLists.sum HostLists.count HostEmpty.noPlace HostEmpty.noPrices
     HostEmpty.noTerms HostEmpty.noProgress HostEmpty.noProgram HostEmpty.bare HostEmpty.newPlace HostEmpty.started HostWith.withPlaces
-    HostWith.withProgram HostWith.withStageRoots HostWith.withCame HostWith.withProgress HostWith.withRunning HostWith.withStaged HostPlaces.hasId HostPlaces.whose
+    HostWith.withProgram HostWith.withStageRoots HostWith.withCame HostWith.withProgress HostWith.withRunning HostWith.withStaged HostPlaces.hasId
+        HostPlaces.whose
     HostPlaces.ownSize HostPlaces.others HostPlaces.committed HostPlaces.taken HostPlaces.freeCopy HostOrder.lent HostOrder.placeInOrder
     HostOrder.twins HostOrder.placesInOrder HostOrder.slotInOrder HostOrder.clash HostOrder.stagedInOrder HostOrder.parentInOrder
     HostOrder.termsInOrder HostOrder.progressInOrder HostOrder.programInOrder HostOrder.inOrder HostCalls.lengthRight HostCalls.freshed

@@ -1,6 +1,6 @@
 -- Which calls change which kept roots: down the chain of each call, refusals named. Assumes nothing.
 use mathlib.Core.Path.{_≡_, refl}
-use mathlib.Core.Bool.{Bool, true, false}
+use mathlib.Core.Bool.{Bool, false}
 use mathlib.Core.List.{List}
 use Prim.Native.Nat.{ℕ}
 use Rattle.area.specs.Pick.{pick}
@@ -16,7 +16,7 @@ use Rattle.machine_rules.specs.Visit.{Areas, Opening, Agreement, opens, 
 use Rattle.machine_rules.specs.KeptRoots.{Beside, Leaves}
 use Rattle.machine_rules.proofs.Laws.Ways.{either-way}
 use Rattle.machine_rules.proofs.Nothing.{nothing, close-ways}
-use Rattle.host.specs.declared.Answer.{Answer as Contract}
+use Rattle.host.specs.declared.Made.{Made}
 use Rattle.host.specs.declared.Host.{Host}
 use Rattle.machine_rules.specs.declared.Answer.{Answer}
 
@@ -24,8 +24,8 @@ module _ (h : Host) (a : Areas) where
   same : Beside h h
   same = record { disk = refl; stage = refl }
 
-  contract-not : (b : Bool) (n : ℕ) (rest : Contract) → (b ≡ false → Beside h (rest .host)) → Beside h (pick b (Contracts.answered n h) rest .host)
-  contract-not b n rest f = either-way (λ (r : Contract). Beside h (r .host)) b (Contracts.answered n h) rest (λ _. same) f
+  contract-not : (b : Bool) (n : ℕ) (rest : Made) → (b ≡ false → Beside h (rest .host)) → Beside h (pick b (Contracts.answered n h) rest .host)
+  contract-not b n rest f = either-way (λ (r : Made). Beside h (r .host)) b (Contracts.answered n h) rest (λ _. same) f
 
   forming : (id : List ℕ) → Beside h (formed h id .host)
   unfolding formed withPlaces

@@ -25,7 +25,7 @@ use Rattle.host.specs.Places.{hasId, whose, committed, taken}
 use Rattle.host.specs.Order.{inOrder, slotInOrder, termsInOrder}
 use Rattle.host.specs.Calls.{replaced}
 use Rattle.machine_rules.specs.View.{settingBy, settingOf, parent, areasRight, sector, spotOf, parentSpots, committedSpots, whole}
-use Rattle.machine_rules.specs.Roots.{keptRoot, rootBy, rootOf, rootOnDisk, contractRoot}
+use Rattle.machine_rules.specs.Roots.{keptRoot, rootBy, rootOf, contractRoot}
 use Rattle.machine_rules.specs.Record.{pairing, samePair, pairOf, startingPair, runningPair}
 use Rattle.machine_rules.specs.Facts.{Good, Solid}
 use Rattle.machine_rules.specs.Commit.{Closed, closed, finalSlots, finalPlace, copiedBack, givenUp, commit}
@@ -39,7 +39,8 @@ use Rattle.machine_rules.proofs.Laws.Spots.{every-at, every-get, whose-
 use Rattle.machine_rules.proofs.Laws.Split.{Split, split, replaced-none, replaced-split, taken-split, none-of}
 use Rattle.machine_rules.proofs.Laws.Taking.{order-good, order-solid, areas-stage}
 use Rattle.machine_rules.proofs.Laws.Filling.{held, filling-length, filling-outside, filling-inside, joined-each, joined-tab, roots-alike}
-use Rattle.machine_rules.proofs.Laws.Others.{whose-new, not-other, whose-other, none-has, none-bare, some-at, distinct, fore-unused, aft-unused, joined-alike}
+use Rattle.machine_rules.proofs.Laws.Others.{whose-new, not-other, whose-other, none-has, none-bare, some-at, distinct, fore-unused}
+use Rattle.machine_rules.proofs.Laws.Others.{aft-unused, joined-alike}
 use Rattle.machine_rules.proofs.Laws.Pairs.{same-pairs, pairs-differ, none-starts, none-runs}
 use Rattle.machine_rules.proofs.Laws.Sizes.{nothing-reached}
 use Rattle.machine_rules.proofs.Nothing.{given-up, close-ways}
@@ -57,7 +58,8 @@ lends disk stage = record { disk = disk; stage = stage; input = []; output = [] 
 
 -- ---- a held parent
 
-module _ (disk : List ℕ) (h : Host) (stage : List ℕ) (sound : Declared h) (o : inOrder h ≡ true) (areas : areasRight h disk stage ≡ true) (live : h .program .active ≡ true) where
+module _ (disk : List ℕ) (h : Host) (stage : List ℕ) (sound : Declared h) (o : inOrder h ≡ true) (areas : areasRight h disk stage ≡ true)
+    (live : h .program .active ≡ true) where
   abbrev z : ℕ
   z = h .sector
 
@@ -72,7 +74,9 @@ module _ (disk : List ℕ) (h : Host) (stage : List ℕ) (sound : Declared h) (o
 
   -- what a commit leaves, by the parent's place and its slots
   unfoldable left : Place → List ℕ → Closed
-  left x l = closed 0 (h .program .progress .tally) (pos size -ℤ pos (x .size)) (withDiskRoots (withProgram (withPlaces h (replaced id (finalPlace x size l) (h .places))) noProgram) (copiedBack 32 (h .stageroots) staged l 0 (size / z) (h .diskroots)))
+  left x l = closed 0 (h .program .progress .tally) (pos size -ℤ pos (x .size))
+      (withDiskRoots (withProgram (withPlaces h (replaced id (finalPlace x size l) (h .places))) noProgram)
+      (copiedBack 32 (h .stageroots) staged l 0 (size / z) (h .diskroots)))
       (copiedBack z stage staged l 0 (size / z) disk)
 
   commit-left : commit disk h stage ≡ left (whose id (h .places)) (finalSlots z (h .disk) (h .places) (whose id (h .places)) size)
@@ -89,7 +93,8 @@ module _ (disk : List ℕ) (h : Host) (stage : List ℕ) (sound : Declared h) (o
   unfolding settingBy
   few =
       let q : h .program .progress .size / z ≤ h .disk =
-      le-of-mul-le-mul-right {m = h .program .progress .size / z} {n = h .disk} {k = z} (omega (arith, whole-sectors z (h .program .progress .size) (good .orderly .whole), good .orderly .within)) (order-some h o) in
+      le-of-mul-le-mul-right {m = h .program .progress .size / z} {n = h .disk} {k = z}
+          (omega (arith, whole-sectors z (h .program .progress .size) (good .orderly .whole), good .orderly .within)) (order-some h o) in
       omega (arith, order-places h o .1, sound .staged)
 
   module _ (s : Split id (h .places)) (f : Final z (h .disk) size id (h .places) s) where
@@ -112,10 +117,13 @@ module _ (disk : List ℕ) (h : Host) (stage : List ℕ) (sound : Declared h) (o
 
     own : apart eqb (f .slots) ≡ true
     own = let a = apart-out eqb [] (taken z (s .before)) (f .slots ++ taken z (s .behind)) (f .own) in
-        subst (λ (l : List ℕ). apart eqb l ≡ true) (append-nil (f .slots)) (apart-out eqb (f .slots) (taken z (s .behind)) [] (subst (λ (l : List ℕ). apart eqb l ≡ true) (ap (λ (l : List ℕ). f .slots ++ l) (sym (append-nil (taken z (s .behind))))) a))
+        subst (λ (l : List ℕ). apart eqb l ≡ true) (append-nil (f .slots))
+            (apart-out eqb (f .slots) (taken z (s .behind)) [] (subst (λ (l : List ℕ). apart eqb l ≡ true)
+            (ap (λ (l : List ℕ). f .slots ++ l) (sym (append-nil (taken z (s .behind))))) a))
 
     below : (j : ℕ) → j < size / z → getD (f .slots) j 0 < h .disk
-    below j lt = ltb-true _ _ (every-get (λ n. ltb n (h .disk)) (f .slots) j 0 (omega (arith, f .long)) (every-fore _ (f .slots) _ (every-aft _ (taken z (s .before)) _ (f .below))))
+    below j lt = ltb-true _ _ (every-get (λ n. ltb n (h .disk)) (f .slots) j 0 (omega (arith, f .long))
+        (every-fore _ (f .slots) _ (every-aft _ (taken z (s .before)) _ (f .below))))
 
     -- slot n of an area of m whole sectors lies in it
     within : (n m : ℕ) (a : List ℕ) → n < m → length a ≡ m * z → n * z + z ≤ length a
@@ -139,30 +147,37 @@ module _ (disk : List ℕ) (h : Host) (stage : List ℕ) (sound : Declared h) (o
 
     -- the sector of position j, as it is read before and after
     -- (of sectors and of the roots kept beside them alike: y bytes a slot)
-    position : (y : ℕ) (area copies : List ℕ) → ((n : ℕ) → n < h .disk → n * y + y ≤ length area) → ((n : ℕ) → n < h .stage → n * y + y ≤ length copies) → (j : ℕ) → j < size / z
+    position : (y : ℕ) (area copies : List ℕ) → ((n : ℕ) → n < h .disk → n * y + y ≤ length area)
+        → ((n : ℕ) → n < h .stage → n * y + y ≤ length copies) → (j : ℕ) → j < size / z
         → part (copiedBack y copies staged (f .slots) 0 (size / z) area) (getD (f .slots) j 0 * y) y ≡ sector y area copies (spotOf (s .it .slots) staged j)
     unfolding held sector spotOf
     position y area copies room full j lt =
-        filling-inside y copies staged (f .slots) 0 (size / z) area (λ a b lo m hi. distinct (f .slots) own a b m (omega (arith, f .long))) j (omega arith) (omega arith)
+        filling-inside y copies staged (f .slots) 0 (size / z) area (λ a b lo m hi. distinct (f .slots) own a b m (omega (arith, f .long))) j
+            (omega arith) (omega arith)
         (room (getD (f .slots) j 0) (below j lt)) (λ e. length-part copies _ y (full (getD staged j none) (staged-below j e)))
         ∙ by (eqb (getD staged j none) none)
         (λ e. picks (eqb (getD staged j none) none) _ _ e ∙ ap (λ (n : ℕ). part area (n * y) y) (f .kept j lt (kept-below j lt e))
         ∙ sym (ap (sector y area copies) (picks (eqb (getD staged j none) none) (OnDisk (getD (s .it .slots) j 0)) (InStage (getD staged j none)) e)))
-        (λ e. skips (eqb (getD staged j none) none) _ _ e ∙ sym (ap (sector y area copies) (skips (eqb (getD staged j none) none) (OnDisk (getD (s .it .slots) j 0)) (InStage (getD staged j none)) e)))
+        (λ e. skips (eqb (getD staged j none) none) _ _ e
+            ∙ sym (ap (sector y area copies) (skips (eqb (getD staged j none) none) (OnDisk (getD (s .it .slots) j 0)) (InStage (getD staged j none)) e)))
 
     sectors-back : (j : ℕ) → j < size / z → part after (getD (f .slots) j 0 * z) z ≡ sector z disk stage (spotOf (s .it .slots) staged j)
     unfolding after
-    sectors-back j lt = position z disk stage (λ n lt. within n (h .disk) disk lt disk-long) (λ n lt. within n (h .stage) stage lt (areas-stage h disk stage areas)) j lt
+    sectors-back j lt = position z disk stage (λ n lt. within n (h .disk) disk lt disk-long)
+        (λ n lt. within n (h .stage) stage lt (areas-stage h disk stage areas)) j lt
 
-    roots-back : (j : ℕ) → j < size / z → part afterRoots (getD (f .slots) j 0 * 32) 32 ≡ sector 32 (h .diskroots) (h .stageroots) (spotOf (s .it .slots) staged j)
+    roots-back : (j : ℕ) → j < size / z → part afterRoots (getD (f .slots) j 0 * 32) 32
+        ≡ sector 32 (h .diskroots) (h .stageroots) (spotOf (s .it .slots) staged j)
     unfolding afterRoots settingBy
-    roots-back j lt = position 32 (h .diskroots) (h .stageroots) (λ n lt. omega (arith, sound .disk, order-places h o .1)) (λ n lt. omega (arith, sound .stage, solid .lent .few)) j lt
+    roots-back j lt = position 32 (h .diskroots) (h .stageroots) (λ n lt. omega (arith, sound .disk, order-places h o .1))
+        (λ n lt. omega (arith, sound .stage, solid .lent .few)) j lt
 
     spots-are : parentSpots z (settingOf h disk) (h .program .progress) ≡ tab 0 (size / z) (spotOf (s .it .slots) staged)
     unfolding parentSpots parent settingBy id size staged
     spots-are = ap (λ (p : Place). tab 0 (h .program .progress .size / z) (spotOf (p .slots) (h .program .progress .staged))) (s .whose-is)
 
-    alike-are : (y : ℕ) (new area copies : List ℕ) → ((j : ℕ) → j < size / z → part new (getD (f .slots) j 0 * y) y ≡ sector y area copies (spotOf (s .it .slots) staged j))
+    alike-are : (y : ℕ) (new area copies : List ℕ) → ((j : ℕ) → j < size / z → part new (getD (f .slots) j 0 * y) y
+        ≡ sector y area copies (spotOf (s .it .slots) staged j))
         → joined (sector y new []) (each OnDisk (f .slots)) ≡ joined (sector y area copies) (tab 0 (size / z) (spotOf (s .it .slots) staged))
     unfolding sector
     alike-are y new area copies back =
@@ -182,11 +197,14 @@ module _ (disk : List ℕ) (h : Host) (stage : List ℕ) (sound : Declared h) (o
     unfolding sectorsOf
     own-sectors = ap (whole z after []) own-spots ∙ bytes-are ∙ ap (whole z disk stage) (sym spots-are)
 
-    own-root : contractRoot (sector 32 afterRoots []) (committedSpots z x) ≡ contractRoot (sector 32 (h .diskroots) (h .stageroots)) (parentSpots z (settingOf h disk) (h .program .progress))
+    own-root : contractRoot (sector 32 afterRoots []) (committedSpots z x) ≡ contractRoot (sector 32 (h .diskroots) (h .stageroots))
+        (parentSpots z (settingOf h disk) (h .program .progress))
     own-root =
         ap (contractRoot (sector 32 afterRoots [])) own-spots
-        ∙ roots-alike (sector 32 afterRoots []) (sector 32 (h .diskroots) (h .stageroots)) (each OnDisk (f .slots)) (tab 0 (size / z) (spotOf (s .it .slots) staged))
-        (omega (arith, length-each (f .slots), f .long, length-tab 0 (size / z) (spotOf (s .it .slots) staged))) (alike-are 32 afterRoots (h .diskroots) (h .stageroots) roots-back)
+        ∙ roots-alike (sector 32 afterRoots []) (sector 32 (h .diskroots) (h .stageroots)) (each OnDisk (f .slots))
+            (tab 0 (size / z) (spotOf (s .it .slots) staged))
+        (omega (arith, length-each (f .slots), f .long, length-tab 0 (size / z) (spotOf (s .it .slots) staged)))
+            (alike-are 32 afterRoots (h .diskroots) (h .stageroots) roots-back)
         ∙ ap (contractRoot (sector 32 (h .diskroots) (h .stageroots))) (sym spots-are)
 
     own-pair : pairOf z (sector 32 afterRoots []) x ≡ running h (lends disk stage)
@@ -201,31 +219,37 @@ module _ (disk : List ℕ) (h : Host) (stage : List ℕ) (sound : Declared h) (o
 
     root-left : (n : ℕ) → unused (f .slots) n ≡ true → part afterRoots (n * 32) 32 ≡ part (h .diskroots) (n * 32) 32
     unfolding afterRoots
-    root-left n u = filling-outside 32 (h .stageroots) staged (f .slots) n 0 (size / z) (h .diskroots) (λ j lo hi e. some-at n (f .slots) j (not-true _ u) (omega (arith, f .long)))
+    root-left n u = filling-outside 32 (h .stageroots) staged (f .slots) n 0 (size / z) (h .diskroots)
+        (λ j lo hi e. some-at n (f .slots) j (not-true _ u) (omega (arith, f .long)))
 
     -- ---- the roots kept beside the disk's slots are right again (M-105)
 
     taken-after : taken z (replaced id x (h .places)) ≡ taken z (s .before) ++ (f .slots ++ taken z (s .behind))
     unfolding x
-    taken-after = ap (taken z) (replaced-split id x (h .places) s) ∙ taken-split z (s .before) x (s .behind) ∙ ap (λ (l : List ℕ). taken z (s .before) ++ (l ++ taken z (s .behind))) (f .place)
+    taken-after = ap (taken z) (replaced-split id x (h .places) s) ∙ taken-split z (s .before) x (s .behind)
+        ∙ ap (λ (l : List ℕ). taken z (s .before) ++ (l ++ taken z (s .behind))) (f .place)
 
     still-right : (l : List ℕ) → every (unused (f .slots)) l ≡ true → every (right z disk (h .diskroots)) l ≡ true → every (right z after afterRoots) l ≡ true
     unfolding right
     still-right l u v = every-two (unused (f .slots)) (right z disk (h .diskroots)) (right z after afterRoots) l u v
         (λ n p q. ap₂ (λ (a b : List ℕ). same a (root b)) (root-left n p) (slot-left n p) ∙ q)
 
-    own-right : ((j : ℕ) → j < size / z → same (sector 32 (h .diskroots) (h .stageroots) (spotOf (s .it .slots) staged j)) (root (sector z disk stage (spotOf (s .it .slots) staged j))) ≡ true)
+    own-right : ((j : ℕ) → j < size / z → same (sector 32 (h .diskroots) (h .stageroots) (spotOf (s .it .slots) staged j))
+        (root (sector z disk stage (spotOf (s .it .slots) staged j))) ≡ true)
         → every (right z after afterRoots) (f .slots) ≡ true
     unfolding right
     own-right agrees = every-all (right z after afterRoots) (f .slots) 0
         (λ j lt. let m : j < size / z = omega (arith, f .long) in ap₂ (λ (a b : List ℕ). same a (root b)) (roots-back j m) (sectors-back j m) ∙ agrees j m)
 
-    held-right : ((j : ℕ) → j < size / z → same (sector 32 (h .diskroots) (h .stageroots) (spotOf (s .it .slots) staged j)) (root (sector z disk stage (spotOf (s .it .slots) staged j))) ≡ true)
+    held-right : ((j : ℕ) → j < size / z → same (sector 32 (h .diskroots) (h .stageroots) (spotOf (s .it .slots) staged j))
+        (root (sector z disk stage (spotOf (s .it .slots) staged j))) ≡ true)
         → every (right z disk (h .diskroots)) (taken z (h .places)) ≡ true → every (right z after afterRoots) (taken z (replaced id x (h .places))) ≡ true
     held-right agrees before =
-        let was = subst (λ (l : List ℕ). every (right z disk (h .diskroots)) l ≡ true) (ap (taken z) (s .is) ∙ taken-split z (s .before) (s .it) (s .behind)) before in
+        let was = subst (λ (l : List ℕ). every (right z disk (h .diskroots)) l ≡ true) (ap (taken z) (s .is)
+            ∙ taken-split z (s .before) (s .it) (s .behind)) before in
         ap (every (right z after afterRoots)) taken-after
-        ∙ every-and _ (taken z (s .before)) _ (still-right _ (fore-unused (taken z (s .before)) (f .slots) (taken z (s .behind)) (f .own)) (every-fore _ (taken z (s .before)) _ was))
+        ∙ every-and _ (taken z (s .before)) _ (still-right _ (fore-unused (taken z (s .before)) (f .slots) (taken z (s .behind)) (f .own))
+            (every-fore _ (taken z (s .before)) _ was))
         (every-and _ (f .slots) _ (own-right agrees)
         (still-right _ (aft-unused (f .slots) (taken z (s .behind)) (apart-out eqb [] (taken z (s .before)) (f .slots ++ taken z (s .behind)) (f .own)))
         (every-aft _ (committed z (s .it)) _ (every-aft _ (taken z (s .before)) _ was))))
@@ -233,7 +257,8 @@ module _ (disk : List ℕ) (h : Host) (stage : List ℕ) (sound : Declared h) (o
     others-unused : every (unused (f .slots)) (taken z (replaced id noPlace (h .places))) ≡ true
     others-unused =
         ap (λ (l : List Place). every (unused (f .slots)) (taken z l)) (replaced-split id noPlace (h .places) s)
-        ∙ ap (every (unused (f .slots))) (taken-split z (s .before) noPlace (s .behind) ∙ ap (λ (l : List ℕ). taken z (s .before) ++ (l ++ taken z (s .behind))) (none-bare z))
+        ∙ ap (every (unused (f .slots))) (taken-split z (s .before) noPlace (s .behind)
+            ∙ ap (λ (l : List ℕ). taken z (s .before) ++ (l ++ taken z (s .behind))) (none-bare z))
         ∙ every-and _ (taken z (s .before)) (taken z (s .behind)) (fore-unused (taken z (s .before)) (f .slots) (taken z (s .behind)) (f .own))
         (aft-unused (f .slots) (taken z (s .behind)) (apart-out eqb [] (taken z (s .before)) (f .slots ++ taken z (s .behind)) (f .own)))
 
@@ -241,7 +266,8 @@ module _ (disk : List ℕ) (h : Host) (stage : List ℕ) (sound : Declared h) (o
     other-place other ne = whose-other id other x (h .places) (not-other id other x ne x-here) ne
 
     -- (of sectors and of the roots kept beside them alike: y bytes a slot)
-    other-alike : (y : ℕ) (new old : List ℕ) → ((n : ℕ) → unused (f .slots) n ≡ true → part new (n * y) y ≡ part old (n * y) y) → (other : List ℕ) → same id other ≡ false
+    other-alike : (y : ℕ) (new old : List ℕ) → ((n : ℕ) → unused (f .slots) n ≡ true → part new (n * y) y ≡ part old (n * y) y) → (other : List ℕ)
+        → same id other ≡ false
         → joined (sector y new []) (committedSpots z (whose other (h .places))) ≡ joined (sector y old []) (committedSpots z (whose other (h .places)))
     unfolding committedSpots sector
     other-alike y new old left other ne =
@@ -298,13 +324,16 @@ module _ (disk : List ℕ) (h : Host) (stage : List ℕ) (sound : Declared h) (o
 
   none-read : whose id (h .places) .held ≡ false → parentSpots z (settingOf h disk) (h .program .progress) ≡ []
   unfolding parentSpots tab settingBy
-  none-read e = ap (λ (n : ℕ). tab 0 n (spotOf (parent (settingOf h disk) .slots) (h .program .progress .staged))) (ap (λ (n : ℕ). n / z) (nobody e) ∙ zero-div z)
+  none-read e = ap (λ (n : ℕ). tab 0 n (spotOf (parent (settingOf h disk) .slots) (h .program .progress .staged)))
+      (ap (λ (n : ℕ). n / z) (nobody e) ∙ zero-div z)
 
-  nothing-back : (l : List ℕ) → whose id (h .places) .held ≡ false → copiedBack z stage (h .program .progress .staged) l 0 (h .program .progress .size / z) disk ≡ disk
+  nothing-back : (l : List ℕ) → whose id (h .places) .held ≡ false → copiedBack z stage (h .program .progress .staged) l 0
+      (h .program .progress .size / z) disk ≡ disk
   unfolding copiedBack
   nothing-back l e = ap (λ (n : ℕ). copiedBack z stage (h .program .progress .staged) l 0 n disk) (ap (λ (n : ℕ). n / z) (nobody e) ∙ zero-div z)
 
-  nobody-sectors : whose id (h .places) .held ≡ false → sectorsOf z disk (whose id (h .places)) ≡ whole z disk stage (parentSpots z (settingOf h disk) (h .program .progress))
+  nobody-sectors : whose id (h .places) .held ≡ false → sectorsOf z disk (whose id (h .places))
+      ≡ whole z disk stage (parentSpots z (settingOf h disk) (h .program .progress))
   unfolding sectorsOf whole joined
   nobody-sectors e = ap (whole z disk []) (none-committed e) ∙ sym (ap (whole z disk stage) (none-read e))
 
@@ -322,15 +351,19 @@ module _ (disk : List ℕ) (h : Host) (stage : List ℕ) (sound : Declared h) (o
   unfolding left withProgram withPlaces withDiskRoots id size staged settingBy rootOf rootBy keptRoot
   nobody-commits e l =
       let x = whose (h .program .terms .head .contract) (h .places) in
-      let same-places = replaced-none (h .program .terms .head .contract) (finalPlace x (h .program .progress .size) l) (h .places) (none-of (h .program .terms .head .contract) (h .places) e) in
+      let same-places = replaced-none (h .program .terms .head .contract) (finalPlace x (h .program .progress .size) l) (h .places)
+          (none-of (h .program .terms .head .contract) (h .places) e) in
       let same-disk : copiedBack z stage (h .program .progress .staged) l 0 (h .program .progress .size / z) disk ≡ disk = nothing-back l e in
-      let same-roots : copiedBack 32 (h .stageroots) (h .program .progress .staged) l 0 (h .program .progress .size / z) (h .diskroots) ≡ h .diskroots = nothing-back-roots l e in
+      let same-roots : copiedBack 32 (h .stageroots) (h .program .progress .staged) l 0 (h .program .progress .size / z) (h .diskroots)
+          ≡ h .diskroots = nothing-back-roots l e in
       record {
-        parent = ap₂ (λ (r : List ℕ) (ps : List Place). pairOf z (sector 32 r []) (whose (h .program .terms .head .contract) ps)) same-roots same-places ∙ nobody-pair e;
+        parent = ap₂ (λ (r : List ℕ) (ps : List Place). pairOf z (sector 32 r []) (whose (h .program .terms .head .contract) ps)) same-roots
+            same-places ∙ nobody-pair e;
         sectors = ap₂ (λ (d : List ℕ) (ps : List Place). sectorsOf z d (whose (h .program .terms .head .contract) ps)) same-disk same-places ∙ nobody-sectors e;
         others = λ other ne. (
           ap (whose other) same-places,
-          (ap (λ (d : List ℕ). sectorsOf z d (whose other (h .places))) same-disk, ap (λ (r : List ℕ). pairOf z (sector 32 r []) (whose other (h .places))) same-roots),
+          (ap (λ (d : List ℕ). sectorsOf z d (whose other (h .places))) same-disk,
+              ap (λ (r : List ℕ). pairOf z (sector 32 r []) (whose other (h .places))) same-roots),
         );
         slots = λ n out. (ap (λ (d : List ℕ). part d (n * z) z) same-disk, ap (λ (r : List ℕ). part r (n * 32) 32) same-roots);
         stage = refl;
@@ -344,30 +377,36 @@ module _ (disk : List ℕ) (h : Host) (stage : List ℕ) (sound : Declared h) (o
   abbrev Right : Closed → Type 0
   Right r = every (right (r .host .sector) (r .disk) (r .host .diskroots)) (taken (r .host .sector) (r .host .places)) ≡ true
 
-  nobody-right : whose id (h .places) .held ≡ false → (x : Place) (l : List ℕ) → every (right z disk (h .diskroots)) (taken z (h .places)) ≡ true → Right (left x l)
+  nobody-right : whose id (h .places) .held ≡ false → (x : Place) (l : List ℕ) → every (right z disk (h .diskroots)) (taken z (h .places)) ≡ true
+      → Right (left x l)
   unfolding left withProgram withPlaces withDiskRoots id size staged
   nobody-right e x l before =
       let new = finalPlace x (h .program .progress .size) l in
       let same-places = replaced-none (h .program .terms .head .contract) new (h .places) (none-of (h .program .terms .head .contract) (h .places) e) in
-      ap₂ (λ (d r : List ℕ). every (right z d r) (taken z (replaced (h .program .terms .head .contract) new (h .places)))) (nothing-back l e) (nothing-back-roots l e)
+      ap₂ (λ (d r : List ℕ). every (right z d r) (taken z (replaced (h .program .terms .head .contract) new (h .places)))) (nothing-back l e)
+          (nothing-back-roots l e)
       ∙ ap (λ (ps : List Place). every (right z disk (h .diskroots)) (taken z ps)) same-places ∙ before
 
   -- the root kept beside a spot is that of its sector
   abbrev agrees : Spot → Bool
   agrees y = same (sector 32 (h .diskroots) (h .stageroots) y) (root (sector z disk stage y))
 
-  held-left : (s : Split id (h .places)) (f : Final z (h .disk) size id (h .places) s) → every agrees (parentSpots z (settingOf h disk) (h .program .progress)) ≡ true
+  held-left : (s : Split id (h .places)) (f : Final z (h .disk) size id (h .places) s)
+      → every agrees (parentSpots z (settingOf h disk) (h .program .progress)) ≡ true
       → every (right z disk (h .diskroots)) (taken z (h .places)) ≡ true → Right (left (s .it) (f .slots))
   unfolding left withProgram withPlaces withDiskRoots after afterRoots x
   held-left s f now before =
       let spots = tab 0 (size / z) (spotOf (s .it .slots) staged) in
       held-right s f
-      (λ j lt. subst (λ (y : Spot). agrees y ≡ true) (getD-tab 0 (size / z) (spotOf (s .it .slots) staged) j (OnDisk 0) lt ∙ ap (spotOf (s .it .slots) staged) (let e : 0 + j ≡ j = omega arith in e))
-      (every-get agrees spots j (OnDisk 0) (omega (arith, length-tab 0 (size / z) (spotOf (s .it .slots) staged))) (subst (λ (l : List Spot). every agrees l ≡ true) (spots-are s f) now)))
+      (λ j lt. subst (λ (y : Spot). agrees y ≡ true) (getD-tab 0 (size / z) (spotOf (s .it .slots) staged) j (OnDisk 0) lt
+          ∙ ap (spotOf (s .it .slots) staged) (let e : 0 + j ≡ j = omega arith in e))
+      (every-get agrees spots j (OnDisk 0) (omega (arith, length-tab 0 (size / z) (spotOf (s .it .slots) staged)))
+          (subst (λ (l : List Spot). every agrees l ≡ true) (spots-are s f) now)))
       before
 
   -- a commit leaves roots that are right, where they were right of all that is committed and of the parent as it is read
-  pub commit-right : every agrees (parentSpots z (settingOf h disk) (h .program .progress)) ≡ true → every (right z disk (h .diskroots)) (taken z (h .places)) ≡ true
+  pub commit-right : every agrees (parentSpots z (settingOf h disk) (h .program .progress)) ≡ true
+      → every (right z disk (h .diskroots)) (taken z (h .places)) ≡ true
       → Right (commit disk h stage)
   unfolding id size settingBy
   commit-right now before =
@@ -375,7 +414,8 @@ module _ (disk : List ℕ) (h : Host) (stage : List ℕ) (sound : Declared h) (o
       (λ e. let q = order-places h o in
       let s = split id (h .places) (place-twins z (h .disk) (h .places) (q .0)) e in
       let f = final z (h .disk) size id (h .places) s (order-some h o) (q .1) (q .0) (sound .places) (good .orderly .whole) (good .orderly .within) in
-      subst Right (sym (commit-left ∙ ap (λ (x : Place). left x (finalSlots z (h .disk) (h .places) x size)) (s .whose-is) ∙ ap (left (s .it)) (f .is))) (held-left s f now before))
+      subst Right (sym (commit-left ∙ ap (λ (x : Place). left x (finalSlots z (h .disk) (h .places) x size)) (s .whose-is)
+          ∙ ap (left (s .it)) (f .is))) (held-left s f now before))
       (λ e. subst Right (sym commit-left) (nobody-right e _ _ before))
 
   commits : Committed h (lends disk stage) (commit disk h stage)

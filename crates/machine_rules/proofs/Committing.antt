@@ -21,13 +21,15 @@ use Rattle.host.specs.Places.{whose, others, committed, taken}
 use Rattle.host.specs.Order.{placeInOrder, twins, placesInOrder, inOrder}
 use Rattle.host.specs.Calls.{replaced}
 use Rattle.host.proofs.Laws.Order.{facts-contracts, order-facts}
-use Rattle.machine_rules.specs.View.{settingBy, settingOf, parent}
+use Rattle.machine_rules.specs.View.{settingBy, parent}
 use Rattle.machine_rules.specs.Commit.{cut, newSlots, finalSlots, finalPlace, copiedBack, commit}
 use Rattle.machine_rules.specs.Visit.{Shaped, Declared}
 use Rattle.machine_rules.proofs.Laws.Effects.{whole-sectors}
 use Rattle.machine_rules.proofs.Laws.Sizes.{has-held, has-same, keeps-not, place-size, others-left}
 use Rattle.machine_rules.proofs.Laws.Slots.{every-and, every-fore, every-aft, apart-out, apart-in, free-enough, Fresh, new-slots}
-use Rattle.machine_rules.proofs.Laws.Split.{apart-alike, Split, split, every-first, every-rest, every-cons, replaced-none, replaced-split, taken-split, others-append, others-none, cut-held, cut-within, cut-rest, cut-prefix, cut-most, shaped-fore, shaped-aft, none-of}
+use Rattle.machine_rules.proofs.Laws.Split.{apart-alike, Split, split, every-first, every-rest, every-cons, replaced-none, replaced-split}
+use Rattle.machine_rules.proofs.Laws.Split.{taken-split, others-append, others-none, cut-held, cut-within, cut-rest, cut-prefix, cut-most}
+use Rattle.machine_rules.proofs.Laws.Split.{shaped-fore, shaped-aft, none-of}
 use Rattle.machine_rules.proofs.Laws.Taking.{order-good}
 use Rattle.host.specs.declared.Place.{Place}
 use Rattle.host.specs.declared.Host.{Host}
@@ -42,7 +44,8 @@ pub record Final (z disk size : ℕ) (id : List ℕ) (ps : List Place) (s : Spli
   pub kept : (j : ℕ) → j < size / z → j < s .it .size / z → getD slots j 0 ≡ getD (s .it .slots) j 0
   pub place : committed z (finalPlace (s .it) size slots) ≡ slots
 
-module _ (z disk size : ℕ) (id : List ℕ) (ps : List Place) (s : Split id ps) (pos : 0 < z) (few : disk ≤ 64) (o : placesInOrder z disk ps ≡ true) (shape : Shaped ps)
+module _ (z disk size : ℕ) (id : List ℕ) (ps : List Place) (s : Split id ps) (pos : 0 < z) (few : disk ≤ 64) (o : placesInOrder z disk ps ≡ true)
+    (shape : Shaped ps)
     (whole : size % z ≡ 0) (fits : size + others id ps ≤ disk * z) where
   unfoldable pub old : Place
   old = s .it
@@ -63,11 +66,13 @@ module _ (z disk size : ℕ) (id : List ℕ) (ps : List Place) (s : Split id ps)
   -- the places before and behind, in order
   apart-taken : apart eqb (taken z (s .before) ++ (committed z old ++ taken z (s .behind))) ≡ true
   unfolding old placesInOrder
-  apart-taken = subst (λ (l : List ℕ). apart eqb l ≡ true) (ap (taken z) (s .is) ∙ taken-split z (s .before) (s .it) (s .behind)) (both-left _ _ (both-right _ _ (both-right _ _ o)))
+  apart-taken = subst (λ (l : List ℕ). apart eqb l ≡ true) (ap (taken z) (s .is) ∙ taken-split z (s .before) (s .it) (s .behind))
+      (both-left _ _ (both-right _ _ (both-right _ _ o)))
 
   below-taken : every (λ x. ltb x disk) (taken z (s .before) ++ (committed z old ++ taken z (s .behind))) ≡ true
   unfolding old placesInOrder
-  below-taken = subst (λ (l : List ℕ). every (λ x. ltb x disk) l ≡ true) (ap (taken z) (s .is) ∙ taken-split z (s .before) (s .it) (s .behind)) (both-right _ _ (both-right _ _ (both-right _ _ o)))
+  below-taken = subst (λ (l : List ℕ). every (λ x. ltb x disk) l ≡ true) (ap (taken z) (s .is) ∙ taken-split z (s .before) (s .it) (s .behind))
+      (both-right _ _ (both-right _ _ (both-right _ _ o)))
 
   each-place : every (placeInOrder z) (s .before ++ (s .it ∷ s .behind)) ≡ true
   unfolding placesInOrder
@@ -92,13 +97,16 @@ module _ (z disk size : ℕ) (id : List ℕ) (ps : List Place) (s : Split id ps)
   unfolding used keep n old
   enough =
       let a = others-none z id (s .before) (s .not-before) (every-fore _ (s .before) _ each-place) (shaped-fore (s .before) _ shape-split) in
-      let b = others-none z id (s .behind) (s .not-behind) (every-rest _ (s .it) (s .behind) (every-aft _ (s .before) _ each-place)) (shaped-aft (s .before) _ shape-split .1) in
+      let b = others-none z id (s .behind) (s .not-behind) (every-rest _ (s .it) (s .behind) (every-aft _ (s .before) _ each-place))
+          (shaped-aft (s .before) _ shape-split .1) in
       let c : others id ps ≡ length (taken z (s .before)) * z + length (taken z (s .behind)) * z =
-      ap (others id) (s .is) ∙ others-append id (s .before) (s .it ∷ s .behind) ∙ omega (arith, a, b, others-left id (s .it) (s .behind) (keeps-not (s .it .held) (same (s .it .id) id) (has-same id (s .it) (s .here)))) in
+      ap (others id) (s .is) ∙ others-append id (s .before) (s .it ∷ s .behind)
+          ∙ omega (arith, a, b, others-left id (s .it) (s .behind) (keeps-not (s .it .held) (same (s .it .id) id) (has-same id (s .it) (s .here)))) in
       let w = whole-sectors z size whole in
       let d : size / z + (length (taken z (s .before)) + length (taken z (s .behind))) ≤ disk =
       le-of-mul-le-mul-right {m = size / z + (length (taken z (s .before)) + length (taken z (s .behind)))} {n = disk} {k = z}
-      (omega (arith, fits, c, w, add-mul (size / z) (length (taken z (s .before)) + length (taken z (s .behind))) z, add-mul (length (taken z (s .before))) (length (taken z (s .behind))) z)) pos in
+      (omega (arith, fits, c, w, add-mul (size / z) (length (taken z (s .before)) + length (taken z (s .behind))) z,
+          add-mul (length (taken z (s .before))) (length (taken z (s .behind))) z)) pos in
       omega (
         arith,
         d,
@@ -132,13 +140,15 @@ module _ (z disk size : ℕ) (id : List ℕ) (ps : List Place) (s : Split id ps)
 
   committed-place : committed z place ≡ keep ++ new
   unfolding place committed n finalPlace withSlots withSize
-  committed-place = picks (old .held) (take (size / z) ((keep ++ new) ++ zeros (64 - length (keep ++ new)))) [] held ∙ take-at (keep ++ new) _ (size / z) length-final
+  committed-place = picks (old .held) (take (size / z) ((keep ++ new) ++ zeros (64 - length (keep ++ new)))) [] held
+      ∙ take-at (keep ++ new) _ (size / z) length-final
 
   apart-final : apart eqb (taken z (s .before) ++ ((keep ++ new) ++ taken z (s .behind))) ≡ true
   unfolding used
   apart-final =
       subst (λ (l : List ℕ). apart eqb l ≡ true)
-      (append-assoc (taken z (s .before)) keep (new ++ taken z (s .behind)) ∙ ap (λ (l : List ℕ). taken z (s .before) ++ l) (sym (append-assoc keep new (taken z (s .behind)))))
+      (append-assoc (taken z (s .before)) keep (new ++ taken z (s .behind)) ∙ ap (λ (l : List ℕ). taken z (s .before) ++ l)
+          (sym (append-assoc keep new (taken z (s .behind)))))
       (apart-in (taken z (s .before) ++ keep) new (taken z (s .behind))
       (subst (λ (l : List ℕ). apart eqb l ≡ true) (sym (append-assoc (taken z (s .before)) keep (taken z (s .behind)))) apart-used) (is-fresh .own)
       (subst (λ (l : List ℕ). every (unused l) new ≡ true) (sym (append-assoc (taken z (s .before)) keep (taken z (s .behind)))) (is-fresh .unused)))
@@ -149,7 +159,8 @@ module _ (z disk size : ℕ) (id : List ℕ) (ps : List Place) (s : Split id ps)
       let rest = every-aft _ (taken z (s .before)) _ below-taken in
       let mine = subst (λ (l : List ℕ). every (λ x. ltb x disk) l ≡ true) (cut-prefix z size old pos held) (every-fore _ (committed z old) _ rest) in
       every-and _ (taken z (s .before)) _ (every-fore _ (taken z (s .before)) _ below-taken)
-      (every-and _ (keep ++ new) _ (every-and _ keep new (every-fore _ keep (cut-rest z size old) mine) (is-fresh .within)) (every-aft _ (committed z old) _ rest))
+      (every-and _ (keep ++ new) _ (every-and _ keep new (every-fore _ keep (cut-rest z size old) mine) (is-fresh .within))
+          (every-aft _ (committed z old) _ rest))
 
   old-order : placeInOrder z old ≡ true
   unfolding old
@@ -160,18 +171,22 @@ module _ (z disk size : ℕ) (id : List ℕ) (ps : List Place) (s : Split id ps)
   place-order =
       let w = whole-sectors z size whole in
       let q : size / z ≤ disk = le-of-mul-le-mul-right {m = size / z} {n = disk} {k = z} (omega (arith, fits)) pos in
-      skips (not (old .held)) true _ (ap not held) ∙ both-join _ _ (ap not (place-size z old old-order held .2)) (both-join _ _ (eq-eqb _ 0 whole) (le-leb (size / z) 64 (omega arith)))
+      skips (not (old .held)) true _ (ap not held) ∙ both-join _ _ (ap not (place-size z old old-order held .2))
+          (both-join _ _ (eq-eqb _ 0 whole) (le-leb (size / z) 64 (omega arith)))
 
   -- "positions past the final size free their slots; kept positions keep theirs; new ones, ascending, take the lowest free": the places are in order
   pub committed-order : placesInOrder z disk (replaced id place ps) ≡ true
   unfolding placesInOrder old
   committed-order =
       let e = replaced-split id place ps s in
-      let t = ap (taken z) e ∙ taken-split z (s .before) place (s .behind) ∙ ap (λ (l : List ℕ). taken z (s .before) ++ (l ++ taken z (s .behind))) committed-place in
+      let t = ap (taken z) e ∙ taken-split z (s .before) place (s .behind)
+          ∙ ap (λ (l : List ℕ). taken z (s .before) ++ (l ++ taken z (s .behind))) committed-place in
       both-join _ _
-      (ap (every (placeInOrder z)) e ∙ every-and _ (s .before) (place ∷ s .behind) (every-fore _ (s .before) _ each-place) (every-cons _ place (s .behind) place-order (every-rest _ (s .it) (s .behind) (every-aft _ (s .before) _ each-place))))
+      (ap (every (placeInOrder z)) e ∙ every-and _ (s .before) (place ∷ s .behind) (every-fore _ (s .before) _ each-place)
+          (every-cons _ place (s .behind) place-order (every-rest _ (s .it) (s .behind) (every-aft _ (s .before) _ each-place))))
       (both-join _ _
-      (ap (apart twins) e ∙ apart-alike (s .before) place (s .it) (s .behind) place-held place-id ∙ sym (ap (apart twins) (s .is)) ∙ both-left _ _ (both-right _ _ o))
+      (ap (apart twins) e ∙ apart-alike (s .before) place (s .it) (s .behind) place-held place-id ∙ sym (ap (apart twins) (s .is))
+          ∙ both-left _ _ (both-right _ _ o))
       (both-join _ _ (ap (apart eqb) t ∙ apart-final) (ap (every (λ x. ltb x disk)) t ∙ below-final)))
 
   -- the slots that `commit` works out are these
@@ -180,7 +195,8 @@ module _ (z disk size : ℕ) (id : List ℕ) (ps : List Place) (s : Split id ps)
   final-is =
       let e : s .it .id ≡ id = same-eq (s .it .id) id (has-same id (s .it) (s .here)) in
       ap (λ (l : List ℕ). committed z (cut size (s .it)) ++ newSlots disk l (size / z - length (committed z (cut size (s .it)))))
-      (ap (λ (i : List ℕ). taken z (replaced i (cut size (s .it)) ps)) e ∙ ap (taken z) (replaced-split id (cut size (s .it)) ps s) ∙ taken-split z (s .before) (cut size (s .it)) (s .behind))
+      (ap (λ (i : List ℕ). taken z (replaced i (cut size (s .it)) ps)) e ∙ ap (taken z) (replaced-split id (cut size (s .it)) ps s)
+          ∙ taken-split z (s .before) (cut size (s .it)) (s .behind))
 
   length-old : length (old .slots) ≡ 64
   unfolding old
@@ -192,8 +208,10 @@ module _ (z disk size : ℕ) (id : List ℕ) (ps : List Place) (s : Split id ps)
       let e = cut-held z size old held in
       let n = cut-within z size (old .size) j pos lo hi in
       let small = place-size z old old-order held .1 in
-      let long : j < length (take (min (old .size) size / z) (old .slots)) = omega (arith, length-take (min (old .size) size / z) (old .slots), length-old, n, small) in
-      List·getD-append (committed z (cut size old)) new 0 j (omega (arith, ap length e)) ∙ ap (λ (l : List ℕ). getD l j 0) e ∙ getD-take (min (old .size) size / z) (old .slots) j 0 n
+      let long : j < length (take (min (old .size) size / z) (old .slots)) =
+          omega (arith, length-take (min (old .size) size / z) (old .slots), length-old, n, small) in
+      List·getD-append (committed z (cut size old)) new 0 j (omega (arith, ap length e)) ∙ ap (λ (l : List ℕ). getD l j 0) e
+          ∙ getD-take (min (old .size) size / z) (old .slots) j 0 n
 
   pub final : Final z disk size id ps s
   unfolding old place n
@@ -203,12 +221,16 @@ module _ (z disk size : ℕ) (id : List ℕ) (ps : List Place) (s : Split id ps)
 
 commit-places : (disk : List ℕ) (h : Host) (stage : List ℕ) → let old = whose (h .program .terms .head .contract) (h .places) in
     commit disk h stage .host
-    ≡ withDiskRoots (withProgram (withPlaces h (replaced (h .program .terms .head .contract) (finalPlace old (h .program .progress .size) (finalSlots (h .sector) (h .disk) (h .places) old (h .program .progress .size))) (h .places))) noProgram)
-    (copiedBack 32 (h .stageroots) (h .program .progress .staged) (finalSlots (h .sector) (h .disk) (h .places) old (h .program .progress .size)) 0 (h .program .progress .size / h .sector) (h .diskroots))
+    ≡ withDiskRoots (withProgram
+        (withPlaces h (replaced (h .program .terms .head .contract) (finalPlace old (h .program .progress .size)
+        (finalSlots (h .sector) (h .disk) (h .places) old (h .program .progress .size))) (h .places))) noProgram)
+    (copiedBack 32 (h .stageroots) (h .program .progress .staged) (finalSlots (h .sector) (h .disk) (h .places) old (h .program .progress .size)) 0
+        (h .program .progress .size / h .sector) (h .diskroots))
 unfolding commit parent settingBy
 commit-places disk h stage = refl
 
-idle-order : (h : Host) (ps : List Place) (roots : List ℕ) → inOrder h ≡ true → placesInOrder (h .sector) (h .disk) ps ≡ true → inOrder (withDiskRoots (withProgram (withPlaces h ps) noProgram) roots) ≡ true
+idle-order : (h : Host) (ps : List Place) (roots : List ℕ) → inOrder h ≡ true → placesInOrder (h .sector) (h .disk) ps ≡ true
+    → inOrder (withDiskRoots (withProgram (withPlaces h ps) noProgram) roots) ≡ true
 unfolding inOrder withProgram withPlaces withDiskRoots noProgram
 idle-order h ps roots o q =
     let b = both-right _ _ o in
@@ -231,7 +253,8 @@ pub final-place : (z disk size : ℕ) (id : List ℕ) (ps : List Place) (it : Pl
 final-place z disk size id ps it l e f =
     ap (λ (x : Place). finalPlace x size (finalSlots z disk ps x size)) e ∙ ap (λ (m : List ℕ). finalPlace it size m) f
 
-pub commit-order : (disk : List ℕ) (h : Host) (stage : List ℕ) → Declared h → inOrder h ≡ true → h .program .active ≡ true → inOrder (commit disk h stage .host) ≡ true
+pub commit-order : (disk : List ℕ) (h : Host) (stage : List ℕ) → Declared h → inOrder h ≡ true → h .program .active ≡ true
+    → inOrder (commit disk h stage .host) ≡ true
 unfolding settingBy place old
 commit-order disk h stage sound o live =
     let id = h .program .terms .head .contract in
@@ -243,6 +266,7 @@ commit-order disk h stage sound o live =
     (by (whose id (h .places) .held)
     (λ e. let s = split id (h .places) (place-twins (h .sector) (h .disk) (h .places) (q .0)) e in
     ap (λ (x : Place). placesInOrder (h .sector) (h .disk) (replaced id x (h .places)))
-    (final-place (h .sector) (h .disk) size id (h .places) (s .it) _ (s .whose-is) (final-is (h .sector) (h .disk) size id (h .places) s (order-some h o) (q .1) (q .0) (sound .places) (g .whole) (g .within)))
+    (final-place (h .sector) (h .disk) size id (h .places) (s .it) _ (s .whose-is)
+        (final-is (h .sector) (h .disk) size id (h .places) s (order-some h o) (q .1) (q .0) (sound .places) (g .whole) (g .within)))
     ∙ committed-order (h .sector) (h .disk) size id (h .places) s (order-some h o) (q .1) (q .0) (sound .places) (g .whole) (g .within))
     (λ e. ap (placesInOrder (h .sector) (h .disk)) (replaced-none id _ (h .places) (none-of id (h .places) e)) ∙ q .0))

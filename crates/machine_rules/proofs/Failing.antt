@@ -42,7 +42,8 @@ writes : (z : ℕ) (s : Setting) (i : Instruction) (l : List (List ℕ)) (t : Tu
     → Failed z s (judged z s (rootAt z s t) (t .progress) i l) t (stepped z s i l t)
 unfolding stepped
 writes z s i l t n =
-    subst (λ (x : Turn). Failed z s (judged z s (rootAt z s t) (t .progress) i l) t x) (sym (skips (eqb (judged z s (rootAt z s t) (t .progress) i l) 0) _ _ (ne-eqb _ _ n)))
+    subst (λ (x : Turn). Failed z s (judged z s (rootAt z s t) (t .progress) i l) t x)
+        (sym (skips (eqb (judged z s (rootAt z s t) (t .progress) i l) 0) _ _ (ne-eqb _ _ n)))
     (fails z s (judged z s (rootAt z s t) (t .progress) i l) t)
 
 stopped : (s : Setting) (k : ℕ) (t : Turn) → t .progress .failed ≡ true → ready s k t ≡ false
@@ -56,7 +57,8 @@ ends z s input k t f = runs-stop z s input k (s .terms .head .count) t (stopped 
 -- ---- the tally
 
 charged : (z : ℕ) (s : Setting) (i : Instruction) (l : List (List ℕ)) (t : Turn) → judged z s (rootAt z s t) (t .progress) i l ≡ 0
-    → stepped z s i l t .progress .tally ≡ t .progress .tally + cost (s .terms .head .length) (s .terms .prices) (opOf (i .name)) (argsOf (opOf (i .name)) l .len)
+    → stepped z s i l t .progress .tally ≡ t .progress .tally + cost (s .terms .head .length) (s .terms .prices) (opOf (i .name))
+        (argsOf (opOf (i .name)) l .len)
 unfolding stepped succeeding ranProgress
 charged z s i l t e = ap (λ (x : Turn). x .progress .tally) (picks (eqb (judged z s (rootAt z s t) (t .progress) i l) 0) _ _ (eq-eqb _ _ e))
 
@@ -82,10 +84,12 @@ step-within : (z : ℕ) (s : Setting) (i : Instruction) (l : List (List ℕ)) (t
     → stepped z s i l t .progress .tally ≤ s .terms .budget
 step-within z s i l t h =
     by (eqb (judged z s (rootAt z s t) (t .progress) i l) 0)
-    (λ e. let j : judged z s (rootAt z s t) (t .progress) i l ≡ 0 = eqb-true _ _ e in omega (arith, charged z s i l t j, paid z s (rootAt z s t) (t .progress) i l j))
+    (λ e. let j : judged z s (rootAt z s t) (t .progress) i l ≡ 0 = eqb-true _ _ e in
+        omega (arith, charged z s i l t j, paid z s (rootAt z s t) (t .progress) i l j))
     (λ e. let f = writes z s i l t (eqb-false _ _ e) in omega (arith, h, ap (λ (p : Progress). p .tally) (f .progress), same-tally (t .progress)))
 
-runs-within : (z : ℕ) (s : Setting) (a : List ℕ) (k n : ℕ) (t : Turn) → t .progress .tally ≤ s .terms .budget → runs z s a k n t .progress .tally ≤ s .terms .budget
+runs-within : (z : ℕ) (s : Setting) (a : List ℕ) (k n : ℕ) (t : Turn) → t .progress .tally ≤ s .terms .budget
+    → runs z s a k n t .progress .tally ≤ s .terms .budget
 unfolding runs step
 runs-within z s a k zero t h = h
 runs-within z s a k (suc n) t h =
@@ -94,14 +98,16 @@ runs-within z s a k (suc n) t h =
     (runs-within z s a k n (step z s a t) (step-within z s (current s t) (inputsOf (current s t) a) t h)))
     (λ r. subst (λ (x : Turn). x .progress .tally ≤ s .terms .budget) (sym (runs-stop z s a k (suc n) t r)) h)
 
-pub within : (z : ℕ) (s : Setting) (input : List ℕ) (k : ℕ) (t : Turn) → t .progress .tally ≤ s .terms .budget → run z s input k t .progress .tally ≤ s .terms .budget
+pub within : (z : ℕ) (s : Setting) (input : List ℕ) (k : ℕ) (t : Turn) → t .progress .tally ≤ s .terms .budget
+    → run z s input k t .progress .tally ≤ s .terms .budget
 unfolding run
 within z s input k t h = runs-within z s input k (s .terms .head .count) t h
 
 -- ---- its sum
 
 own : (z : ℕ) (s : Setting) (i : Instruction) (l : List (List ℕ)) (t : Turn) → stepped z s i l t .progress .tally
-    ≡ t .progress .tally + pick (eqb (judged z s (rootAt z s t) (t .progress) i l) 0) (cost (s .terms .head .length) (s .terms .prices) (opOf (i .name)) (argsOf (opOf (i .name)) l .len)) 0
+    ≡ t .progress .tally + pick (eqb (judged z s (rootAt z s t) (t .progress) i l) 0)
+        (cost (s .terms .head .length) (s .terms .prices) (opOf (i .name)) (argsOf (opOf (i .name)) l .len)) 0
 own z s i l t =
     by (eqb (judged z s (rootAt z s t) (t .progress) i l) 0)
     (λ e. let j : judged z s (rootAt z s t) (t .progress) i l ≡ 0 = eqb-true _ _ e in

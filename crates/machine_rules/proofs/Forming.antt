@@ -31,7 +31,7 @@ use Rattle.machine_rules.proofs.Laws.Others.{none-bare}
 use Rattle.machine_rules.proofs.Laws.Ways.{either-way}
 use Rattle.host.specs.declared.Place.{Place}
 use Rattle.host.specs.declared.Host.{Host}
-use Rattle.host.specs.declared.Answer.{Answer}
+use Rattle.host.specs.declared.Made.{Made}
 
 -- ---- one place among others
 
@@ -40,7 +40,8 @@ unfolding some
 some-cons p x m a b = either-join _ _ a b
 
 -- a place that is no twin of any other may stand among them
-apart-with : (l : List Place) (x : Place) (m : List Place) → apart twins (l ++ m) ≡ true → some (twins x) m ≡ false → every (λ q. not (twins q x)) l ≡ true → apart twins (l ++ (x ∷ m)) ≡ true
+apart-with : (l : List Place) (x : Place) (m : List Place) → apart twins (l ++ m) ≡ true → some (twins x) m ≡ false → every (λ q. not (twins q x)) l ≡ true
+    → apart twins (l ++ (x ∷ m)) ≡ true
 unfolding every
 apart-with [] x m h s e = join-apart twins x m s h
 apart-with (p ∷ l) x m h s e =
@@ -56,7 +57,8 @@ record Stands (z : ℕ) (l : List Place) (x : Place) (m : List Place) : Type 0 w
   behind : some (twins x) m ≡ false
   before : every (λ q. not (twins q x)) l ≡ true
 
-stand : (z disk : ℕ) (l : List Place) (y x : Place) (m : List Place) → Stands z l x m → placesInOrder z disk (l ++ (y ∷ m)) ≡ true → placesInOrder z disk (l ++ (x ∷ m)) ≡ true
+stand : (z disk : ℕ) (l : List Place) (y x : Place) (m : List Place) → Stands z l x m → placesInOrder z disk (l ++ (y ∷ m)) ≡ true
+    → placesInOrder z disk (l ++ (x ∷ m)) ≡ true
 stand z disk l y x m s h =
     let o = contracts-facts z disk _ h in
     let was = taken-split z l y m in
@@ -66,7 +68,8 @@ stand z disk l y x m s h =
       each = every-and _ l (x ∷ m) (every-fore _ l _ (o .each)) (every-cons _ x m (s .order) (every-rest _ y m (every-aft _ l _ (o .each))));
       differ = apart-with l x m (apart-out twins l (y ∷ []) m (o .differ)) (s .behind) (s .before);
       own = ap (apart eqb) is ∙ apart-out eqb (taken z l) (committed z y) (taken z m) (ap (apart eqb) (sym was) ∙ o .own);
-      below = ap (every (λ k. ltb k disk)) is ∙ every-and _ (taken z l) (taken z m) (every-fore _ (taken z l) _ below) (every-aft _ (committed z y) _ (every-aft _ (taken z l) _ below));
+      below = ap (every (λ k. ltb k disk)) is ∙ every-and _ (taken z l) (taken z m) (every-fore _ (taken z l) _ below)
+          (every-aft _ (committed z y) _ (every-aft _ (taken z l) _ below));
     })
 
 -- ---- dropping
@@ -150,7 +153,8 @@ free id (p ∷ ps) h =
 -- ---- the calls
 
 -- a host in order without a program, with other places in order
-idle : (h : Host) (ps : List Place) → inOrder h ≡ true → h .program .active ≡ false → placesInOrder (h .sector) (h .disk) ps ≡ true → inOrder (withPlaces h ps) ≡ true
+idle : (h : Host) (ps : List Place) → inOrder h ≡ true → h .program .active ≡ false → placesInOrder (h .sector) (h .disk) ps ≡ true
+    → inOrder (withPlaces h ps) ≡ true
 unfolding inOrder withPlaces
 idle h ps o a q =
     let b = both-right _ _ o in
@@ -177,13 +181,14 @@ formed-places z disk id ps word absent room o =
     })
     (ap (placesInOrder z disk) (sym (f .is)) ∙ o)
 
-dropped-places : (z disk : ℕ) (id : List ℕ) (ps : List Place) → whose id ps .held ≡ true → placesInOrder z disk ps ≡ true → placesInOrder z disk (replaced id noPlace ps) ≡ true
+dropped-places : (z disk : ℕ) (id : List ℕ) (ps : List Place) → whose id ps .held ≡ true → placesInOrder z disk ps ≡ true
+    → placesInOrder z disk (replaced id noPlace ps) ≡ true
 dropped-places z disk id ps there o =
     let s = split id ps (contracts-facts z disk ps o .differ) there in
     ap (placesInOrder z disk) (replaced-split id noPlace ps s)
     ∙ stand z disk (s .before) (s .it) noPlace (s .behind) (none-stands z (s .before) (s .behind)) (ap (placesInOrder z disk) (sym (s .is)) ∙ o)
 
-abbrev Fine : Answer → Type 0
+abbrev Fine : Made → Type 0
 Fine r = inOrder (r .host) ≡ true
 
 pub forming : (h : Host) (id : List ℕ) → inOrder h ≡ true → Fine (formed h id)
@@ -217,18 +222,18 @@ unfolding inOrder bare noProgram
 bare-order z disk stage e d s =
     both-join _ _ e (both-join _ _ d (both-join _ _ s (both-join _ _ (none-places z disk) (picks (not false) true _ refl))))
 
-abbrev Made : Answer → Type 0
-Made r = r .number ≡ 0 → Fine r
+abbrev MadeFine : Made → Type 0
+MadeFine r = r .number ≡ 0 → Fine r
 
-abbrev Unmade : Answer → Type 0
+abbrev Unmade : Made → Type 0
 Unmade r = (r .number ≡ 0 → ⊥) → (r .number ≡ 2) × (inOrder (r .host) ≡ false)
 
 pub making : (z disk stage : ℕ) → freshed z disk stage .number ≡ 0 → Fine (freshed z disk stage)
 unfolding freshed lengthRight
 making z disk stage =
-    either-way Made (not (isSize z)) _ _ (λ _ n. absurd (omega arith)) (λ e.
-    either-way Made (not (lengthRight z 64 disk)) _ _ (λ _ n. absurd (omega arith)) (λ d.
-    either-way Made (not (lengthRight z 16 stage)) _ _ (λ _ n. absurd (omega arith)) (λ s n.
+    either-way MadeFine (not (isSize z)) _ _ (λ _ n. absurd (omega arith)) (λ e.
+    either-way MadeFine (not (lengthRight z 64 disk)) _ _ (λ _ n. absurd (omega arith)) (λ d.
+    either-way MadeFine (not (lengthRight z 16 stage)) _ _ (λ _ n. absurd (omega arith)) (λ s n.
     bare-order z (disk / z) (stage / z) (not-false _ e) (both-right _ _ (not-false _ d)) (both-right _ _ (not-false _ s)))))
 
 pub unmade : (z disk stage : ℕ) → (freshed z disk stage .number ≡ 0 → ⊥) → (freshed z disk stage .number ≡ 2) × (inOrder (freshed z disk stage .host) ≡ false)

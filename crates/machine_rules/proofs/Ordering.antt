@@ -27,7 +27,8 @@ use Rattle.host.specs.Calls.{formed, dropped}
 use Rattle.host.proofs.Laws.Order.{order-facts}
 use Rattle.machine_rules.specs.View.{settingBy, settingOf, turnOf}
 use Rattle.machine_rules.specs.Run.{failing, going, run}
-use Rattle.machine_rules.specs.Calls.{roomRight, begun, openedHead, opened, Pieced, accepted, piece, Interrupted, stopped, interrupt, reached, acceptedBy, pieceBy, interruptBy, stoppedBy, reachedBy}
+use Rattle.machine_rules.specs.Calls.{roomRight, begun, openedHead, opened, Pieced, accepted, piece, Interrupted, stopped, interrupt}
+use Rattle.machine_rules.specs.Calls.{reached, acceptedBy, pieceBy, interruptBy, stoppedBy, reachedBy}
 use Rattle.machine_rules.specs.Commit.{Closed, givenUp, close, agreedBy, closeBy}
 use Rattle.machine_rules.specs.Visit.{Areas, Opening, Agreement, opens, gives, stops, closes, Declared}
 use Rattle.machine_rules.specs.Outcome.{Refused}
@@ -44,7 +45,7 @@ use Rattle.sia.specs.declared.Head.{Head}
 use Rattle.host.specs.declared.Prices.{Prices}
 use Rattle.host.specs.declared.Program.{Program}
 use Rattle.host.specs.declared.Host.{Host}
-use Rattle.host.specs.declared.Answer.{Answer as Contract}
+use Rattle.host.specs.declared.Made.{Made}
 use Rattle.machine_rules.specs.declared.Answer.{Answer}
 use Rattle.machine_rules.specs.declared.Reached.{Reached}
 
@@ -58,7 +59,8 @@ fresh-staged stage start =
       slots = refl;
       own = refl;
       below = every-drop (λ n. eqb n none) start (replicate 64 none) refl;
-      past = ap (λ (l : List ℕ). every (λ n. not (eqb n none)) l) (drop-of-length-le (take start (replicate 64 none)) {i = start} (omega (arith, length-take start (replicate 64 none))));
+      past = ap (λ (l : List ℕ). every (λ n. not (eqb n none)) l) (drop-of-length-le (take start (replicate 64 none)) {i = start}
+          (omega (arith, length-take start (replicate 64 none))));
     }
 
 parent-held : (b c : Bool) → b ≡ false → both (not b) (not c) ≡ false → c ≡ true
@@ -81,8 +83,11 @@ begun-good h hd budget p room sound o hh right held paid =
     (λ e. skips (same id readOnly) _ _ e ∙ parent-held (same id readOnly) _ e held))
     (both-join _ _ hh right))
     (both-join _ _ (le-leb 0 (hd .length) (omega arith))
-    (both-join _ _ (le-leb 0 (hd .count) (omega arith)) (both-join _ _ (le-leb _ _ paid) (both-join _ _ (le-leb (0 + pick false 0 72) room (omega (arith, leb-true 72 room (both-left _ _ right), skips {A = ℕ} false 0 72 refl)))
-    (both-join _ _ (eq-eqb _ _ (whose-whole (h .sector) id (h .places) each-place)) (both-join _ _ (le-leb _ _ (le-trans fits (mul-le-mul-right {m = length (taken (h .sector) (h .places))} {n = h .disk} (h .sector) few)))
+    (both-join _ _ (le-leb 0 (hd .count) (omega arith))
+        (both-join _ _ (le-leb _ _ paid)
+        (both-join _ _ (le-leb (0 + pick false 0 72) room (omega (arith, leb-true 72 room (both-left _ _ right), skips {A = ℕ} false 0 72 refl)))
+    (both-join _ _ (eq-eqb _ _ (whose-whole (h .sector) id (h .places) each-place))
+        (both-join _ _ (le-leb _ _ (le-trans fits (mul-le-mul-right {m = length (taken (h .sector) (h .places))} {n = h .disk} (h .sector) few)))
     (facts-staged _ _ _ _ (fresh-staged (h .stage) (whose id (h .places) .size / h .sector)))))))))
 
 -- a host in order with another program that is in order, or none
@@ -107,9 +112,11 @@ pub opening : (h : Host) (bytes : List ℕ) (budget : ℕ) (p : Prices) (room : 
 unfolding opened openedHead
 opening h bytes budget p room sound bs o =
     let way = either-way (λ (r : Answer). inOrder (r .host) ≡ true) in
-    way _ _ _ (λ _. o) (λ _. way _ _ _ (λ _. o) (λ right. way _ _ _ (λ _. o) (λ _. way _ _ _ (λ _. o) (λ fault. way _ _ _ (λ _. o) (λ held. way _ _ _ (λ _. o) (λ paid.
+    way _ _ _ (λ _. o) (λ _. way _ _ _ (λ _. o)
+        (λ right. way _ _ _ (λ _. o) (λ _. way _ _ _ (λ _. o) (λ fault. way _ _ _ (λ _. o) (λ held. way _ _ _ (λ _. o) (λ paid.
     begun-order h (decode bytes .head) budget p room o
-    (begun-good h (decode bytes .head) budget p room sound o (read-head bytes bs (eqb-true _ _ (not-false _ fault))) (not-false _ right) held (ltb-false _ _ paid))))))))
+    (begun-good h (decode bytes .head) budget p room sound o (read-head bytes bs (eqb-true _ _ (not-false _ fault))) (not-false _ right) held
+        (ltb-false _ _ paid))))))))
 
 -- ---- pieces
 
@@ -118,7 +125,8 @@ pub accepted-order : (disk : List ℕ) (h : Host) (stage input output bytes : Li
 unfolding acceptedBy run turnOf
 accepted-order disk h stage input output bytes sound o live fit =
     good-order h disk (h .program .came + length bytes) _ _ o fit
-    (runs-good (h .sector) (settingOf h disk) (put input (h .program .came) bytes) (h .program .came + length bytes) (settingOf h disk .terms .head .count) (turnOf h stage output)
+    (runs-good (h .sector) (settingOf h disk) (put input (h .program .came) bytes) (h .program .came + length bytes)
+        (settingOf h disk .terms .head .count) (turnOf h stage output)
     (order-lent h disk o) (order-good h disk o live (sound .staged)))
 
 pieces : (disk : List ℕ) (h : Host) (stage input output bytes : List ℕ) → Declared h → inOrder h ≡ true
@@ -140,7 +148,8 @@ pub stopped-order : (disk : List ℕ) (h : Host) (output : List ℕ) → Declare
 unfolding stoppedBy failing turnOf settingBy
 stopped-order disk h output sound o live g =
     good-order h disk (h .program .came) _ _ o (came-within h o live)
-    (failed-good (h .sector) (settingOf h disk) (h .program .progress) (not-failed (settingOf h disk) (turnOf h [] output) g) (order-good h disk o live (sound .staged)))
+    (failed-good (h .sector) (settingOf h disk) (h .program .progress) (not-failed (settingOf h disk) (turnOf h [] output) g)
+        (order-good h disk o live (sound .staged)))
 
 interrupts : (disk : List ℕ) (h : Host) (output : List ℕ) → Declared h → inOrder h ≡ true → inOrder (interrupt disk h output .host) ≡ true
 unfolding interruptBy
@@ -169,8 +178,8 @@ closing disk h stage agree size root sound o =
 pub damaged : (h : Host) (a : Areas) → inOrder h ≡ false → Refused h a
 unfolding formed dropped opened openedHead pieceBy interruptBy reachedBy closeBy
 damaged h a e = record {
-  forming = λ id. ap (λ (r : Contract). r .number) (picks (not (inOrder h)) _ _ (ap not e));
-  dropping = λ id. ap (λ (r : Contract). r .number) (picks (not (inOrder h)) _ _ (ap not e));
+  forming = λ id. ap (λ (r : Made). r .number) (picks (not (inOrder h)) _ _ (ap not e));
+  dropping = λ id. ap (λ (r : Made). r .number) (picks (not (inOrder h)) _ _ (ap not e));
   opening = λ o. ap (λ (r : Answer). r .number) (picks (not (inOrder h)) _ _ (ap not e));
   piece = λ bytes. ap (λ (r : Pieced). r .number) (picks (not (inOrder h)) _ _ (ap not e));
   interrupt = ap (λ (r : Interrupted). r .number) (picks (not (inOrder h)) _ _ (ap not e));

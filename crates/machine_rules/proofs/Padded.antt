@@ -23,7 +23,7 @@ use Rattle.machine_rules.proofs.Nothing.{nothing, close-ways}
 use Rattle.machine_rules.proofs.Renaming.Alike.{alike}
 use Rattle.host.specs.declared.Place.{Place}
 use Rattle.host.specs.declared.Host.{Host}
-use Rattle.host.specs.declared.Answer.{Answer}
+use Rattle.host.specs.declared.Made.{Made}
 
 -- ---- no call forms one
 
@@ -81,7 +81,7 @@ Before h id after = holds after id ≡ true → holds h id ≡ true
 formed-before : (h : Host) (id other : List ℕ) → padded id ≡ true → Before h id (formed h other .host)
 unfolding formed withPlaces
 formed-before h id other e =
-    let way = either-way (λ (r : Answer). Before h id (r .host)) in
+    let way = either-way (λ (r : Made). Before h id (r .host)) in
     way _ _ _ (λ _ k. k) (λ _. way _ _ _ (λ _ k. k) (λ _. way _ _ _ (λ _ k. k) (λ _. way _ _ _ (λ _ k. k) (λ short.
     way _ _ _ (λ _ k. k) (λ _. way _ _ _ (λ _ k. k) (λ _ k.
     let apart = by (same other id) (λ w. never (sym e ∙ ap padded (sym (same-eq other id w)) ∙ short)) (λ w. w) in
@@ -90,7 +90,7 @@ formed-before h id other e =
 dropped-before : (h : Host) (id other : List ℕ) → Before h id (dropped h other .host)
 unfolding dropped withPlaces
 dropped-before h id other =
-    let way = either-way (λ (r : Answer). Before h id (r .host)) in
+    let way = either-way (λ (r : Made). Before h id (r .host)) in
     way _ _ _ (λ _ k. k) (λ _. way _ _ _ (λ _ k. k) (λ _. way _ _ _ (λ _ k. k) (λ _. way _ _ _ (λ _ k. k) (λ _ k.
     held-some id (h .places)
     ∙ some-replaced id other noPlace (h .places) (λ q _ g. never (sym g ∙ none-not id))
@@ -155,7 +155,7 @@ bare-none z disk stage id = refl
 fresh-none : (z disk stage : ℕ) (id : List ℕ) → holds (freshed z disk stage .host) id ≡ false
 unfolding freshed
 fresh-none z disk stage id =
-    let way = either-way (λ (r : Answer). holds (r .host) id ≡ false) in
+    let way = either-way (λ (r : Made). holds (r .host) id ≡ false) in
     way _ _ _ (λ _. bare-none 0 0 0 id) (λ _. way _ _ _ (λ _. bare-none 0 0 0 id) (λ _.
     way _ _ _ (λ _. bare-none 0 0 0 id) (λ _. bare-none _ _ _ id)))
 

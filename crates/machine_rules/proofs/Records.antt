@@ -18,7 +18,7 @@ use Rattle.machine_rules.specs.Inputs.{inputsOf}
 use Rattle.machine_rules.specs.Plan.{judged}
 use Rattle.machine_rules.specs.Run.{failedProgress, failing, ranProgress, succeeding, stepped, current, step, going, ready, runs, run}
 use Rattle.machine_rules.specs.Visit.{Areas}
-use Rattle.machine_rules.specs.Trace.{together, lentTo, made, after, recorded, trail, wholeRun, met, firstRecords, recordsIn, wholeRunBy}
+use Rattle.machine_rules.specs.Trace.{together, lentTo, made, after, recorded, trail, met, firstRecords, recordsIn, wholeRunBy}
 use Rattle.machine_rules.specs.Facts.{Good, Lent, Solid}
 use Rattle.machine_rules.proofs.Laws.Steps.{runs-zero, runs-go, runs-stop, ready-going, not-failed}
 use Rattle.machine_rules.proofs.Laws.Trails.{stepped-output, trail-zero, trail-go, trail-stop, firsts, counted}
@@ -30,7 +30,8 @@ use Rattle.sia.specs.declared.Instruction.{Instruction}
 use Rattle.host.specs.declared.Progress.{Progress}
 use Rattle.host.specs.declared.Host.{Host}
 
-step-written : (z : ℕ) (s : Setting) (a : List ℕ) (t : Turn) → Solid z s → Good z s (t .progress) → length (t .stage) ≡ s .copies * z → length (s .roots) ≡ 2048 → length (t .roots) ≡ 512
+step-written : (z : ℕ) (s : Setting) (a : List ℕ) (t : Turn) → Solid z s → Good z s (t .progress) → length (t .stage) ≡ s .copies * z
+    → length (s .roots) ≡ 2048 → length (t .roots) ≡ 512
     → step z s a t .progress .written ≡ t .progress .written + length (recorded z s a t)
 unfolding step recorded
 step-written z s a t solid g e d c = stepped-written z s (current s t) (inputsOf (current s t) a) t solid g e d c

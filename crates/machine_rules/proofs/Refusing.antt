@@ -6,8 +6,9 @@ use lib.IntN.{pos}
 use Rattle.area.specs.Pick.{pick}
 use Rattle.host.specs.Calls.{formed, dropped}
 use Rattle.host.specs.Calls as Contract
-use Rattle.machine_rules.specs.Calls.{answered, openedHead, opened, pieced, accepted, piece, interrupted, stopped, interrupt, reachedAt, noPair, reached, acceptedBy, pieceBy, interruptBy, stoppedBy, reachedBy}
-use Rattle.machine_rules.specs.Commit.{closed, givenUp, commit, close, agreedBy, closeBy}
+use Rattle.machine_rules.specs.Calls.{answered, openedHead, opened, pieced, piece, interrupted, interrupt, reachedAt, noPair, reached}
+use Rattle.machine_rules.specs.Calls.{acceptedBy, pieceBy, interruptBy, stoppedBy, reachedBy}
+use Rattle.machine_rules.specs.Commit.{closed, givenUp, commit, agreedBy, closeBy}
 use Rattle.machine_rules.specs.Visit.{Areas}
 use Rattle.machine_rules.specs.Demand1.{Refusals}
 use Rattle.host.specs.declared.Host.{Host}
@@ -46,7 +47,8 @@ refusals h a = record {
   interrupt =
       let or = refused-or (λ r. r .number) (λ n. interrupted n 0 h (a .output)) (λ n. refl) (λ r. r .number ≡ 0 → ⊥) in
       or _ _ _ (or _ _ _ (or _ _ _ (or _ _ _
-      (either-way (λ r. r .number) (λ n. interrupted n 0 h (a .output)) (λ n. refl) (λ r. r .number ≡ 0 → ⊥) _ _ _ (λ n. absurd (n refl)) (λ n. absurd (n refl))))));
+      (either-way (λ r. r .number) (λ n. interrupted n 0 h (a .output)) (λ n. refl) (λ r. r .number ≡ 0 → ⊥) _ _ _ (λ n. absurd (n refl))
+          (λ n. absurd (n refl))))));
   reached =
       let or = refused-or (λ r. r .number) (λ n. reachedAt n noPair) (λ n. refl) (λ r. r .number ≡ 0 → ⊥) in
       or _ _ _ (or _ _ _ (or _ _ _ (λ n. absurd (n refl))));

@@ -25,7 +25,7 @@ use Rattle.machine_rules.proofs.Laws.Ways.{either-way}
 use Rattle.machine_rules.proofs.Nothing.{close-ways}
 use Rattle.machine_rules.proofs.Ordering.{damaged}
 use Rattle.host.specs.declared.Host.{Host}
-use Rattle.host.specs.declared.Answer as Contract
+use Rattle.host.specs.declared.Made.{Made}
 use Rattle.machine_rules.specs.declared.Answer.{Answer}
 
 -- ---- making
@@ -33,14 +33,14 @@ use Rattle.machine_rules.specs.declared.Answer.{Answer}
 made : (z disk stage : ℕ) → freshed z disk stage .number ≡ 0 → freshed z disk stage .host .sector ≡ z
 unfolding freshed bare
 made z disk stage =
-    let way = either-way (λ (r : Contract.Answer). r .number ≡ 0 → r .host .sector ≡ z) in
+    let way = either-way (λ (r : Made). r .number ≡ 0 → r .host .sector ≡ z) in
     way _ _ _ (λ _ n. absurd (omega arith)) (λ _. way _ _ _ (λ _ n. absurd (omega arith)) (λ _.
     way _ _ _ (λ _ n. absurd (omega arith)) (λ _ _. refl)))
 
 refused : (z disk stage : ℕ) → (freshed z disk stage .number ≡ 0 → ⊥) → freshed z disk stage ≡ answered 2 (bare 0 0 0)
 unfolding freshed
 refused z disk stage =
-    let way = either-way (λ (r : Contract.Answer). (r .number ≡ 0 → ⊥) → r ≡ answered 2 (bare 0 0 0)) in
+    let way = either-way (λ (r : Made). (r .number ≡ 0 → ⊥) → r ≡ answered 2 (bare 0 0 0)) in
     way _ _ _ (λ _ _. refl) (λ _. way _ _ _ (λ _ _. refl) (λ _. way _ _ _ (λ _ _. refl) (λ _ n. absurd (n refl))))
 
 -- so many sectors are a length that can be lent
@@ -71,14 +71,14 @@ module _ (h : Host) (a : Areas) where
   forming : (id : List ℕ) → Still (formed h id .host)
   unfolding formed withPlaces
   forming id =
-      let way = either-way (λ (r : Contract.Answer). Still (r .host)) in
+      let way = either-way (λ (r : Made). Still (r .host)) in
       way _ _ _ (λ _. refl) (λ _. way _ _ _ (λ _. refl) (λ _. way _ _ _ (λ _. refl) (λ _. way _ _ _ (λ _. refl) (λ _.
       way _ _ _ (λ _. refl) (λ _. way _ _ _ (λ _. refl) (λ _. refl))))))
 
   dropping : (id : List ℕ) → Still (dropped h id .host)
   unfolding dropped withPlaces
   dropping id =
-      let way = either-way (λ (r : Contract.Answer). Still (r .host)) in
+      let way = either-way (λ (r : Made). Still (r .host)) in
       way _ _ _ (λ _. refl) (λ _. way _ _ _ (λ _. refl) (λ _. way _ _ _ (λ _. refl) (λ _. way _ _ _ (λ _. refl) (λ _. refl))))
 
   opening : (o : Opening) → Still (opens h o .host)

@@ -13,7 +13,6 @@ use Rattle.area.specs.Area.{same}
 use Rattle.area.proofs.Laws.Pick.{by, picks, skips, never}
 use Rattle.area.proofs.Laws.Same.{eq-same}
 use Rattle.area.proofs.Laws.Tab.{length-tab, getD-tab}
-use Rattle.tree.specs.Tree as Tree
 use Rattle.sia.specs.Encode.{joined}
 use Rattle.host.specs.Lists.{each, apart, firstOf}
 use Rattle.host.specs.Places.{hasId, whose, committed, taken}
@@ -22,7 +21,8 @@ use Rattle.host.proofs.Laws.Order.{order-facts}
 use Rattle.machine_rules.specs.View.{Way, Setting, Turn, settingBy, settingOf, turnOf, readOnlyMode, sector}
 use Rattle.machine_rules.specs.View.{parent, spotOf, parentSpots, committedSpots}
 use Rattle.machine_rules.specs.Roots.{sectorRoot, rootBy, rootOf, rootAt}
-use Rattle.machine_rules.specs.Seats.{seated, committedSeats, seats, nobody, allSeats, seatsOf, firstSeat, seatsIn, isStaged, notLocated, locatedAt, locatedBy}
+use Rattle.machine_rules.specs.Seats.{seated, committedSeats, seats, nobody, allSeats, seatsOf, firstSeat, seatsIn, isStaged, notLocated}
+use Rattle.machine_rules.specs.Seats.{locatedAt, locatedBy}
 use Rattle.machine_rules.specs.Inputs.{illFormed, pastEnd, wellFormed, argsOf}
 use Rattle.machine_rules.specs.Plan.{Source, missing, seen, isThere, changes, soughtSource, sectorSource, sourceOf, judgedInputs, judged}
 use Rattle.machine_rules.specs.Visit.{Areas, Sound}

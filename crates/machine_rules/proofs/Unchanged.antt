@@ -10,7 +10,7 @@ use Rattle.host.proofs.Laws.Order.{order-facts}
 use Rattle.machine_rules.specs.View.{settingOf, parent, areasRight, readOnlyMode, settingBy}
 use Rattle.machine_rules.specs.Record.{samePair}
 use Rattle.machine_rules.specs.Calls.{noPair}
-use Rattle.machine_rules.specs.Commit.{Closed, closed, givenUp, agreed, commit, unfinished, close, closeBy, agreedBy}
+use Rattle.machine_rules.specs.Commit.{Closed, closed, givenUp, agreed, commit, unfinished, closeBy, agreedBy}
 use Rattle.machine_rules.specs.Visit.{Areas, Agreement, named, closes, Finished}
 use Rattle.machine_rules.specs.Trace.{starting, running, Unchanged}
 use Rattle.machine_rules.specs.Outcome.{Dropped}

@@ -1,5 +1,5 @@
 -- Visits: a program opened on a host in order takes pieces cut anywhere; records, tally and close after them. Assumes nothing.
-use mathlib.Core.Path.{_≡_, refl, sym, ap, ap₂, _∙_, subst}
+use mathlib.Core.Path.{_≡_, refl, sym, ap, _∙_, subst}
 use mathlib.Core.Bool.{false}
 use mathlib.Core.List.{List, [], _∷_, _++_}
 use Prim.Native.Nat.{ℕ, _+_, _≤_, _<_}
@@ -27,7 +27,6 @@ use Rattle.machine_rules.proofs.Cutting.{all-taken, cut-state, cut-alik
 use Rattle.machine_rules.proofs.Records.{after-count, after-output, after-written}
 use Rattle.machine_rules.proofs.Showing.{after-shows}
 use Rattle.machine_rules.proofs.Commits.{agreements}
-use Rattle.host.specs.declared.Place.{Place}
 use Rattle.host.specs.declared.Host.{Host}
 
 -- ---- pieces cut anywhere

@@ -9,7 +9,7 @@ use Rattle.machine_rules.specs.Seats.{locatedBy}
 use Rattle.machine_rules.specs.Calls.{Pieced, Interrupted}
 use Rattle.machine_rules.specs.Commit.{Closed}
 use Rattle.machine_rules.specs.Visit.{Areas, Opening, Agreement, opens, givesBy, stopsBy, reachesBy, closesBy}
-use Rattle.host.specs.declared.Answer.{Answer as Contract}
+use Rattle.host.specs.declared.Made.{Made}
 use Rattle.host.specs.declared.Host.{Host}
 use Rattle.machine_rules.specs.declared.Answer.{Answer}
 use Rattle.machine_rules.specs.declared.Reached.{Reached}
@@ -51,7 +51,7 @@ AllSaid (c ∷ l) = Said c × AllSaid l
 
 -- all that it answers and leaves
 pub data Result : Type 0 where
-  ofContract : Contract → Result
+  ofContract : Made → Result
   ofOpening : Answer → Result
   ofPiece : Pieced → Result
   ofInterrupt : Interrupted → Result

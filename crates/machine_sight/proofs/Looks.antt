@@ -21,7 +21,8 @@ module _ (z : ℕ) (s : Setting) (diskroots : List ℕ) (solid : Solid z s) (d :
     slots = slots-hold 32 diskroots (s .sectors) (taken z (s .places)) (omega (arith, solid .lent .most, d)) (solid .slots);
   }
 
-  pub program-seeks : (stageroots : List ℕ) → length stageroots ≡ 512 → (p : Progress) → Good z s p → Seeks z diskroots stageroots (s .places) (s .terms .head .contract) (p .staged) (p .size)
+  pub program-seeks : (stageroots : List ℕ) → length stageroots ≡ 512 → (p : Progress) → Good z s p
+      → Seeks z diskroots stageroots (s .places) (s .terms .head .contract) (p .staged) (p .size)
   unfolding parentSpots parent
   program-seeks stageroots e p good =
       let few = few-sectors z s p (solid .lent) good in

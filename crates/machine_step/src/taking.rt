@@ -27,7 +27,8 @@ pub fn step<'a>(
     stage: &mut [u8],
     output: &mut [u8],
 ) -> Progress
-    requires { ⌜ Steps z (setting sectors copies places terms (now disk) (now diskroots)) (turn progress (now stage) (now output) (now stageroots)) (now input) ⌝ }
+    requires { ⌜ Steps z (setting sectors copies places terms (now disk) (now diskroots)) (turn progress (now stage) (now output) (now stageroots))
+        (now input) ⌝ }
     ensures { λ r. ⌜ turn r (now (stage .exit)) (now (output .exit)) (now (stageroots .exit)) ≡
         stepped z (setting sectors copies places terms (now (disk .entry)) (now (diskroots .entry))) i (inputsOf i (now (input .entry)))
         (turn progress (now (stage .entry)) (now (output .entry)) (now (stageroots .entry))) ⌝ }

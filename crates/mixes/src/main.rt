@@ -6,8 +6,8 @@
 // number of the first refusal if there was one, and the digests of the disk and of the records of the last visit.
 ghost use Prim.Native.Nat.{_+_, _≤_};
 ghost use lib.ListN.{length};
-use host::Host;
-use host::Prices;
+use machine::Host;
+use machine::Prices;
 use libc::STDIN_FILENO;
 use libc::STDOUT_FILENO;
 use sia::Number;

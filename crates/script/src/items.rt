@@ -2,8 +2,8 @@
 // is made.
 ghost use Prim.Native.Nat.{_+_, _≤_, _<_};
 ghost use lib.ListN.{length};
-use host::Host;
-use host::Prices;
+use machine::Host;
+use machine::Prices;
 use script_report::Made;
 
 // The most bytes of segments and hashes that are given to the checker.

@@ -9,7 +9,7 @@ mod items; // items.rt: each kind of item, and its call
 mod reader; // reader.rt: items from standard input
 mod shapes; // shapes.rt: where an item ends
 
-use host::Host;
+use machine::Host;
 pub use reader::ITEM;
 
 // The most bytes of a report: the answer of `reached` with its root, three numbers, eight places with 64 slots each, an open program, six digests.

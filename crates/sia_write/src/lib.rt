@@ -91,7 +91,8 @@ fn put_instructions(list: [Instruction; 32], n: usize, out: &mut [u8], at: usize
     requires { ⌜ n ≤ 32 ⌝ }
     requires { ⌜ every fewOperands (take n list) ≡ true ⌝ }
     requires { ⌜ at + length (joined instructionBytes (take n list)) ≤ length (now out) ⌝ }
-    ensures { λ r. ⌜ (r ≡ at + length (joined instructionBytes (take n list))) × (now (out .exit) ≡ put (now (out .entry)) at (joined instructionBytes (take n list))) ⌝ }
+    ensures { λ r. ⌜ (r ≡ at + length (joined instructionBytes (take n list)))
+        × (now (out .exit) ≡ put (now (out .entry)) at (joined instructionBytes (take n list))) ⌝ }
 {
     let mut place = at;
     let mut i: usize = 0;

@@ -37,7 +37,8 @@ fn rebuild(
     p: usize,
 ) -> Built
     requires { ⌜ Rebuilt (now bytes) (now given) at n depth first end p ⌝ }
-    ensures { λ r. ⌜ (r .next ≡ p + 32 * hashes depth at n first end) × (r .root ≡ rebuilt depth at n first end (leafOf false (now (bytes .entry))) (now (given .entry)) p) ⌝ }
+    ensures { λ r. ⌜ (r .next ≡ p + 32 * hashes depth at n first end)
+        × (r .root ≡ rebuilt depth at n first end (leafOf false (now (bytes .entry))) (now (given .entry)) p) ⌝ }
 {
     if walks::outside(at, n, first, end) {
         let root = hashing::read(given, p);

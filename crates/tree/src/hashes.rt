@@ -21,7 +21,8 @@ fn walk(
     p: usize,
 ) -> usize
     requires { ⌜ Written roots (now bytes) at n depth first end (now out) p ⌝ }
-    ensures { λ r. ⌜ (r ≡ p + 32 * hashes depth at n first end) × (now (out .exit) ≡ put (now (out .entry)) p (Says.walk depth at n first end (leafOf roots (now (bytes .entry))))) ⌝ }
+    ensures { λ r. ⌜ (r ≡ p + 32 * hashes depth at n first end)
+        × (now (out .exit) ≡ put (now (out .entry)) p (Says.walk depth at n first end (leafOf roots (now (bytes .entry))))) ⌝ }
 {
     if walks::outside(at, n, first, end) {
         let root = walks::over(bytes, roots, at, n, depth);
@@ -52,7 +53,8 @@ pub fn write(
     p: usize,
 ) -> usize
     requires { ⌜ Written roots (now bytes) 0 n 64 first end (now out) p ⌝ }
-    ensures { λ r. ⌜ (r ≡ p + 32 * hashes 64 0 n first end) × (now (out .exit) ≡ put (now (out .entry)) p (Says.walk 64 0 n first end (leafOf roots (now (bytes .entry))))) ⌝ }
+    ensures { λ r. ⌜ (r ≡ p + 32 * hashes 64 0 n first end)
+        × (now (out .exit) ≡ put (now (out .entry)) p (Says.walk 64 0 n first end (leafOf roots (now (bytes .entry))))) ⌝ }
 {
     walk(bytes, roots, 0, n, walks::depth(n), first, end, out, p)
 }

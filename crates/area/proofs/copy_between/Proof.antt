@@ -21,24 +21,6 @@ abbrev μ-loop : tie.MeasureT-loop
 loop-holds : tie.Need-loop-holds Inv-loop μ-loop
 loop-holds c = (omega arith, refl, sym (put-nil _ _))
 
-add-dst : tie.Need-add-dst Inv-loop μ-loop
-add-dst c = omega arith
-
-shared-slice-read-dst : tie.Need-shared-slice-read-dst Inv-loop μ-loop
-shared-slice-read-dst c = omega arith
-
-add-dst-2 : tie.Need-add-dst-2 Inv-loop μ-loop
-add-dst-2 c = omega arith
-
-slice-write-dst : tie.Need-slice-write-dst Inv-loop μ-loop
-slice-write-dst c = omega arith
-
-add-i : tie.Need-add-i Inv-loop μ-loop
-add-i c = omega arith
-
-loop-less : tie.Need-loop-less Inv-loop μ-loop
-loop-less c = omega arith
-
 loop-again : tie.Need-loop-again Inv-loop μ-loop
 loop-again c = (
   omega arith,
@@ -46,25 +28,10 @@ loop-again c = (
   one-more _ _ _ _ (length-part _ _ _ (omega arith)) (omega arith) (sym (getD-part _ _ _ _ (omega arith))) (c .before .before .loop .inv .2),
 )
 
-same-length : tie.Need-same-length Inv-loop μ-loop
-same-length c = search needs
-
 returns : tie.Need-returns Inv-loop μ-loop
 returns c = all-laid _ _ _ _ (length-part _ _ _ (omega arith)) (c .loop-test .left) (c .before .loop .inv .2)
 
 pub copy-between-spec : {M : Type 1} → statement M
 copy-between-spec =
-    tie.close
-    (tie.spec
-    Inv-loop
-    μ-loop
-    loop-holds
-    add-dst
-    shared-slice-read-dst
-    add-dst-2
-    slice-write-dst
-    add-i
-    loop-less
-    loop-again
-    same-length
-    returns)
+    tie.close (tie.spec Inv-loop μ-loop loop-holds (λ c. omega arith) (λ c. omega arith) (λ c. omega arith) (λ c. omega arith)
+        (λ c. omega arith) (λ c. omega arith) loop-again (λ c. search needs) returns)

@@ -23,51 +23,19 @@ abbrev μ-loop : tie.MeasureT-loop
 loop-holds : tie.Need-loop-holds Inv-loop μ-loop
 loop-holds c = (omega arith, refl, sym (put-nil _ _))
 
-add-a : tie.Need-add-a Inv-loop μ-loop
-add-a c = omega arith
-
-slice-read-a : tie.Need-slice-read-a Inv-loop μ-loop
-slice-read-a c = omega arith
-
-add-a-2 : tie.Need-add-a-2 Inv-loop μ-loop
-add-a-2 c = omega arith
-
-slice-write-a : tie.Need-slice-write-a Inv-loop μ-loop
-slice-write-a c = omega arith
-
-add-i : tie.Need-add-i Inv-loop μ-loop
-add-i c = omega arith
-
-loop-less : tie.Need-loop-less Inv-loop μ-loop
-loop-less c = omega arith
-
 loop-again : tie.Need-loop-again Inv-loop μ-loop
 loop-again c =
     let l = c .before .before .loop in
     let a = c .before .before .before .args in
     let n : length (part (a .a .now) (a .from) (a .n)) ≡ a .n = length-part _ _ _ (omega arith) in
-    let read = ap (λ (x : List ℕ). getD x (a .from + l .i) 0) (l .inv .2) ∙ getD-behind _ _ _ _ (omega (arith, length-take-le (l .i) (part (a .a .now) (a .from) (a .n)) (omega arith))) in
+    let read = ap (λ (x : List ℕ). getD x (a .from + l .i) 0) (l .inv .2)
+        ∙ getD-behind _ _ _ _ (omega (arith, length-take-le (l .i) (part (a .a .now) (a .from) (a .n)) (omega arith))) in
     (omega arith, search needs, one-more _ _ _ _ n (omega arith) (read ∙ sym (getD-part _ _ _ _ (omega arith))) (l .inv .2))
-
-same-length : tie.Need-same-length Inv-loop μ-loop
-same-length c = search needs
 
 returns : tie.Need-returns Inv-loop μ-loop
 returns c = all-laid _ _ _ _ (length-part _ _ _ (omega arith)) (c .loop-test .left) (c .before .loop .inv .2)
 
 pub move-down-spec : {M : Type 1} → statement M
 move-down-spec =
-    tie.close
-    (tie.spec
-    Inv-loop
-    μ-loop
-    loop-holds
-    add-a
-    slice-read-a
-    add-a-2
-    slice-write-a
-    add-i
-    loop-less
-    loop-again
-    same-length
-    returns)
+    tie.close (tie.spec Inv-loop μ-loop loop-holds (λ c. omega arith) (λ c. omega arith) (λ c. omega arith) (λ c. omega arith)
+        (λ c. omega arith) (λ c. omega arith) loop-again (λ c. search needs) returns)

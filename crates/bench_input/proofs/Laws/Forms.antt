@@ -17,7 +17,7 @@ use Rattle.machine_rules.proofs.Laws.Ways.{either-way, passes}
 use Rattle.bench_program.specs.Single.{formedInTurn}
 use Rattle.host.specs.declared.Place.{Place}
 use Rattle.host.specs.declared.Host.{Host}
-use Rattle.host.specs.declared.Answer.{Answer}
+use Rattle.host.specs.declared.Made.{Made}
 
 -- how many places are free
 unfoldable pub free : List Place → ℕ
@@ -48,7 +48,7 @@ formed-free h id a =
     let c6 = passes (λ r. r .number) _ (answered 6 h) _ (λ n. absurd (omega arith)) (c15 .1) in
     let c8 = passes (λ r. r .number) _ (answered 8 h) _ (λ n. absurd (omega arith)) (c6 .1) in
     formed-at-free id (h .places) (not-false _ (c8 .0))
-    ∙ ap (λ (r : Answer). suc (free (r .host .places))) (sym (c1 .2 ∙ c3 .2 ∙ c5 .2 ∙ c15 .2 ∙ c6 .2 ∙ c8 .2))
+    ∙ ap (λ (r : Made). suc (free (r .host .places))) (sym (c1 .2 ∙ c3 .2 ∙ c5 .2 ∙ c15 .2 ∙ c6 .2 ∙ c8 .2))
 
 -- with k places free, the first k + 1 ids are enough
 pub first-ids : (k : ℕ) (h : Host) (ids : List (List ℕ)) → free (h .places) ≤ k → formedInTurn h ids ≡ formedInTurn h (take (suc k) ids)
@@ -71,5 +71,5 @@ bare-free z d s = omega arith
 pub fresh-free : (z d s : ℕ) → free (freshed z d s .host .places) ≤ 8
 unfolding freshed
 fresh-free z d s =
-    let way = either-way (λ (r : Answer). free (r .host .places) ≤ 8) in
+    let way = either-way (λ (r : Made). free (r .host .places) ≤ 8) in
     way _ _ _ (λ _. bare-free 0 0 0) (λ _. way _ _ _ (λ _. bare-free 0 0 0) (λ _. way _ _ _ (λ _. bare-free 0 0 0) (λ _. bare-free _ _ _)))

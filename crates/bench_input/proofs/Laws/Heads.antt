@@ -13,7 +13,8 @@ use borrow.Author.Tests.{le-ltb, leb-true, leb-false}
 use Rattle.area.specs.Pick.{pick}
 use Rattle.area.proofs.Laws.Pick.{by, skips}
 use Rattle.sia.specs.Empty.{noOperand, noInstruction, noHead}
-use Rattle.sia.specs.Decode.{Reading, value, fault, after, bytes, number, limited, flag, several, entries, operand, operands, instruction, instructions, head, told, answer, decode}
+use Rattle.sia.specs.Decode.{Reading, value, fault, after, bytes, number, limited, flag, several, entries, operand, operands, instruction}
+use Rattle.sia.specs.Decode.{instructions, head, told, answer, decode}
 use Rattle.sia.proofs.Laws.Inverse.{split, past, same-value, limited-within}
 use Rattle.sia.specs.declared.Head.{Head}
 
@@ -35,7 +36,8 @@ record Within {A : Type 0} (k : ℕ) (r : List ℕ → Reading A) : Type 0 where
 wider : {A : Type 0} {r : List ℕ → Reading A} (k m : ℕ) → k ≤ m → Within k r → Within m r
 wider k m h w = record { alike = λ d bs g. w .alike d bs (omega arith); uses = λ bs x rest e. omega (arith, w .uses bs x rest e) }
 
-cut-after : {A B : Type 0} (next : A → List ℕ → Reading B) (d : ℕ) (q : Reading A) → ((x : A) (rest : List ℕ) → q ≡ value x rest → next x (less d rest) ≡ shorter d (next x rest))
+cut-after : {A B : Type 0} (next : A → List ℕ → Reading B) (d : ℕ) (q : Reading A)
+    → ((x : A) (rest : List ℕ) → q ≡ value x rest → next x (less d rest) ≡ shorter d (next x rest))
     → after (shorter d q) next ≡ shorter d (after q next)
 unfolding after shorter
 cut-after next d (fault n) f = refl
@@ -52,7 +54,8 @@ both-within P k m r next w p v = record {
       omega (arith, w .uses bs (s .x) (s .rest) (s .first), v (s .x) (p bs (s .x) (s .rest) (s .first)) .uses (s .rest) y end (s .second));
 }
 
-then : {A B : Type 0} (k m : ℕ) (r : List ℕ → Reading A) (next : A → List ℕ → Reading B) → Within k r → ((x : A) → Within m (next x)) → Within (k + m) (λ bs. after (r bs) next)
+then : {A B : Type 0} (k m : ℕ) (r : List ℕ → Reading A) (next : A → List ℕ → Reading B) → Within k r → ((x : A) → Within m (next x))
+    → Within (k + m) (λ bs. after (r bs) next)
 then {A} k m r next w v = both-within (λ (x : A). Unit {0}) k m r next w (λ bs x rest e. tt) (λ x u. v x)
 
 no-bytes : {A : Type 0} (x : A) → Within 0 (λ rest. value x rest)
@@ -100,9 +103,11 @@ several-within one k (suc n) w =
     wider (k + (n * k + 0)) (suc n * k) (omega (arith, suc-mul n k))
     (then k (n * k + 0) one _ w (λ x. then (n * k) 0 (several one n) _ (several-within one k n w) (λ xs. no-bytes (x ∷ xs))))
 
-entries-within : {A : Type 0} (one : List ℕ → Reading A) (k room : ℕ) (none : A) (n most : ℕ) → Within k one → n * k ≤ most → Within most (entries one room none n)
+entries-within : {A : Type 0} (one : List ℕ → Reading A) (k room : ℕ) (none : A) (n most : ℕ) → Within k one → n * k ≤ most
+    → Within most (entries one room none n)
 unfolding entries
-entries-within one k room none n most w h = wider (n * k + 0) most (omega arith) (then (n * k) 0 (several one n) _ (several-within one k n w) (λ xs. no-bytes _))
+entries-within one k room none n most w h = wider (n * k + 0) most (omega arith)
+    (then (n * k) 0 (several one n) _ (several-within one k n w) (λ xs. no-bytes _))
 
 operand-within : Within 16 operand
 unfolding operand

@@ -12,7 +12,8 @@ use Rattle.area.specs.Area.{put}
 use Rattle.area.specs.Little.{le8}
 use Rattle.area.proofs.Laws.Pick.{yes, no, by, picks, skips}
 use Rattle.area.proofs.Laws.Puts.{put-nil, set-put}
-use Rattle.bench_input.specs.Reader.{State, state, reader, nextTo, next, laid, spare, onward, fedByte, fed, numberTo, lowered, idsFrom, headFrom, dataFrom}
+use Rattle.bench_input.specs.Reader.{State, state, reader, nextTo, next, laid, spare, onward, fedByte, fed, numberTo, lowered, idsFrom}
+use Rattle.bench_input.specs.Reader.{headFrom, dataFrom}
 use Rattle.bench_input.specs.declared.Section.{Section}
 use Rattle.bench_input.specs.declared.Section.the-variants.{Front, Ids, Length, Head, Data}
 use Rattle.bench_input.specs.declared.Reader.{Reader}

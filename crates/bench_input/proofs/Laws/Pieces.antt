@@ -24,7 +24,7 @@ use Rattle.bench_input.proofs.Laws.Heads.{declared-most}
 use Rattle.sia.specs.declared.Told.{Told}
 use Rattle.host.specs.declared.Prices.{Prices}
 use Rattle.host.specs.declared.Host.{Host}
-use Rattle.host.specs.declared.Answer as Made
+use Rattle.host.specs.declared.Made.{Made}
 use Rattle.machine_rules.specs.declared.Answer.{Answer}
 
 -- ---- data that passes the declared length
@@ -33,7 +33,8 @@ module _ (disk : List ℕ) (h : Host) (stage input output : List ℕ) where
   -- 12, where no check ahead of it applies
   abbrev passing : List ℕ → Pieced
   passing bytes =
-      pick (ltb (h .program .terms .head .length) (h .program .came + length bytes)) (pieced 12 0 h stage input output) (accepted disk h stage input output bytes)
+      pick (ltb (h .program .terms .head .length) (h .program .came + length bytes)) (pieced 12 0 h stage input output)
+          (accepted disk h stage input output bytes)
 
   twelve : (b : List ℕ) → h .program .terms .head .length < length b → passing b ≡ pieced 12 0 h stage input output
   twelve b g = picks _ _ _ (lt-ltb (h .program .terms .head .length) (h .program .came + length b) (omega arith))
@@ -103,16 +104,17 @@ begun-read h prices budget head other bytes disk stage input output e =
 -- ---- all of it
 
 module _ (z : ℕ) (prices : Prices) (budget : ℕ) (ids other head read bytes disk stage input output : List ℕ) where
-  pub run-alike : formedInTurn (freshed z (length disk) (length stage) .host) (idsIn ids) ≡ formedInTurn (freshed z (length disk) (length stage) .host) (idsIn other)
+  pub run-alike : formedInTurn (freshed z (length disk) (length stage) .host) (idsIn ids)
+      ≡ formedInTurn (freshed z (length disk) (length stage) .host) (idsIn other)
       → decode head ≡ decode read
       → run z prices budget ids head (take 65537 bytes) disk stage input output ≡ run z prices budget other read bytes disk stage input output
   unfolding run
   run-alike p q =
       let f = freshed z (length disk) (length stage) in
-      let whole : Made.Answer → Ran → Ran = λ r x.
+      let whole : Made → Ran → Ran = λ r x.
       pick (not (eqb (f .number) 0)) (ran (f .number) 0 (f .host) disk stage input output)
       (pick (not (eqb (r .number) 0)) (ran (r .number) 0 (r .host) disk stage input output) x) in
-      let r : Made.Answer = formedInTurn (f .host) (idsIn other) in
-      ap (λ (r : Made.Answer). whole r (Says.begun (r .host) prices budget head (take 65537 bytes) disk stage input output)) p
+      let r : Made = formedInTurn (f .host) (idsIn other) in
+      ap (λ (r : Made). whole r (Says.begun (r .host) prices budget head (take 65537 bytes) disk stage input output)) p
       ∙ ap (whole r)
       (begun-first (r .host) prices budget head bytes disk stage input output ∙ begun-read (r .host) prices budget head read bytes disk stage input output q)

@@ -16,4 +16,5 @@ returns c =
     }
 
 pub feed-piece-spec : {M : Type 1} → statement M
-feed-piece-spec = tie.close (tie.spec (λ c κs. search needs) (λ c. search needs) returns)
+feed-piece-spec =
+    tie.close (tie.spec (λ c κs. search needs) (λ c. search needs) returns)

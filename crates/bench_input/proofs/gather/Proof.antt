@@ -39,17 +39,5 @@ returns-2 c =
 
 pub gather-spec : {M : Type 1} → statement M
 gather-spec =
-    tie.close
-    (tie.spec
-    Inv-loop
-    μ-loop
-    returns
-    (λ c κs. search needs)
-    loop-holds
-    (λ c κs. search needs)
-    read-once-requires
-    (λ c. search needs)
-    loop-again
-    (λ c κs. search needs)
-    (λ c. search needs)
-    returns-2)
+    tie.close (tie.spec Inv-loop μ-loop returns (λ c κs. search needs) loop-holds (λ c κs. search needs) read-once-requires
+        (λ c. search needs) loop-again (λ c κs. search needs) (λ c. search needs) returns-2)

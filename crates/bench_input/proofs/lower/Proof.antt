@@ -23,12 +23,4 @@ returns-2 c =
 
 pub lower-spec : {M : Type 1} → statement M
 lower-spec =
-    tie.close
-    (tie.spec
-    (λ c κs. search needs)
-    (λ c. search needs)
-    returns
-    sub-store
-    store-requires
-    (λ c. search needs)
-    returns-2)
+    tie.close (tie.spec (λ c κs. search needs) (λ c. search needs) returns sub-store store-requires (λ c. search needs) returns-2)

@@ -24,4 +24,5 @@ returns-3 c =
     yes _ _ _ (lt-ltb 0 (s .before .before .args .turn .left) (omega arith)) (no _ _ _ (c .before .before .if2 .left) (ap not (c .full .ensures)))
 
 pub more-spec : {M : Type 1} → statement M
-more-spec = tie.close (tie.spec returns returns-2 (λ c κs. search needs) returns-3)
+more-spec =
+    tie.close (tie.spec returns returns-2 (λ c κs. search needs) returns-3)

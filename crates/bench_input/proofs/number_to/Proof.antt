@@ -21,4 +21,5 @@ unfolding numberTo numberAt
 returns-3 c = no _ _ _ (le-ltb _ 8 (c .before .before .if1 .left)) (no _ _ _ (le-ltb _ _ (c .before .if2 .left)) (c .load .ensures))
 
 pub number-to-spec : {M : Type 1} → statement M
-number-to-spec = tie.close (tie.spec returns returns-2 (λ c κs. search needs) returns-3)
+number-to-spec =
+    tie.close (tie.spec returns returns-2 (λ c κs. search needs) returns-3)

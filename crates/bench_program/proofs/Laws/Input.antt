@@ -17,10 +17,11 @@ use Rattle.sia.specs.Encode.{every}
 use Rattle.host.specs.Calls.{freshed}
 use Rattle.machine.proofs.Laws.Hosts.{rest-less}
 use Rattle.bench_program.specs.Single.{Ran, ran, leaves, run}
-use Rattle.bench_program.specs.Input.{numberAt, pricesIn, budgetIn, idsEnd, headEnd, idsBytes, headBytes, dataBytes, pricesRight, cutShort, wrong, answered}
+use Rattle.bench_program.specs.Input.{numberAt, pricesIn, budgetIn, idsEnd, headEnd, idsBytes, headBytes, dataBytes, pricesRight, cutShort}
+use Rattle.bench_program.specs.Input.{wrong, answered}
 use Rattle.bench_program.proofs.Laws.Plays.{without}
 use Rattle.host.specs.declared.Prices.{Prices}
-use Rattle.host.specs.declared.Answer.{Answer}
+use Rattle.host.specs.declared.Made.{Made}
 use Rattle.bench_program.specs.declared.Outcome.{Outcome}
 
 -- ---- a list by its index, every entry of which passes a test
@@ -30,7 +31,8 @@ module _ (p : ℕ → Bool) (f : ℕ → ℕ) where
   unfolding every tab
   tab-at at zero i e h = absurd (omega arith)
   tab-at at (suc n) zero e h = ap (λ (k : ℕ). p (f k)) (let q : at + 0 ≡ at = omega arith in q) ∙ both-left _ _ e
-  tab-at at (suc n) (suc i) e h = ap (λ (k : ℕ). p (f k)) (let q : at + suc i ≡ suc at + i = omega arith in q) ∙ tab-at (suc at) n i (both-right _ _ e) (omega arith)
+  tab-at at (suc n) (suc i) e h = ap (λ (k : ℕ). p (f k)) (let q : at + suc i ≡ suc at + i = omega arith in q)
+      ∙ tab-at (suc at) n i (both-right _ _ e) (omega arith)
 
   -- the loop: those below i were looked at
   pub tab-stops : (i n : ℕ) → i < n → p (f i) ≡ false → false ≡ every p (tab i (n - i) f)
@@ -84,7 +86,8 @@ price-within all i e h =
 pub ids-short : (all : List ℕ) {count : ℕ} → 80 ≤ length all → count ≡ numberAt all 72 → (length all - 80) / 32 < count → true ≡ cutShort all
 unfolding cutShort idsEnd
 ids-short all {count} h e w =
-    yes _ _ _ (lt-ltb (length all) (80 + numberAt all 72 * 32 + 8) (omega (arith, div-add-mod' (length all - 80) 32, mod-lt (length all - 80) {m = 32} (omega arith)))) refl
+    yes _ _ _ (lt-ltb (length all) (80 + numberAt all 72 * 32 + 8)
+        (omega (arith, div-add-mod' (length all - 80) 32, mod-lt (length all - 80) {m = 32} (omega arith)))) refl
 
 -- so many ids, and behind them no number
 pub number-short : (all : List ℕ) {count : ℕ} → 80 ≤ length all → count ≡ numberAt all 72 → length all - 80 - count * 32 < 8 → true ≡ cutShort all
@@ -92,7 +95,8 @@ unfolding cutShort idsEnd
 number-short all {count} h e w = yes _ _ _ (lt-ltb (length all) (80 + numberAt all 72 * 32 + 8) (omega arith)) refl
 
 -- a number, and what is behind it against the head's length
-pub head-short : (all : List ℕ) {count n : ℕ} → 80 ≤ length all → count ≡ numberAt all 72 → 8 ≤ length all - 80 - count * 32 → n ≡ numberAt all (length all - (length all - 80 - count * 32))
+pub head-short : (all : List ℕ) {count n : ℕ} → 80 ≤ length all → count ≡ numberAt all 72 → 8 ≤ length all - 80 - count * 32 → n
+    ≡ numberAt all (length all - (length all - 80 - count * 32))
     → ltb (length all - 80 - count * 32 - 8) n ≡ cutShort all
 unfolding cutShort headEnd idsEnd
 head-short all {count} {n} h e g w =
@@ -121,12 +125,12 @@ module _ (all : List ℕ) where
 -- ---- 9, or what the input asks for
 
 module _ (z : ℕ) (all disk stage input output : List ℕ) where
-  pub answered-nine : {f : Answer} {o : Outcome} → wrong all ≡ true → f ≡ freshed z (length disk) (length stage) → o ≡ without 9 (f .host)
+  pub answered-nine : {f : Made} {o : Outcome} → wrong all ≡ true → f ≡ freshed z (length disk) (length stage) → o ≡ without 9 (f .host)
       → leaves o disk stage input output ≡ answered z all disk stage input output
   unfolding answered
   answered-nine w e q =
       yes _ _ _ w
-      (ap (λ (x : Outcome). leaves x disk stage input output) q ∙ ap (λ (x : Answer). ran 9 0 (x .host) disk stage input output) e)
+      (ap (λ (x : Outcome). leaves x disk stage input output) q ∙ ap (λ (x : Made). ran 9 0 (x .host) disk stage input output) e)
 
   pub answered-run : {prices : Prices} {budget : ℕ} {ids head bytes : List ℕ} {x : Ran} → wrong all ≡ false → prices ≡ pricesIn all → budget ≡ budgetIn all
       → ids ≡ idsBytes all → head ≡ headBytes all → bytes ≡ dataBytes all → x ≡ run z prices budget ids head bytes disk stage input output

@@ -18,7 +18,7 @@ use Rattle.machine.specs.Closes.{closeLeaves}
 use Rattle.bench_program.specs.Single.{Ran, ran, leaves, idsIn, formedInTurn, ended, shown, given, begun, run}
 use Rattle.host.specs.declared.Prices.{Prices}
 use Rattle.host.specs.declared.Host.{Host}
-use Rattle.host.specs.declared.Answer as Made
+use Rattle.host.specs.declared.Made.{Made}
 use Rattle.machine_rules.specs.declared.Answer.{Answer}
 use Rattle.machine_rules.specs.declared.Reached.{Reached}
 use Rattle.machine.specs.declared.closing.Closing.{Closing}
@@ -53,15 +53,19 @@ front-is d n input e = ap (λ (k : ℕ). take k input) (let q : n - 0 ≡ min d 
 pub rest-is : (d n : ℕ) (input : List ℕ) → n ≡ min d (length input) → drop (n - 0) (drop 0 input) ≡ drop d input
 rest-is d n input e = by (leb d (length input))
     (λ u. let q : n - 0 ≡ d = omega (arith, leb-true d (length input) u) in ap (λ (k : ℕ). drop k input) q)
-    (λ u. drop-of-length-le input {i = n - 0} (omega (arith, leb-false d (length input) u)) ∙ sym (drop-of-length-le input {i = d} (omega (arith, leb-false d (length input) u))))
+    (λ u. drop-of-length-le input {i = n - 0} (omega (arith, leb-false d (length input) u))
+        ∙ sym (drop-of-length-le input {i = d} (omega (arith, leb-false d (length input) u))))
 
-module _ (h : Host) (bytes disk stage input output : List ℕ) {r : Answer} {st inp out lent rest : List ℕ} (l : lent ≡ take (h .program .terms .head .length) input)
+module _ (h : Host) (bytes disk stage input output : List ℕ) {r : Answer} {st inp out lent rest : List ℕ}
+    (l : lent ≡ take (h .program .terms .head .length) input)
     (p : pieceLeaves r st inp out ≡ piece disk h stage lent output bytes) (b : rest ≡ drop (h .program .terms .head .length) input) where
-  pub given-refused : {o : Outcome} → o ≡ without (r .number) (r .host) → (r .number ≡ 0 → ⊥) → leaves o disk st (inp ++ rest) out ≡ given h bytes disk stage input output
+  pub given-refused : {o : Outcome} → o ≡ without (r .number) (r .host) → (r .number ≡ 0 → ⊥) → leaves o disk st (inp ++ rest) out
+      ≡ given h bytes disk stage input output
   unfolding given
   given-refused q w =
       ap₂ (λ (x : Outcome) (y : List ℕ). leaves x disk st (inp ++ y) out) q b
-      ∙ halts (λ (x : Pieced). x .number) (λ (x : Pieced). ran (x .number) 0 (x .host) disk (x .stage) (x .input ++ drop (h .program .terms .head .length) input) (x .output)) _
+      ∙ halts (λ (x : Pieced). x .number) (λ (x : Pieced). ran (x .number) 0 (x .host) disk (x .stage)
+          (x .input ++ drop (h .program .terms .head .length) input) (x .output)) _
       (p ∙ ap (λ (x : List ℕ). piece disk h stage x output bytes) l) w
 
   pub given-closed : {c : Closing} {left : List ℕ} {o : Outcome} → r .number ≡ 0 → closeLeaves c left ≡ ended disk (r .host) st
@@ -81,10 +85,13 @@ module _ (h : Host) (bytes disk stage input output : List ℕ) {r : Answer} {st 
 
 -- ---- opening
 
-module _ (h : Host) (prices : Prices) (budget : ℕ) (head bytes disk stage input output : List ℕ) {r : Answer} (e : r ≡ opened h head budget prices (length output)) where
-  pub begun-refused : {o : Outcome} → o ≡ without (r .number) (r .host) → (r .number ≡ 0 → ⊥) → leaves o disk stage input output ≡ begun h prices budget head bytes disk stage input output
+module _ (h : Host) (prices : Prices) (budget : ℕ) (head bytes disk stage input output : List ℕ) {r : Answer}
+    (e : r ≡ opened h head budget prices (length output)) where
+  pub begun-refused : {o : Outcome} → o ≡ without (r .number) (r .host) → (r .number ≡ 0 → ⊥) → leaves o disk stage input output
+      ≡ begun h prices budget head bytes disk stage input output
   unfolding begun
-  begun-refused t w = ap (λ (x : Outcome). leaves x disk stage input output) t ∙ halts (λ (x : Answer). x .number) (λ (x : Answer). ran (x .number) 0 (x .host) disk stage input output) _ e w
+  begun-refused t w = ap (λ (x : Outcome). leaves x disk stage input output) t ∙ halts (λ (x : Answer). x .number)
+      (λ (x : Answer). ran (x .number) 0 (x .host) disk stage input output) _ e w
 
   pub begun-goes : {x : Ran} → r .number ≡ 0 → x ≡ given (r .host) bytes disk stage input output → x ≡ begun h prices budget head bytes disk stage input output
   unfolding begun
@@ -92,24 +99,29 @@ module _ (h : Host) (prices : Prices) (budget : ℕ) (head bytes disk stage inpu
 
 -- ---- a fresh host, and its contracts
 
-module _ (z : ℕ) (prices : Prices) (budget : ℕ) (ids head bytes disk stage input output : List ℕ) {f : Made.Answer} (e : f ≡ freshed z (length disk) (length stage)) where
-  pub run-unmade : {o : Outcome} → o ≡ without (f .number) (f .host) → (f .number ≡ 0 → ⊥) → leaves o disk stage input output ≡ run z prices budget ids head bytes disk stage input output
+module _ (z : ℕ) (prices : Prices) (budget : ℕ) (ids head bytes disk stage input output : List ℕ) {f : Made}
+    (e : f ≡ freshed z (length disk) (length stage)) where
+  pub run-unmade : {o : Outcome} → o ≡ without (f .number) (f .host) → (f .number ≡ 0 → ⊥) → leaves o disk stage input output
+      ≡ run z prices budget ids head bytes disk stage input output
   unfolding run
-  run-unmade t w = ap (λ (x : Outcome). leaves x disk stage input output) t ∙ halts (λ (x : Made.Answer). x .number) (λ (x : Made.Answer). ran (x .number) 0 (x .host) disk stage input output) _ e w
+  run-unmade t w = ap (λ (x : Outcome). leaves x disk stage input output) t ∙ halts (λ (x : Made). x .number)
+      (λ (x : Made). ran (x .number) 0 (x .host) disk stage input output) _ e w
 
-  module _ {r : Made.Answer} (g : f .number ≡ 0) (q : r ≡ formedInTurn (f .host) (idsIn ids)) where
+  module _ {r : Made} (g : f .number ≡ 0) (q : r ≡ formedInTurn (f .host) (idsIn ids)) where
     formed-on : r ≡ formedInTurn (freshed z (length disk) (length stage) .host) (idsIn ids)
-    formed-on = q ∙ ap (λ (x : Made.Answer). formedInTurn (x .host) (idsIn ids)) e
+    formed-on = q ∙ ap (λ (x : Made). formedInTurn (x .host) (idsIn ids)) e
 
-    pub run-unformed : {o : Outcome} → o ≡ without (r .number) (r .host) → (r .number ≡ 0 → ⊥) → leaves o disk stage input output ≡ run z prices budget ids head bytes disk stage input output
+    pub run-unformed : {o : Outcome} → o ≡ without (r .number) (r .host) → (r .number ≡ 0 → ⊥) → leaves o disk stage input output
+        ≡ run z prices budget ids head bytes disk stage input output
     unfolding run
     run-unformed t w =
         ap (λ (x : Outcome). leaves x disk stage input output) t
-        ∙ no _ _ _ (ap not (eq-eqb _ 0 (sym (ap (λ (x : Made.Answer). x .number) e) ∙ g)))
-        (halts (λ (x : Made.Answer). x .number) (λ (x : Made.Answer). ran (x .number) 0 (x .host) disk stage input output) _ formed-on w)
+        ∙ no _ _ _ (ap not (eq-eqb _ 0 (sym (ap (λ (x : Made). x .number) e) ∙ g)))
+        (halts (λ (x : Made). x .number) (λ (x : Made). ran (x .number) 0 (x .host) disk stage input output) _ formed-on w)
 
-    pub run-goes : {x : Ran} → r .number ≡ 0 → x ≡ begun (r .host) prices budget head bytes disk stage input output → x ≡ run z prices budget ids head bytes disk stage input output
+    pub run-goes : {x : Ran} → r .number ≡ 0 → x ≡ begun (r .host) prices budget head bytes disk stage input output → x
+        ≡ run z prices budget ids head bytes disk stage input output
     unfolding run
     run-goes w s =
-        no _ _ _ (ap not (eq-eqb _ 0 (sym (ap (λ (x : Made.Answer). x .number) e) ∙ g)))
-        (goes (λ (x : Made.Answer). x .number) _ (λ (x : Made.Answer). begun (x .host) prices budget head bytes disk stage input output) formed-on w s)
+        no _ _ _ (ap not (eq-eqb _ 0 (sym (ap (λ (x : Made). x .number) e) ∙ g)))
+        (goes (λ (x : Made). x .number) _ (λ (x : Made). begun (x .host) prices budget head bytes disk stage input output) formed-on w s)

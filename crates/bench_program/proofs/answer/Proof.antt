@@ -7,17 +7,9 @@ use borrow.Author.Needs.{needs}
 use Rattle.bench_program.proofs.answer.Statement.{statement}
 use Rattle.bench_program.proofs.answer.Tie as tie
 
-wrong-requires : tie.Need-wrong-requires
-wrong-requires c κs = search needs
-
-fresh-requires : tie.Need-fresh-requires
-fresh-requires c κs = search needs
-
-refused-requires : tie.Need-refused-requires
-refused-requires c κs = search needs
-
 returns : tie.Need-returns
-returns c = answered-nine _ _ _ _ _ _ (sym (c .before .before .before .before .wrong .ensures) ∙ c .before .before .before .if1 .taken) (c .before .before .fresh .ensures) (c .refused .ensures)
+returns c = answered-nine _ _ _ _ _ _ (sym (c .before .before .before .before .wrong .ensures) ∙ c .before .before .before .if1 .taken)
+    (c .before .before .fresh .ensures) (c .refused .ensures)
 
 prices-requires : tie.Need-prices-requires
 prices-requires c κs = (sym (c .before .wrong .ensures) ∙ c .if1 .left)
@@ -29,85 +21,60 @@ ids-end-requires : tie.Need-ids-end-requires
 ids-end-requires c κs = (sym (c .before .before .before .wrong .ensures) ∙ c .before .before .if1 .left)
 
 add-from : tie.Need-add-from
-add-from c = let r = right _ (sym (c .before .before .before .before .wrong .ensures) ∙ c .before .before .before .if1 .left) in omega (arith, r .front, r .past, r .sized, r .ends, c .ids-end .ensures)
+add-from c = let r = right _ (sym (c .before .before .before .before .wrong .ensures) ∙ c .before .before .before .if1 .left) in
+    omega (arith, r .front, r .past, r .sized, r .ends, c .ids-end .ensures)
 
 head-end-requires : tie.Need-head-end-requires
 head-end-requires c κs = (sym (c .before .before .before .before .wrong .ensures) ∙ c .before .before .before .if1 .left)
 
 sub-run : tie.Need-sub-run
-sub-run c = let r = right _ (sym (c .before .before .before .before .before .wrong .ensures) ∙ c .before .before .before .before .if1 .left) in omega (arith, r .front, r .past, r .sized, r .ends, c .before .ids-end .ensures, c .head-end .ensures)
+sub-run c = let r = right _ (sym (c .before .before .before .before .before .wrong .ensures) ∙ c .before .before .before .before .if1 .left) in
+    omega (arith, r .front, r .past, r .sized, r .ends, c .before .ids-end .ensures, c .head-end .ensures)
 
 part-run-start : tie.Need-part-run-start
-part-run-start c = let r = right _ (sym (c .before .before .before .before .before .wrong .ensures) ∙ c .before .before .before .before .if1 .left) in omega (arith, r .front, r .past, r .sized, r .ends, c .before .ids-end .ensures, c .head-end .ensures)
+part-run-start c = let r = right _ (sym (c .before .before .before .before .before .wrong .ensures) ∙ c .before .before .before .before .if1 .left) in
+    omega (arith, r .front, r .past, r .sized, r .ends, c .before .ids-end .ensures, c .head-end .ensures)
 
 part-run-end : tie.Need-part-run-end
-part-run-end c = let r = right _ (sym (c .before .before .before .before .before .wrong .ensures) ∙ c .before .before .before .before .if1 .left) in omega (arith, r .front, r .past, r .sized, r .ends, c .before .ids-end .ensures, c .head-end .ensures)
+part-run-end c = let r = right _ (sym (c .before .before .before .before .before .wrong .ensures) ∙ c .before .before .before .before .if1 .left) in
+    omega (arith, r .front, r .past, r .sized, r .ends, c .before .ids-end .ensures, c .head-end .ensures)
 
 sub-run-2 : tie.Need-sub-run-2
-sub-run-2 c = let r = right _ (sym (c .before .before .before .before .before .before .wrong .ensures) ∙ c .before .before .before .before .before .if1 .left) in omega (arith, r .front, r .past, r .sized, r .ends, c .before .before .ids-end .ensures, c .before .head-end .ensures)
+sub-run-2 c = let r = right _ (sym (c .before .before .before .before .before .before .wrong .ensures)
+    ∙ c .before .before .before .before .before .if1 .left) in
+    omega (arith, r .front, r .past, r .sized, r .ends, c .before .before .ids-end .ensures, c .before .head-end .ensures)
 
 part-run-start-2 : tie.Need-part-run-start-2
-part-run-start-2 c = let r = right _ (sym (c .before .before .before .before .before .before .wrong .ensures) ∙ c .before .before .before .before .before .if1 .left) in omega (arith, r .front, r .past, r .sized, r .ends, c .before .before .ids-end .ensures, c .before .head-end .ensures)
+part-run-start-2 c = let r = right _ (sym (c .before .before .before .before .before .before .wrong .ensures)
+    ∙ c .before .before .before .before .before .if1 .left) in
+    omega (arith, r .front, r .past, r .sized, r .ends, c .before .before .ids-end .ensures, c .before .head-end .ensures)
 
 part-run-end-2 : tie.Need-part-run-end-2
-part-run-end-2 c = let r = right _ (sym (c .before .before .before .before .before .before .wrong .ensures) ∙ c .before .before .before .before .before .if1 .left) in omega (arith, r .front, r .past, r .sized, r .ends, c .before .before .ids-end .ensures, c .before .head-end .ensures)
+part-run-end-2 c = let r = right _ (sym (c .before .before .before .before .before .before .wrong .ensures)
+    ∙ c .before .before .before .before .before .if1 .left) in
+    omega (arith, r .front, r .past, r .sized, r .ends, c .before .before .ids-end .ensures, c .before .head-end .ensures)
 
 sub-run-3 : tie.Need-sub-run-3
-sub-run-3 c = let r = right _ (sym (c .before .before .before .before .before .before .before .wrong .ensures) ∙ c .before .before .before .before .before .before .if1 .left) in omega (arith, r .front, r .past, r .sized, r .ends, c .before .before .before .ids-end .ensures, c .before .before .head-end .ensures)
+sub-run-3 c = let r = right _ (sym (c .before .before .before .before .before .before .before .wrong .ensures)
+    ∙ c .before .before .before .before .before .before .if1 .left) in
+    omega (arith, r .front, r .past, r .sized, r .ends, c .before .before .before .ids-end .ensures, c .before .before .head-end .ensures)
 
 part-run-start-3 : tie.Need-part-run-start-3
-part-run-start-3 c = let r = right _ (sym (c .before .before .before .before .before .before .before .wrong .ensures) ∙ c .before .before .before .before .before .before .if1 .left) in omega (arith, r .front, r .past, r .sized, r .ends, c .before .before .before .ids-end .ensures, c .before .before .head-end .ensures)
-
-part-run-end-3 : tie.Need-part-run-end-3
-part-run-end-3 c = search needs
-
-run-requires : tie.Need-run-requires
-run-requires c κs = search needs
-
-same-length : tie.Need-same-length
-same-length c = search needs
-
-same-length-2 : tie.Need-same-length-2
-same-length-2 c = search needs
-
-same-length-3 : tie.Need-same-length-3
-same-length-3 c = search needs
-
-same-length-4 : tie.Need-same-length-4
-same-length-4 c = search needs
+part-run-start-3 c = let r = right _ (sym (c .before .before .before .before .before .before .before .wrong .ensures)
+    ∙ c .before .before .before .before .before .before .if1 .left) in
+    omega (arith, r .front, r .past, r .sized, r .ends, c .before .before .before .ids-end .ensures, c .before .before .head-end .ensures)
 
 returns-2 : tie.Need-returns-2
 unfolding numberAt
 returns-2 c =
     let all = c .before .before .before .before .before .before .before .before .before .before .before .before .before .before .before .before .before .before .before .before .before .before .before .before .before .before .before .args .all .now in
-    answered-run _ all _ _ _ _ (sym (c .before .before .before .before .before .before .before .before .before .before .before .before .before .before .before .before .before .before .before .before .before .wrong .ensures) ∙ c .before .before .before .before .before .before .before .before .before .before .before .before .before .before .before .before .before .before .before .before .if1 .left) (c .before .before .before .before .before .before .before .before .before .before .before .before .before .before .before .before .before .before .before .prices .ensures) (c .before .before .before .before .before .before .before .before .before .before .before .before .before .before .before .before .before .before .load .ensures) (ids-is all (c .before .before .before .before .before .before .before .before .before .before .before .before .before .before .before .before .before .ids-end .ensures))
+    answered-run _ all _ _ _ _
+        (sym (c .before .before .before .before .before .before .before .before .before .before .before .before .before .before .before .before .before .before .before .before .before .wrong .ensures) ∙ c .before .before .before .before .before .before .before .before .before .before .before .before .before .before .before .before .before .before .before .before .if1 .left) (c .before .before .before .before .before .before .before .before .before .before .before .before .before .before .before .before .before .before .before .prices .ensures) (c .before .before .before .before .before .before .before .before .before .before .before .before .before .before .before .before .before .before .load .ensures) (ids-is all (c .before .before .before .before .before .before .before .before .before .before .before .before .before .before .before .before .before .ids-end .ensures))
     (head-is all (c .before .before .before .before .before .before .before .before .before .before .before .before .before .before .before .before .before .ids-end .ensures) (c .before .before .before .before .before .before .before .before .before .before .before .before .before .before .before .before .head-end .ensures)) (data-is all (c .before .before .before .before .before .before .before .before .before .before .before .before .before .before .before .before .head-end .ensures)) (c .before .before .before .before .before .before .before .before .run .ensures)
 
 pub answer-spec : {M : Type 1} → statement M
 answer-spec =
-    tie.close
-    (tie.spec
-    wrong-requires
-    fresh-requires
-    refused-requires
-    returns
-    prices-requires
-    load-requires
-    ids-end-requires
-    add-from
-    head-end-requires
-    sub-run
-    part-run-start
-    part-run-end
-    sub-run-2
-    part-run-start-2
-    part-run-end-2
-    sub-run-3
-    part-run-start-3
-    part-run-end-3
-    run-requires
-    same-length
-    same-length-2
-    same-length-3
-    same-length-4
-    returns-2)
+    tie.close (tie.spec (λ c κs. search needs) (λ c κs. search needs) (λ c κs. search needs) returns prices-requires load-requires
+        ids-end-requires add-from head-end-requires sub-run part-run-start part-run-end sub-run-2 part-run-start-2 part-run-end-2 sub-run-3
+        part-run-start-3 (λ c. search needs) (λ c κs. search needs) (λ c. search needs) (λ c. search needs) (λ c. search needs)
+        (λ c. search needs) returns-2)

@@ -8,42 +8,24 @@ use Rattle.exports.proofs.candlebrood_root.Tie as tie
 returns : tie.Need-returns
 returns c = other-length _ _ (c .if1 .taken)
 
-root-requires : tie.Need-root-requires
-root-requires c κs = search needs
-
 enum-told : tie.Need-enum-told
 enum-told c = search needs
 
-slice-aggregate-copy-between : tie.Need-slice-aggregate-copy-between
-slice-aggregate-copy-between c = search needs
-
 copy-between-requires : tie.Need-copy-between-requires
-copy-between-requires c κs = (omega (arith, done _ (c .before .before .before .before .before .root .ensures) (c .before .before .before .enum-told .given .1) .2), omega arith)
-
-enum-told-2 : tie.Need-enum-told-2
-enum-told-2 c = search needs
-
-same-length : tie.Need-same-length
-same-length c = search needs
+copy-between-requires c κs =
+    (omega (arith, done _ (c .before .before .before .before .before .root .ensures) (c .before .before .before .enum-told .given .1) .2), omega arith)
 
 returns-2 : tie.Need-returns-2
 returns-2 c =
-    let d = done _ (c .before .before .before .before .before .before .before .before .root .ensures) (c .before .before .before .before .before .before .enum-told .given .1) in
-    laid _ _ _ _ (c .before .before .before .before .before .before .before .before .before .if1 .left) (d .2) (d .0) (d .1) (c .before .before .copy-between .ensures)
+    let d = done _ (c .before .before .before .before .before .before .before .before .root .ensures)
+        (c .before .before .before .before .before .before .enum-told .given .1) in
+    laid _ _ _ _ (c .before .before .before .before .before .before .before .before .before .if1 .left) (d .2) (d .0) (d .1)
+        (c .before .before .copy-between .ensures)
 
 returns-3 : tie.Need-returns-3
 returns-3 c = no-segments _ _ (refused _ (c .before .before .root .ensures) (c .enum-told2 .given .1))
 
 pub candlebrood-root-spec : {M : Type 1} → statement M
 candlebrood-root-spec =
-    tie.close
-    (tie.spec
-    returns
-    root-requires
-    enum-told
-    slice-aggregate-copy-between
-    copy-between-requires
-    enum-told-2
-    same-length
-    returns-2
-    returns-3)
+    tie.close (tie.spec returns (λ c κs. search needs) enum-told (λ c. search needs) copy-between-requires (λ c. search needs)
+        (λ c. search needs) returns-2 returns-3)

@@ -7,9 +7,6 @@ use Rattle.exports.proofs.candlebrood_run.Tie as tie
 returns : tie.Need-returns
 returns c = not-eight _ _ _ _ _ _ _ _ _ _ _ (c .if1 .taken)
 
-store-requires : tie.Need-store-requires
-store-requires c κs = search needs
-
 returns-2 : tie.Need-returns-2
 returns-2 c =
     let ran = c .before .before .before .before .before .before .before .before .before .before .before .before in
@@ -18,14 +15,5 @@ returns-2 c =
 
 pub candlebrood-run-spec : {M : Type 1} → statement M
 candlebrood-run-spec =
-    tie.close
-    (tie.spec
-    returns
-    (λ c κs. search needs)
-    store-requires
-    (λ c. search needs)
-    (λ c. search needs)
-    (λ c. search needs)
-    (λ c. search needs)
-    (λ c. search needs)
-    returns-2)
+    tie.close (tie.spec returns (λ c κs. search needs) (λ c κs. search needs) (λ c. search needs) (λ c. search needs) (λ c. search needs)
+        (λ c. search needs) (λ c. search needs) returns-2)

@@ -13,7 +13,7 @@ use Rattle.host.specs.Renaming.{Renaming, placeAs, hostAs}
 use Rattle.host.proofs.Renaming.Places.{allAs, word-as, whose-as, replaced-as, in-order-as}
 use Rattle.host.specs.declared.Place.{Place}
 use Rattle.host.specs.declared.Host.{Host}
-use Rattle.host.specs.declared.Answer.{Answer}
+use Rattle.host.specs.declared.Made.{Made}
 use Rattle.host.proofs.Laws.Ways.{down}
 
 module _ (r : List ℕ → List ℕ) (new : Renaming r) where
@@ -29,7 +29,7 @@ module _ (r : List ℕ → List ℕ) (new : Renaming r) where
 
   -- ---- forming and dropping
 
-  unfoldable pub formedAs : Answer → Answer
+  unfoldable pub formedAs : Made → Made
   formedAs x = answered (x .number) (hostAs r (x .host))
 
   formed-not : (n : ℕ) (h : Host) → answered n (hostAs r h) ≡ formedAs (answered n h)

@@ -15,4 +15,5 @@ unfolding lent
 returns-2 c = yes _ _ _ (le-leb _ _ (c .if1 .left)) refl
 
 pub lent-spec : {M : Type 1} → statement M
-lent-spec = tie.close (tie.spec returns returns-2)
+lent-spec =
+    tie.close (tie.spec returns returns-2)

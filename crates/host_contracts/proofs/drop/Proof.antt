@@ -10,9 +10,6 @@ use borrow.Author.Needs.{needs}
 use Rattle.host_contracts.proofs.drop.Statement.{statement}
 use Rattle.host_contracts.proofs.drop.Tie as tie
 
-in-order-requires : tie.Need-in-order-requires
-in-order-requires c κs = search needs
-
 returns : tie.Need-returns
 unfolding dropped withPlaces
 returns c = yes _ _ _ (ap not (sym (c .before .in-order .ensures)) ∙ c .if1 .taken) refl
@@ -25,9 +22,6 @@ returns-2 c =
     no _ _ _ (ap not (sym (at-in-order .in-order .ensures)) ∙ at-if1 .if1 .left)
     (yes _ _ _ (c .if2 .taken) refl)
 
-is-read-only-requires : tie.Need-is-read-only-requires
-is-read-only-requires c κs = search needs
-
 returns-3 : tie.Need-returns-3
 unfolding dropped withPlaces
 returns-3 c =
@@ -37,9 +31,6 @@ returns-3 c =
     no _ _ _ (ap not (sym (at-in-order .in-order .ensures)) ∙ at-if1 .if1 .left)
     (no _ _ _ (at-if2 .if2 .left)
     (yes _ _ _ (sym (c .before .is-read-only .ensures) ∙ c .if3 .taken) refl))
-
-place-of-requires : tie.Need-place-of-requires
-place-of-requires c κs = search needs
 
 returns-4 : tie.Need-returns-4
 unfolding dropped withPlaces
@@ -54,12 +45,6 @@ returns-4 c =
     (no _ _ _ (at-if2 .if2 .left)
     (no _ _ _ (sym (at-is-read-only .is-read-only .ensures) ∙ at-if3 .if3 .left)
     (yes _ _ _ (ap (λ (p : Place). not (p .held)) (sym (at-place-of .place-of .ensures)) ∙ c .if4 .taken) refl)))
-
-none-requires : tie.Need-none-requires
-none-requires c κs = search needs
-
-replaced-in-requires : tie.Need-replaced-in-requires
-replaced-in-requires c κs = search needs
 
 returns-5 : tie.Need-returns-5
 unfolding dropped withPlaces
@@ -81,15 +66,5 @@ returns-5 c =
 
 pub drop-spec : {M : Type 1} → statement M
 drop-spec =
-    tie.close
-    (tie.spec
-    in-order-requires
-    returns
-    returns-2
-    is-read-only-requires
-    returns-3
-    place-of-requires
-    returns-4
-    none-requires
-    replaced-in-requires
-    returns-5)
+    tie.close (tie.spec (λ c κs. search needs) returns returns-2 (λ c κs. search needs) returns-3 (λ c κs. search needs) returns-4
+        (λ c κs. search needs) (λ c κs. search needs) returns-5)

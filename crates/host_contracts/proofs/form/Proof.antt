@@ -14,29 +14,29 @@ use Rattle.host.specs.Places.{whose}
 use Rattle.host.specs.Calls.{answered, padded, formedAt, formed}
 use Rattle.host.specs.declared.Place.{Place}
 use Rattle.host.specs.declared.Host.{Host}
-use Rattle.host.specs.declared.Answer.{Answer}
+use Rattle.host.specs.declared.Made.{Made}
 use borrow.Author.Needs.{needs}
 use Rattle.host_contracts.proofs.form.Statement.{statement}
 use Rattle.host_contracts.proofs.form.Tie as tie
 
 -- ---- the checks that did not apply
 
-abbrev after-8 : Host → List ℕ → Answer
+abbrev after-8 : Host → List ℕ → Made
 after-8 h id = answered 0 (withPlaces h (formedAt id (h .places)))
 
-abbrev after-6 : Host → List ℕ → Answer
+abbrev after-6 : Host → List ℕ → Made
 after-6 h id = pick (not (some (λ p. not (p .held)) (h .places))) (answered 8 h) (after-8 h id)
 
-abbrev after-15 : Host → List ℕ → Answer
+abbrev after-15 : Host → List ℕ → Made
 after-15 h id = pick (whose id (h .places) .held) (answered 6 h) (after-6 h id)
 
-abbrev after-5 : Host → List ℕ → Answer
+abbrev after-5 : Host → List ℕ → Made
 after-5 h id = pick (padded id) (answered 15 h) (after-15 h id)
 
-abbrev after-3 : Host → List ℕ → Answer
+abbrev after-3 : Host → List ℕ → Made
 after-3 h id = pick (same id readOnly) (answered 5 h) (after-5 h id)
 
-abbrev after-1 : Host → List ℕ → Answer
+abbrev after-1 : Host → List ℕ → Made
 after-1 h id = pick (h .program .active) (answered 3 h) (after-3 h id)
 
 abbrev start-1 : tie.Else1 → tie.Start
@@ -119,18 +119,5 @@ returns-7 c =
 
 pub form-spec : {M : Type 1} → statement M
 form-spec =
-    tie.close
-    (tie.spec
-    (λ c κs. search needs)
-    returns
-    returns-2
-    (λ c κs. search needs)
-    returns-3
-    (λ c κs. search needs)
-    (λ c κs. search needs)
-    returns-4
-    returns-5
-    (λ c κs. search needs)
-    returns-6
-    (λ c κs. search needs)
-    returns-7)
+    tie.close (tie.spec (λ c κs. search needs) returns returns-2 (λ c κs. search needs) returns-3 (λ c κs. search needs)
+        (λ c κs. search needs) returns-4 returns-5 (λ c κs. search needs) returns-6 (λ c κs. search needs) returns-7)

@@ -23,33 +23,12 @@ abbrev μ-loop : tie.MeasureT-loop
 loop-holds : tie.Need-loop-holds Inv-loop μ-loop
 loop-holds c = ap (formedAt (c .args .id)) (sym (slice-all (c .args .t1) (c .good .0 .1 .0 .1)))
 
-mul-p : tie.Need-mul-p Inv-loop μ-loop
-mul-p c = search needs
-
-array-copy-out-p : tie.Need-array-copy-out-p Inv-loop μ-loop
-array-copy-out-p c = search needs
-
-new-place-requires : tie.Need-new-place-requires Inv-loop μ-loop
-new-place-requires c κs = tt
-
-mul-ps : tie.Need-mul-ps Inv-loop μ-loop
-mul-ps c = search needs
-
-array-set-from-ps : tie.Need-array-set-from-ps Inv-loop μ-loop
-array-set-from-ps c = search needs
-
 returns : tie.Need-returns Inv-loop μ-loop
 returns c =
     let l = c .before .before .before .before .before .loop in
     let s = c .before .before .before .before .before .before in
     ap (set (s .args .t1) (l .i)) (c .new-place .ensures)
     ∙ formed-here (s .args .id) (s .args .t1) (l .i) 8 (s .good .0 .1 .0 .1) blank (omega arith) (not-true _ (c .before .if1 .taken)) ∙ sym (l .inv)
-
-add-i : tie.Need-add-i Inv-loop μ-loop
-add-i c = search needs
-
-loop-less : tie.Need-loop-less Inv-loop μ-loop
-loop-less c = search needs
 
 loop-again : tie.Need-loop-again Inv-loop μ-loop
 loop-again c =
@@ -64,18 +43,5 @@ returns-2 c =
 
 pub formed-at-spec : {M : Type 1} → statement M
 formed-at-spec =
-    tie.close
-    (tie.spec
-    Inv-loop
-    μ-loop
-    loop-holds
-    mul-p
-    array-copy-out-p
-    new-place-requires
-    mul-ps
-    array-set-from-ps
-    returns
-    add-i
-    loop-less
-    loop-again
-    returns-2)
+    tie.close (tie.spec Inv-loop μ-loop loop-holds (λ c. search needs) (λ c. search needs) (λ c κs. tt) (λ c. search needs)
+        (λ c. search needs) returns (λ c. search needs) (λ c. search needs) loop-again returns-2)

@@ -67,18 +67,6 @@ returns-4 c =
 
 pub fresh-spec : {M : Type 1} → statement M
 fresh-spec =
-    tie.close
-    (tie.spec
-    (λ c κs. search needs)
-    (λ c κs. search needs)
-    returns
-    (λ c κs. positive c)
-    (λ c κs. search needs)
-    returns-2
-    (λ c κs. positive (one c))
-    (λ c κs. search needs)
-    returns-3
-    (λ c. positive (one (two c)))
-    (λ c. positive (one (two c)))
-    (λ c κs. search needs)
-    returns-4)
+    tie.close (tie.spec (λ c κs. search needs) (λ c κs. search needs) returns (λ c κs. positive c) (λ c κs. search needs) returns-2
+        (λ c κs. positive (one c)) (λ c κs. search needs) returns-3 (λ c. positive (one (two c))) (λ c. positive (one (two c)))
+        (λ c κs. search needs) returns-4)

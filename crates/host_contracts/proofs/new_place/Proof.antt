@@ -9,4 +9,5 @@ unfolding newPlace
 returns c = refl
 
 pub new-place-spec : {M : Type 1} → statement M
-new-place-spec = tie.close (tie.spec returns)
+new-place-spec =
+    tie.close (tie.spec returns)

@@ -29,20 +29,11 @@ loop-holds : tie.Need-loop-holds Inv-loop μ-loop
 unfolding padded
 loop-holds c = ap (λ (l : List ℕ). every isZero (drop 4 l)) (sym (slice-all (c .args .t1) (c .good .0 .1 .0 .1)))
 
-array-read-if1 : tie.Need-array-read-if1 Inv-loop μ-loop
-array-read-if1 c = search needs
-
 returns : tie.Need-returns Inv-loop μ-loop
 returns c =
     let l = c .before .before .loop in
     let s = c .before .before .before in
     every-stops isZero (s .args .t1) (l .i) 32 0 (s .good .0 .1 .0 .1) (omega arith) (omega arith) (ne-eqb _ 0 (c .if1 .taken)) ∙ sym (l .inv)
-
-add-i : tie.Need-add-i Inv-loop μ-loop
-add-i c = search needs
-
-loop-less : tie.Need-loop-less Inv-loop μ-loop
-loop-less c = search needs
 
 loop-again : tie.Need-loop-again Inv-loop μ-loop
 loop-again c =
@@ -57,14 +48,4 @@ returns-2 c =
 
 pub padded-spec : {M : Type 1} → statement M
 padded-spec =
-    tie.close
-    (tie.spec
-    Inv-loop
-    μ-loop
-    loop-holds
-    array-read-if1
-    returns
-    add-i
-    loop-less
-    loop-again
-    returns-2)
+    tie.close (tie.spec Inv-loop μ-loop loop-holds (λ c. search needs) returns (λ c. search needs) (λ c. search needs) loop-again returns-2)

@@ -10,4 +10,5 @@ returns : tie.Need-returns
 returns c = ap (λ (h : Host). answered 2 h) (c .bare .ensures)
 
 pub unmade-spec : {M : Type 1} → statement M
-unmade-spec = tie.close (tie.spec (λ c κs. search needs) returns)
+unmade-spec =
+    tie.close (tie.spec (λ c κs. search needs) returns)

@@ -17,9 +17,6 @@ returns-2 c =
     let at-if1 = c .before .before in
     yes _ _ _ (not-false _ (at-if1 .if1 .left)) (no _ _ _ (not-true _ (c .if2 .taken)) refl)
 
-same-id-requires : tie.Need-same-id-requires
-same-id-requires c κs = search needs
-
 returns-3 : tie.Need-returns-3
 unfolding twins
 returns-3 c =
@@ -28,4 +25,5 @@ returns-3 c =
     yes _ _ _ (not-false _ (at-if1 .if1 .left)) (yes _ _ _ (not-false _ (at-if2 .if2 .left)) (c .same-id .ensures))
 
 pub are-twins-spec : {M : Type 1} → statement M
-are-twins-spec = tie.close (tie.spec returns returns-2 same-id-requires returns-3)
+are-twins-spec =
+    tie.close (tie.spec returns returns-2 (λ c κs. search needs) returns-3)

@@ -22,15 +22,6 @@ abbrev μ-loop : tie.MeasureT-loop
 loop-holds : tie.Need-loop-holds Inv-loop μ-loop
 loop-holds c = ap (every (placeInOrder (c .args .z))) (sym (slice-all (c .args .t2) (c .good .1 .0 .1 .0 .1)))
 
-mul-p : tie.Need-mul-p Inv-loop μ-loop
-mul-p c = search needs
-
-array-copy-out-p : tie.Need-array-copy-out-p Inv-loop μ-loop
-array-copy-out-p c = search needs
-
-place-in-order-requires : tie.Need-place-in-order-requires Inv-loop μ-loop
-place-in-order-requires c κs = search needs
-
 returns : tie.Need-returns Inv-loop μ-loop
 returns c =
     let l = c .before .before .before .before .loop in
@@ -38,12 +29,6 @@ returns c =
     every-stops (placeInOrder (s .args .z)) (s .args .t2) (l .i) 8 blank (s .good .1 .0 .1 .0 .1) (omega arith) (omega arith)
     (sym (c .before .place-in-order .ensures) ∙ not-true _ (c .if1 .taken))
     ∙ sym (l .inv)
-
-add-i : tie.Need-add-i Inv-loop μ-loop
-add-i c = search needs
-
-loop-less : tie.Need-loop-less Inv-loop μ-loop
-loop-less c = search needs
 
 loop-again : tie.Need-loop-again Inv-loop μ-loop
 loop-again c =
@@ -60,16 +45,5 @@ returns-2 c =
 
 pub each-in-order-spec : {M : Type 1} → statement M
 each-in-order-spec =
-    tie.close
-    (tie.spec
-    Inv-loop
-    μ-loop
-    loop-holds
-    mul-p
-    array-copy-out-p
-    place-in-order-requires
-    returns
-    add-i
-    loop-less
-    loop-again
-    returns-2)
+    tie.close (tie.spec Inv-loop μ-loop loop-holds (λ c. search needs) (λ c. search needs) (λ c κs. search needs) returns
+        (λ c. search needs) (λ c. search needs) loop-again returns-2)

@@ -18,35 +18,19 @@ Inv-loop from p places i₀ i = some (twins p) (slice from 8 places) ≡ some (t
 abbrev μ-loop : tie.MeasureT-loop
 μ-loop from p places i₀ i = 8 - i
 
-loop-holds : tie.Need-loop-holds Inv-loop μ-loop
-loop-holds c = refl
-
-mul-q : tie.Need-mul-q Inv-loop μ-loop
-mul-q c = search needs
-
-array-copy-out-q : tie.Need-array-copy-out-q Inv-loop μ-loop
-array-copy-out-q c = search needs
-
-are-twins-requires : tie.Need-are-twins-requires Inv-loop μ-loop
-are-twins-requires c κs = tt
-
 returns : tie.Need-returns Inv-loop μ-loop
 returns c =
     let l = c .before .before .before .before .loop in
     let s = c .before .before .before .before .before in
-    some-here (twins _) (s .args .t1) (l .i) 8 blank (s .good .0 .1 .0 .1) (omega arith) (omega arith) (sym (c .before .are-twins .ensures) ∙ c .if1 .taken) ∙ sym (l .inv)
-
-add-i : tie.Need-add-i Inv-loop μ-loop
-add-i c = search needs
-
-loop-less : tie.Need-loop-less Inv-loop μ-loop
-loop-less c = search needs
+    some-here (twins _) (s .args .t1) (l .i) 8 blank (s .good .0 .1 .0 .1) (omega arith) (omega arith)
+        (sym (c .before .are-twins .ensures) ∙ c .if1 .taken) ∙ sym (l .inv)
 
 loop-again : tie.Need-loop-again Inv-loop μ-loop
 loop-again c =
     let l = c .before .before .before .before .loop in
     let s = c .before .before .before .before .before in
-    l .inv ∙ some-further (twins _) (s .args .t1) (l .i) 8 blank (s .good .0 .1 .0 .1) (omega arith) (omega arith) (sym (c .before .are-twins .ensures) ∙ c .if1 .left)
+    l .inv ∙ some-further (twins _) (s .args .t1) (l .i) 8 blank (s .good .0 .1 .0 .1) (omega arith) (omega arith)
+        (sym (c .before .are-twins .ensures) ∙ c .if1 .left)
 
 returns-2 : tie.Need-returns-2 Inv-loop μ-loop
 returns-2 c =
@@ -55,16 +39,5 @@ returns-2 c =
 
 pub has-twin-spec : {M : Type 1} → statement M
 has-twin-spec =
-    tie.close
-    (tie.spec
-    Inv-loop
-    μ-loop
-    loop-holds
-    mul-q
-    array-copy-out-q
-    are-twins-requires
-    returns
-    add-i
-    loop-less
-    loop-again
-    returns-2)
+    tie.close (tie.spec Inv-loop μ-loop (λ c. refl) (λ c. search needs) (λ c. search needs) (λ c κs. tt) returns (λ c. search needs)
+        (λ c. search needs) loop-again returns-2)

@@ -103,16 +103,5 @@ returns-6 c =
 
 pub in-order-spec : {M : Type 1} → statement M
 in-order-spec =
-    tie.close
-    (tie.spec
-    (λ c κs. search needs)
-    returns
-    (λ c κs. search needs)
-    returns-2
-    (λ c κs. search needs)
-    returns-3
-    places-in-order-requires
-    returns-4
-    returns-5
-    program-in-order-requires
-    returns-6)
+    tie.close (tie.spec (λ c κs. search needs) returns (λ c κs. search needs) returns-2 (λ c κs. search needs) returns-3
+        places-in-order-requires returns-4 returns-5 program-in-order-requires returns-6)

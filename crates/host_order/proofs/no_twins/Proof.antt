@@ -66,18 +66,5 @@ returns-2 c =
 
 pub no-twins-spec : {M : Type 1} → statement M
 no-twins-spec =
-    tie.close
-    (tie.spec
-    Inv-loop
-    μ-loop
-    loop-holds
-    (λ c. search needs)
-    (λ c. search needs)
-    (λ c. search needs)
-    (λ c. search needs)
-    loop-again
-    (λ c κs. tt)
-    returns
-    (λ c. search needs)
-    loop-again-2
-    returns-2)
+    tie.close (tie.spec Inv-loop μ-loop loop-holds (λ c. search needs) (λ c. search needs) (λ c. search needs) (λ c. search needs)
+        loop-again (λ c κs. tt) returns (λ c. search needs) loop-again-2 returns-2)

@@ -7,15 +7,9 @@ use borrow.Author.Needs.{needs}
 use Rattle.host_order.proofs.parent_in_order.Statement.{statement}
 use Rattle.host_order.proofs.parent_in_order.Tie as tie
 
-is-read-only-requires : tie.Need-is-read-only-requires
-is-read-only-requires c κs = search needs
-
 returns : tie.Need-returns
 unfolding parentInOrder
 returns c = yes _ _ _ (sym (c .before .is-read-only .ensures) ∙ c .if1 .taken) refl
-
-place-of-requires : tie.Need-place-of-requires
-place-of-requires c κs = search needs
 
 returns-2 : tie.Need-returns-2
 unfolding parentInOrder
@@ -25,4 +19,4 @@ returns-2 c =
 
 pub parent-in-order-spec : {M : Type 1} → statement M
 parent-in-order-spec =
-    tie.close (tie.spec is-read-only-requires returns place-of-requires returns-2)
+    tie.close (tie.spec (λ c κs. search needs) returns (λ c κs. search needs) returns-2)

@@ -12,17 +12,11 @@ returns : tie.Need-returns
 unfolding placeInOrder
 returns c = yes _ _ _ (c .if1 .taken) refl
 
-is-read-only-requires : tie.Need-is-read-only-requires
-is-read-only-requires c κs = search needs
-
 returns-2 : tie.Need-returns-2
 unfolding placeInOrder
 returns-2 c =
     let at-if1 = c .before .before .before in
     no _ _ _ (at-if1 .if1 .left) (no _ _ _ (ap not (sym (c .before .is-read-only .ensures) ∙ c .if2 .taken)) refl)
-
-rem-if3 : tie.Need-rem-if3
-rem-if3 c = search needs
 
 returns-3 : tie.Need-returns-3
 unfolding placeInOrder
@@ -30,10 +24,8 @@ returns-3 c =
     let at-if2 = c .before .before in
     let at-is-read-only = at-if2 .before in
     let at-if1 = at-is-read-only .before .before in
-    no _ _ _ (at-if1 .if1 .left) (yes _ _ _ (ap not (sym (at-is-read-only .is-read-only .ensures) ∙ at-if2 .if2 .left)) (no _ _ _ (ne-eqb _ _ (c .if3 .taken)) refl))
-
-div-result : tie.Need-div-result
-div-result c = search needs
+    no _ _ _ (at-if1 .if1 .left) (yes _ _ _ (ap not (sym (at-is-read-only .is-read-only .ensures) ∙ at-if2 .if2 .left))
+        (no _ _ _ (ne-eqb _ _ (c .if3 .taken)) refl))
 
 returns-4 : tie.Need-returns-4
 unfolding placeInOrder
@@ -41,8 +33,9 @@ returns-4 c =
     let at-if2 = c .before .before .before in
     let at-is-read-only = at-if2 .before in
     let at-if1 = at-is-read-only .before .before in
-    no _ _ _ (at-if1 .if1 .left) (yes _ _ _ (ap not (sym (at-is-read-only .is-read-only .ensures) ∙ at-if2 .if2 .left)) (yes _ _ _ (eq-eqb _ _ (c .before .if3 .left)) refl))
+    no _ _ _ (at-if1 .if1 .left) (yes _ _ _ (ap not (sym (at-is-read-only .is-read-only .ensures) ∙ at-if2 .if2 .left))
+        (yes _ _ _ (eq-eqb _ _ (c .before .if3 .left)) refl))
 
 pub place-in-order-spec : {M : Type 1} → statement M
 place-in-order-spec =
-    tie.close (tie.spec returns is-read-only-requires returns-2 rem-if3 returns-3 div-result returns-4)
+    tie.close (tie.spec returns (λ c κs. search needs) returns-2 (λ c. search needs) returns-3 (λ c. search needs) returns-4)

@@ -10,15 +10,9 @@ use borrow.Author.Needs.{needs}
 use Rattle.host_order.proofs.places_in_order.Statement.{statement}
 use Rattle.host_order.proofs.places_in_order.Tie as tie
 
-each-in-order-requires : tie.Need-each-in-order-requires
-each-in-order-requires c κs = search needs
-
 returns : tie.Need-returns
 unfolding placesInOrder
 returns c = no _ _ _ (sym (c .before .each-in-order .ensures) ∙ not-true _ (c .if1 .taken)) refl
-
-no-twins-requires : tie.Need-no-twins-requires
-no-twins-requires c κs = search needs
 
 returns-2 : tie.Need-returns-2
 unfolding placesInOrder
@@ -27,12 +21,6 @@ returns-2 c =
     let at-each-in-order = at-if1 .before in
     yes _ _ _ (sym (at-each-in-order .each-in-order .ensures) ∙ not-false _ (at-if1 .if1 .left))
     (no _ _ _ (sym (c .before .no-twins .ensures) ∙ not-true _ (c .if2 .taken)) refl)
-
-slots-taken-requires : tie.Need-slots-taken-requires
-slots-taken-requires c κs = search needs
-
-distinct-requires : tie.Need-distinct-requires
-distinct-requires c κs = search needs
 
 returns-3 : tie.Need-returns-3
 unfolding placesInOrder
@@ -45,9 +33,6 @@ returns-3 c =
     yes _ _ _ (sym (at-each-in-order .each-in-order .ensures) ∙ not-false _ (at-if1 .if1 .left))
     (yes _ _ _ (sym (at-no-twins .no-twins .ensures) ∙ not-false _ (at-if2 .if2 .left))
     (no _ _ _ (ap (apart eqb) (sym (at-slots-taken .slots-taken .ensures .0)) ∙ sym (c .before .distinct .ensures) ∙ not-true _ (c .if3 .taken)) refl))
-
-below-requires : tie.Need-below-requires
-below-requires c κs = search needs
 
 returns-4 : tie.Need-returns-4
 unfolding placesInOrder
@@ -66,14 +51,5 @@ returns-4 c =
 
 pub places-in-order-spec : {M : Type 1} → statement M
 places-in-order-spec =
-    tie.close
-    (tie.spec
-    each-in-order-requires
-    returns
-    no-twins-requires
-    returns-2
-    slots-taken-requires
-    distinct-requires
-    returns-3
-    below-requires
-    returns-4)
+    tie.close (tie.spec (λ c κs. search needs) returns (λ c κs. search needs) returns-2 (λ c κs. search needs) (λ c κs. search needs)
+        returns-3 (λ c κs. search needs) returns-4)

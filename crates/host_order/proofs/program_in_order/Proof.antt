@@ -7,9 +7,6 @@ use borrow.Author.Needs.{needs}
 use Rattle.host_order.proofs.program_in_order.Statement.{statement}
 use Rattle.host_order.proofs.program_in_order.Tie as tie
 
-terms-in-order-requires : tie.Need-terms-in-order-requires
-terms-in-order-requires c κs = search needs
-
 returns : tie.Need-returns
 unfolding programInOrder
 returns c = no _ _ _ (sym (c .before .terms-in-order .ensures) ∙ not-true _ (c .if1 .taken)) refl
@@ -22,9 +19,6 @@ returns-2 c =
     yes _ _ _ (sym (at-terms-in-order .terms-in-order .ensures) ∙ not-false _ (at-if1 .if1 .left))
     (no _ _ _ (lt-leb _ _ (c .if2 .taken)) refl)
 
-progress-in-order-requires : tie.Need-progress-in-order-requires
-progress-in-order-requires c κs = search needs
-
 returns-3 : tie.Need-returns-3
 unfolding programInOrder
 returns-3 c =
@@ -36,5 +30,4 @@ returns-3 c =
 
 pub program-in-order-spec : {M : Type 1} → statement M
 program-in-order-spec =
-    tie.close
-    (tie.spec terms-in-order-requires returns returns-2 progress-in-order-requires returns-3)
+    tie.close (tie.spec (λ c κs. search needs) returns returns-2 (λ c κs. search needs) returns-3)

@@ -24,12 +24,6 @@ returns-2 c =
     yes _ _ _ (le-leb _ _ (at-if1 .if1 .left))
     (no _ _ _ (lt-leb _ _ (c .if2 .taken)) refl)
 
-owed-requires : tie.Need-owed-requires
-owed-requires c κs = search needs
-
-sum-fits-requires : tie.Need-sum-fits-requires
-sum-fits-requires c κs = search needs
-
 returns-3 : tie.Need-returns-3
 unfolding progressInOrder
 returns-3 c =
@@ -39,7 +33,8 @@ returns-3 c =
     let s = at-if1 .before .before .before .before .before in
     yes _ _ _ (le-leb _ _ (at-if1 .if1 .left))
     (yes _ _ _ (le-leb _ _ (at-if2 .if2 .left))
-    (no _ _ _ (ap (λ (n : ℕ). leb (s .args .p .written + n) (s .args .t .room)) (sym (at-owed .owed .ensures)) ∙ sym (c .before .sum-fits .ensures) ∙ not-true _ (c .if3 .taken)) refl))
+    (no _ _ _ (ap (λ (n : ℕ). leb (s .args .p .written + n) (s .args .t .room)) (sym (at-owed .owed .ensures)) ∙ sym (c .before .sum-fits .ensures)
+        ∙ not-true _ (c .if3 .taken)) refl))
 
 returns-4 : tie.Need-returns-4
 unfolding progressInOrder
@@ -52,7 +47,8 @@ returns-4 c =
     let s = at-if1 .before .before .before .before .before in
     yes _ _ _ (le-leb _ _ (at-if1 .if1 .left))
     (yes _ _ _ (le-leb _ _ (at-if2 .if2 .left))
-    (yes _ _ _ (ap (λ (n : ℕ). leb (s .args .p .written + n) (s .args .t .room)) (sym (at-owed .owed .ensures)) ∙ sym (at-sum-fits .sum-fits .ensures) ∙ not-false _ (at-if3 .if3 .left))
+    (yes _ _ _ (ap (λ (n : ℕ). leb (s .args .p .written + n) (s .args .t .room)) (sym (at-owed .owed .ensures)) ∙ sym (at-sum-fits .sum-fits .ensures)
+        ∙ not-false _ (at-if3 .if3 .left))
     (no _ _ _ (ne-eqb _ _ (c .if4 .taken)) refl)))
 
 -- the beginning, from where the running size is whole sectors
@@ -64,9 +60,6 @@ rem-if4 c = some _ (c .before .before .before .before .before .before .before .b
 
 mul-sizes-fit : tie.Need-mul-sizes-fit
 mul-sizes-fit c = omega (arith, mul-le-mul (start c .pre .1) (start c .pre .0 .most))
-
-sizes-fit-requires : tie.Need-sizes-fit-requires
-sizes-fit-requires c κs = search needs
 
 returns-5 : tie.Need-returns-5
 unfolding progressInOrder
@@ -80,12 +73,10 @@ returns-5 c =
     let s = at-if1 .before .before .before .before .before in
     yes _ _ _ (le-leb _ _ (at-if1 .if1 .left))
     (yes _ _ _ (le-leb _ _ (at-if2 .if2 .left))
-    (yes _ _ _ (ap (λ (n : ℕ). leb (s .args .p .written + n) (s .args .t .room)) (sym (at-owed .owed .ensures)) ∙ sym (at-sum-fits .sum-fits .ensures) ∙ not-false _ (at-if3 .if3 .left))
+    (yes _ _ _ (ap (λ (n : ℕ). leb (s .args .p .written + n) (s .args .t .room)) (sym (at-owed .owed .ensures)) ∙ sym (at-sum-fits .sum-fits .ensures)
+        ∙ not-false _ (at-if3 .if3 .left))
     (yes _ _ _ (eq-eqb _ _ (at-if4 .if4 .left))
     (no _ _ _ (sym (c .before .sizes-fit .ensures) ∙ not-true _ (c .if5 .taken)) refl))))
-
-place-of-requires : tie.Need-place-of-requires
-place-of-requires c κs = search needs
 
 staged-in-order-requires : tie.Need-staged-in-order-requires
 staged-in-order-requires c κs = some _ (start (c .before .before .before .before .before) .pre .0)
@@ -108,27 +99,15 @@ returns-6 c =
     let s = at-if1 .before .before .before .before .before in
     yes _ _ _ (le-leb _ _ (at-if1 .if1 .left))
     (yes _ _ _ (le-leb _ _ (at-if2 .if2 .left))
-    (yes _ _ _ (ap (λ (n : ℕ). leb (s .args .p .written + n) (s .args .t .room)) (sym (at-owed .owed .ensures)) ∙ sym (at-sum-fits .sum-fits .ensures) ∙ not-false _ (at-if3 .if3 .left))
+    (yes _ _ _ (ap (λ (n : ℕ). leb (s .args .p .written + n) (s .args .t .room)) (sym (at-owed .owed .ensures)) ∙ sym (at-sum-fits .sum-fits .ensures)
+        ∙ not-false _ (at-if3 .if3 .left))
     (yes _ _ _ (eq-eqb _ _ (at-if4 .if4 .left))
     (yes _ _ _ (sym (at-sizes-fit .sizes-fit .ensures) ∙ not-false _ (at-if5 .if5 .left))
     (c .staged-in-order .ensures
-    ∙ ap (λ (w : Place). stagedInOrder (s .args .stage) (w .size / s .args .z) (s .args .p .size / s .args .z) (s .args .p .staged)) (at-place-of .place-of .ensures))))))
+    ∙ ap (λ (w : Place). stagedInOrder (s .args .stage) (w .size / s .args .z) (s .args .p .size / s .args .z) (s .args .p .staged))
+        (at-place-of .place-of .ensures))))))
 
 pub progress-in-order-spec : {M : Type 1} → statement M
 progress-in-order-spec =
-    tie.close
-    (tie.spec
-    returns
-    returns-2
-    owed-requires
-    sum-fits-requires
-    returns-3
-    rem-if4
-    returns-4
-    mul-sizes-fit
-    sizes-fit-requires
-    returns-5
-    place-of-requires
-    div-staged-in-order
-    staged-in-order-requires
-    returns-6)
+    tie.close (tie.spec returns returns-2 (λ c κs. search needs) (λ c κs. search needs) returns-3 rem-if4 returns-4 mul-sizes-fit
+        (λ c κs. search needs) returns-5 (λ c κs. search needs) div-staged-in-order staged-in-order-requires returns-6)

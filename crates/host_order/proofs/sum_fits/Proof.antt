@@ -10,4 +10,5 @@ returns-2 : tie.Need-returns-2
 returns-2 c = left-over _ _ _ (c .if1 .left)
 
 pub sum-fits-spec : {M : Type 1} → statement M
-sum-fits-spec = tie.close (tie.spec returns returns-2)
+sum-fits-spec =
+    tie.close (tie.spec returns returns-2)

@@ -7,15 +7,9 @@ use borrow.Author.Needs.{needs}
 use Rattle.host_order.proofs.terms_in_order.Statement.{statement}
 use Rattle.host_order.proofs.terms_in_order.Tie as tie
 
-parent-in-order-requires : tie.Need-parent-in-order-requires
-parent-in-order-requires c κs = search needs
-
 returns : tie.Need-returns
 unfolding termsInOrder
 returns c = no _ _ _ (sym (c .before .parent-in-order .ensures) ∙ not-true _ (c .if1 .taken)) refl
-
-within-requires : tie.Need-within-requires
-within-requires c κs = search needs
 
 returns-2 : tie.Need-returns-2
 unfolding termsInOrder
@@ -49,5 +43,4 @@ returns-4 c =
 
 pub terms-in-order-spec : {M : Type 1} → statement M
 terms-in-order-spec =
-    tie.close
-    (tie.spec parent-in-order-requires returns within-requires returns-2 returns-3 returns-4)
+    tie.close (tie.spec (λ c κs. search needs) returns (λ c κs. search needs) returns-2 returns-3 returns-4)

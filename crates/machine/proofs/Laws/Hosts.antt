@@ -16,7 +16,8 @@ use Rattle.host.proofs.Laws.Order.{order-facts}
 use Rattle.machine_rules.specs.View.{Turn, turn, settingOf, turnOf, withRun}
 use Rattle.machine_rules.specs.Record.{recordBytes, failureBytes}
 use Rattle.machine_rules.specs.Run.{failedProgress, failing, going, run}
-use Rattle.machine_rules.specs.Calls.{inputRight, outputRight, Pieced, pieced, acceptedBy, accepted, interrupted, stoppedBy, stopped, reachedPairBy, reachedPair}
+use Rattle.machine_rules.specs.Calls.{inputRight, outputRight, Pieced, pieced, acceptedBy, accepted, interrupted, stoppedBy, stopped}
+use Rattle.machine_rules.specs.Calls.{reachedPairBy, reachedPair}
 use Rattle.machine_step.proofs.Laws.Hosts.{starting-any, running-any}
 use Rattle.machine.specs.Asks.{Stops}
 use Rattle.host.specs.declared.Progress.{Progress}
@@ -57,7 +58,8 @@ unfolding inputRight
 input-long h input e = eqb-true _ _ e
 
 -- a piece, from what its functions left
-pub accepted-is : (disk : List ℕ) (h : Host) (stage input output bytes : List ℕ) {area : List ℕ} {g : Progress} {st out roots : List ℕ} {k : ℕ} → area ≡ put input (h .program .came) bytes
+pub accepted-is : (disk : List ℕ) (h : Host) (stage input output bytes : List ℕ) {area : List ℕ} {g : Progress} {st out roots : List ℕ} {k : ℕ} → area
+    ≡ put input (h .program .came) bytes
     → k ≡ h .program .came + length bytes → turn g st out roots ≡ run (h .sector) (settingOf h disk) area k (turnOf h stage output)
     → pieced 0 (g .tally) (withRun h k g roots) st area out ≡ accepted disk h stage input output bytes
 unfolding acceptedBy

@@ -19,7 +19,8 @@ use Rattle.machine_rules.specs.Inputs.{Args}
 use Rattle.machine_rules.specs.Plan.{badSpan, badSpans, touched, wanted, newSize}
 use Rattle.machine_rules.specs.Facts.{Good, Solid}
 use Rattle.machine_rules.specs.Effect.{groundOf, Staging, copied, effect}
-use Rattle.machine_rules.proofs.Laws.Effects.{Passed, neither, whole-sectors, sector-below, asks, asks-some, asks-two, copied-map, wanted-one, swap-asks, span-in, past-first}
+use Rattle.machine_rules.proofs.Laws.Effects.{Passed, neither, whole-sectors, sector-below, asks, asks-some, asks-two, copied-map, wanted-one}
+use Rattle.machine_rules.proofs.Laws.Effects.{swap-asks, span-in, past-first}
 use Rattle.machine_rules.proofs.Laws.Spots.{unstaged, committed-slot}
 use Rattle.sia.specs.declared.Op.{Op}
 use Rattle.sia.specs.declared.Op.the-variants.{Write, Copy, Swap, Truncate}
@@ -36,7 +37,8 @@ unfolding badSpan
 span-within z size at n e = ltb-false _ _ (neither _ _ (neither _ _ e .1) .1)
 
 -- a position that asks for a slot and gets one
-asked : (copies : ℕ) (g : Staging) (p : ℕ) → asks (g .staged) p ≤ count (unused (g .staged)) 0 copies → bare p g ≡ true → 0 < count (unused (g .staged)) 0 copies
+asked : (copies : ℕ) (g : Staging) (p : ℕ) → asks (g .staged) p ≤ count (unused (g .staged)) 0 copies → bare p g ≡ true
+    → 0 < count (unused (g .staged)) 0 copies
 unfolding bare
 asked copies g p h b = omega (arith, h, asks-some (g .staged) p b)
 
@@ -88,7 +90,8 @@ module _ (z : ℕ) (s : Setting) (p : Progress) (bytes : List ℕ) (good : Good 
   unfolding freeCopies
   spans one two n h k free =
       let g : Staging = staging (p .staged) bytes in
-      let both = asks-two (s .copies) (two / z) (one / z) (p .staged) (solid .lent .few) (omega (arith, lies two (span-in z (p .size) two n k) .entry, good .entries)) free in
+      let both = asks-two (s .copies) (two / z) (one / z) (p .staged) (solid .lent .few)
+          (omega (arith, lies two (span-in z (p .size) two n k) .entry, good .entries)) free in
       let second = over two n k (both .0) in
       let map = copied-map z (groundOf s) (two / z) g in
       record {
@@ -103,7 +106,8 @@ module _ (z : ℕ) (s : Setting) (p : Progress) (bytes : List ℕ) (good : Good 
         };
       }
 
-  sized : (new : ℕ) → new ≤ s .sectors * z → (p .size < new → asks (p .staged) (p .size / z) ≤ freeCopies s p) → Sized z (groundOf s) (staging (p .staged) bytes) (p .size) new
+  sized : (new : ℕ) → new ≤ s .sectors * z → (p .size < new → asks (p .staged) (p .size / z) ≤ freeCopies s p)
+      → Sized z (groundOf s) (staging (p .staged) bytes) (p .size) new
   unfolding freeCopies
   sized new le free =
       record {
@@ -145,7 +149,8 @@ module _ (z : ℕ) (s : Setting) (p : Progress) (bytes : List ℕ) (good : Good 
         arith,
         q .free,
         wanted-one (p .staged) (p .size / z),
-        ap (λ (l : List ℕ). length (those (λ k. eqb (getD (p .staged) k none) none) l)) (picks (ltb (p .size) (a .first)) (p .size / z ∷ []) [] (lt-ltb _ _ lt)),
+        ap (λ (l : List ℕ). length (those (λ k. eqb (getD (p .staged) k none) none) l))
+            (picks (ltb (p .size) (a .first)) (p .size / z ∷ []) [] (lt-ltb _ _ lt)),
       ))
 
   -- an instruction that can run has what its effect asks

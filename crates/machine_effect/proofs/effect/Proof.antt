@@ -58,16 +58,6 @@ returns-7 c = arm _ _ _ _ _ (c .enum-told7 .given .1) refl
 
 pub effect-spec : {M : Type 1} → statement M
 effect-spec =
-    tie.close
-    (tie.spec
-    (λ c. search needs) (λ c. search needs) (λ c. search needs) write-requires
-    (λ c. search needs) copy-requires
-    (λ c. search needs) swap-requires
-    (λ c. search needs) resized-requires
-    (λ c. search needs) returns
-    returns-2
-    (λ c. search needs) returns-3
-    (λ c. search needs) returns-4
-    (λ c. search needs) returns-5
-    (λ c. search needs) returns-6
-    returns-7)
+    tie.close (tie.spec (λ c. search needs) (λ c. search needs) (λ c. search needs) write-requires (λ c. search needs) copy-requires
+        (λ c. search needs) swap-requires (λ c. search needs) resized-requires (λ c. search needs) returns returns-2 (λ c. search needs)
+        returns-3 (λ c. search needs) returns-4 (λ c. search needs) returns-5 (λ c. search needs) returns-6 returns-7)

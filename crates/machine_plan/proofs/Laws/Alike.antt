@@ -11,7 +11,8 @@ use Rattle.host.specs.Places.{others}
 use Rattle.machine_rules.specs.View.{Setting, setting, freeCopies}
 use Rattle.machine_rules.specs.Roots.{rangeCount}
 use Rattle.machine_rules.specs.Inputs as Says
-use Rattle.machine_rules.specs.Plan.{Source, spots, badSpan, badSpans, badProof, cost, touched, wanted, newSize, proofCount, outputCount, recordCount, judgedSource}
+use Rattle.machine_rules.specs.Plan.{Source, spots, badSpan, badSpans, badProof, cost, touched, wanted, newSize, proofCount, outputCount}
+use Rattle.machine_rules.specs.Plan.{recordCount, judgedSource}
 use Rattle.sia.specs.declared.Op.{Op}
 use Rattle.sia.specs.declared.Op.the-variants.{Read, ReadSector, Write, Copy, Swap, Truncate, Unknown}
 use Rattle.host.specs.declared.Progress.{Progress}

@@ -21,7 +21,8 @@ use Rattle.host.specs.Places.{others, freeCopy}
 use Rattle.host.specs.Facts.{Staged}
 use Rattle.machine_rules.specs.View.{Setting, readOnlyMode, freeCopies}
 use Rattle.machine_rules.specs.Inputs.{Args, argsOf}
-use Rattle.machine_rules.specs.Plan.{sourceOf, changes, badSpan, badSize, badSpans, cost, touched, wanted, newSize, recordCount, judgedSource, judgedInputs, judged}
+use Rattle.machine_rules.specs.Plan.{sourceOf, changes, badSpan, badSize, badSpans, cost, touched, wanted, newSize, recordCount}
+use Rattle.machine_rules.specs.Plan.{judgedSource, judgedInputs, judged}
 use Rattle.machine_rules.specs.Effect.{Ground, groundOf, Staging, newCopy, copied, laid, spanWritten, resized, effect}
 use Rattle.machine_rules.proofs.Laws.Lists.{some-set, lowest-is, count-but-one}
 use Rattle.machine_rules.proofs.Laws.Staged.{Free, copy-kept, grow-kept, shrink-kept}
@@ -64,10 +65,12 @@ passed-inputs z s f p i op l e =
     let c40 = passes _ 39 _ (c28 .1) in
     let c41 = passes _ 40 _ (c40 .1) in
     let c42 = passes _ 41 _ (c41 .1) in
-    record { allowed = c24 .0; spans = c26 .0; paid = ltb-false _ _ (c28 .0); free = ltb-false _ _ (c40 .0); fits = ltb-false _ _ (c41 .0); room = ltb-false _ _ (c42 .0) }
+    record { allowed = c24 .0; spans = c26 .0; paid = ltb-false _ _ (c28 .0); free = ltb-false _ _ (c40 .0); fits = ltb-false _ _ (c41 .0);
+        room = ltb-false _ _ (c42 .0) }
 
 pub passed : (z : ℕ) (s : Setting) (f : Spot → List ℕ) (p : Progress) (i : Instruction) (l : List (List ℕ)) → judged z s f p i l ≡ 0
-    → Passed z s f p (opOf (i .name)) (argsOf (opOf (i .name)) l) (recordCount z (i .proof) (sourceOf z s f p (opOf (i .name)) (argsOf (opOf (i .name)) l .key)) (opOf (i .name)) (argsOf (opOf (i .name)) l))
+    → Passed z s f p (opOf (i .name)) (argsOf (opOf (i .name)) l)
+        (recordCount z (i .proof) (sourceOf z s f p (opOf (i .name)) (argsOf (opOf (i .name)) l .key)) (opOf (i .name)) (argsOf (opOf (i .name)) l))
 unfolding judged
 passed z s f p i l e = passed-inputs z s f p i (opOf (i .name)) l (passes _ 21 _ (passes _ 20 _ e .1) .1)
 
@@ -112,13 +115,16 @@ length-copied copies at staged =
 unfoldable pub asks : List ℕ → ℕ → ℕ
 asks staged at = pick (eqb (getD staged at none) none) 1 0
 
-copied-kept : (copies start now at : ℕ) (staged : List ℕ) → copies ≤ 16 → at < now → asks staged at ≤ count (unused staged) 0 copies → Staged copies start now staged → Staged copies start now (copiedMap copies at staged)
+copied-kept : (copies start now at : ℕ) (staged : List ℕ) → copies ≤ 16 → at < now → asks staged at ≤ count (unused staged) 0 copies
+    → Staged copies start now staged → Staged copies start now (copiedMap copies at staged)
 unfolding copiedMap asks
 copied-kept copies start now at staged few lt h f =
     by (eqb (getD staged at none) none)
-    (λ e. subst (λ (x : List ℕ). Staged copies start now x) (sym (picks (eqb (getD staged at none) none) (set staged at (lowest (unused staged) 0 copies)) staged e))
+    (λ e. subst (λ (x : List ℕ). Staged copies start now x)
+        (sym (picks (eqb (getD staged at none) none) (set staged at (lowest (unused staged) 0 copies)) staged e))
     (copy-kept copies start few now at _ staged lt (free-slot copies staged (omega (arith, picks {A = ℕ} (eqb (getD staged at none) none) 1 0 e))) f))
-    (λ e. subst (λ (x : List ℕ). Staged copies start now x) (sym (skips (eqb (getD staged at none) none) (set staged at (lowest (unused staged) 0 copies)) staged e)) f)
+    (λ e. subst (λ (x : List ℕ). Staged copies start now x)
+        (sym (skips (eqb (getD staged at none) none) (set staged at (lowest (unused staged) 0 copies)) staged e)) f)
 
 -- what two positions ask for, one after the other
 pub asks-some : (staged : List ℕ) (at : ℕ) → eqb (getD staged at none) none ≡ true → asks staged at ≡ 1
@@ -133,7 +139,8 @@ asks-same : (l m : List ℕ) (at : ℕ) → getD l at none ≡ getD m at none �
 unfolding asks
 asks-same l m at e = ap (λ (x : ℕ). pick {A = ℕ} (eqb x none) 1 0) e
 
-pub copied-new : (copies at : ℕ) (staged : List ℕ) → eqb (getD staged at none) none ≡ true → copiedMap copies at staged ≡ set staged at (lowest (unused staged) 0 copies)
+pub copied-new : (copies at : ℕ) (staged : List ℕ) → eqb (getD staged at none) none ≡ true → copiedMap copies at staged
+    ≡ set staged at (lowest (unused staged) 0 copies)
 unfolding copiedMap
 copied-new copies at staged e = picks (eqb (getD staged at none) none) _ staged e
 
@@ -144,7 +151,8 @@ copied-old copies at staged e = skips (eqb (getD staged at none) none) _ staged 
 unused-set : (staged : List ℕ) (at slot j : ℕ) → (j ≡ slot → ⊥) → unused staged j ≡ true → unused (set staged at slot) j ≡ true
 unused-set staged at slot j ne h = ap not (some-set (eqb j) staged at slot (not-true _ h) (ne-eqb j slot ne))
 
-pub asks-two : (copies at to : ℕ) (staged : List ℕ) → copies ≤ 16 → at < length staged → pick (eqb to at) (asks staged at) (asks staged at + asks staged to) ≤ count (unused staged) 0 copies
+pub asks-two : (copies at to : ℕ) (staged : List ℕ) → copies ≤ 16 → at < length staged
+    → pick (eqb to at) (asks staged at) (asks staged at + asks staged to) ≤ count (unused staged) 0 copies
     → (asks staged at ≤ count (unused staged) 0 copies) × (asks (copiedMap copies at staged) to ≤ count (unused (copiedMap copies at staged)) 0 copies)
 asks-two copies at to staged few lt h =
     let one : asks staged at ≤ count (unused staged) 0 copies =
@@ -159,19 +167,23 @@ asks-two copies at to staged few lt h =
           (λ e. let q = eqb-true to at e in
           let g : getD (set staged at (lowest (unused staged) 0 copies)) to none ≡ lowest (unused staged) 0 copies =
           ap (λ (x : ℕ). getD (set staged at (lowest (unused staged) 0 copies)) x none) q ∙ getD-set-same staged at (lowest (unused staged) 0 copies) none lt in
-          let k : eqb (getD (set staged at (lowest (unused staged) 0 copies)) to none) none ≡ false = ne-eqb (getD (set staged at (lowest (unused staged) 0 copies)) to none) none (λ x. omega (arith, g, fr .below)) in
+          let k : eqb (getD (set staged at (lowest (unused staged) 0 copies)) to none) none ≡ false =
+              ne-eqb (getD (set staged at (lowest (unused staged) 0 copies)) to none) none (λ x. omega (arith, g, fr .below)) in
           omega (arith, asks-none (set staged at (lowest (unused staged) 0 copies)) to k))
           (λ e. omega (
             arith,
             h,
             skips (eqb to at) (asks staged at) (asks staged at + asks staged to) e,
             asks-some staged at u,
-            asks-same (set staged at (lowest (unused staged) 0 copies)) staged to (getD-set-other staged at to (lowest (unused staged) 0 copies) none (eqb-false to at e)),
-            count-but-one (unused staged) (unused (set staged at (lowest (unused staged) 0 copies))) (lowest (unused staged) 0 copies) (unused-set staged at (lowest (unused staged) 0 copies)) 0 copies,
+            asks-same (set staged at (lowest (unused staged) 0 copies)) staged to
+                (getD-set-other staged at to (lowest (unused staged) 0 copies) none (eqb-false to at e)),
+            count-but-one (unused staged) (unused (set staged at (lowest (unused staged) 0 copies))) (lowest (unused staged) 0 copies)
+                (unused-set staged at (lowest (unused staged) 0 copies)) 0 copies,
           ))))
           (λ u. rw (copied-old copies at staged u)
           (by (eqb to at)
-          (λ e. let q = eqb-true to at e in let k : asks staged to ≡ asks staged at = ap (λ (x : ℕ). asks staged x) q in omega (arith, k, asks-none staged at u))
+          (λ e. let q = eqb-true to at e in let k : asks staged to ≡ asks staged at = ap (λ (x : ℕ). asks staged x) q in
+              omega (arith, k, asks-none staged at u))
           (λ e. omega (arith, h, skips (eqb to at) (asks staged at) (asks staged at + asks staged to) e)))),
     )
 
@@ -205,8 +217,10 @@ span-in z size at n e =
     let le = ltb-false size (at + n) (b .0) in
     omega (arith, ne)
 
-module _ (z : ℕ) (s : Setting) (p : Progress) (start : ℕ) (pos : 0 < z) (few : s .copies ≤ 16) (whole : p .size % z ≡ 0) (f : Staged (s .copies) start (p .size / z) (p .staged)) where
-  one-kept : (at : ℕ) → at < p .size → asks (p .staged) (at / z) ≤ freeCopies s p → Staged (s .copies) start (p .size / z) (copiedMap (s .copies) (at / z) (p .staged))
+module _ (z : ℕ) (s : Setting) (p : Progress) (start : ℕ) (pos : 0 < z) (few : s .copies ≤ 16) (whole : p .size % z ≡ 0)
+    (f : Staged (s .copies) start (p .size / z) (p .staged)) where
+  one-kept : (at : ℕ) → at < p .size → asks (p .staged) (at / z) ≤ freeCopies s p → Staged (s .copies) start (p .size / z)
+      (copiedMap (s .copies) (at / z) (p .staged))
   unfolding freeCopies
   one-kept at lt h = copied-kept (s .copies) start (p .size / z) (at / z) (p .staged) few (sector-below z at (p .size) pos whole lt) h f
 
@@ -237,15 +251,18 @@ past-first zero (x ∷ xs) h = both-left _ _ h
 past-first (suc n) [] h = refl
 past-first (suc n) (x ∷ xs) h = past-first n xs h
 
-new-copy-map : (z : ℕ) (n : Ground) (at : ℕ) (bs : List ℕ) (g : Staging) → newCopy z n at bs g .staged ≡ set (g .staged) at (lowest (unused (g .staged)) 0 (n .copies))
+new-copy-map : (z : ℕ) (n : Ground) (at : ℕ) (bs : List ℕ) (g : Staging) → newCopy z n at bs g .staged
+    ≡ set (g .staged) at (lowest (unused (g .staged)) 0 (n .copies))
 unfolding newCopy freeCopy
 new-copy-map z n at bs g = refl
 
-pub resized-more : (z : ℕ) (n : Ground) (now to : ℕ) (g : Staging) → ltb now to ≡ true → resized z n now to g .staged ≡ set (g .staged) (now / z) (lowest (unused (g .staged)) 0 (n .copies))
+pub resized-more : (z : ℕ) (n : Ground) (now to : ℕ) (g : Staging) → ltb now to ≡ true → resized z n now to g .staged
+    ≡ set (g .staged) (now / z) (lowest (unused (g .staged)) 0 (n .copies))
 unfolding resized
 resized-more z n now to g e = ap (λ (x : Staging). x .staged) (picks (ltb now to) _ _ e) ∙ new-copy-map z n (now / z) (zeros z) g
 
-pub resized-less : (z : ℕ) (n : Ground) (now to : ℕ) (g : Staging) → ltb now to ≡ false → ltb to now ≡ true → resized z n now to g .staged ≡ set (g .staged) (to / z) none
+pub resized-less : (z : ℕ) (n : Ground) (now to : ℕ) (g : Staging) → ltb now to ≡ false → ltb to now ≡ true → resized z n now to g .staged
+    ≡ set (g .staged) (to / z) none
 unfolding resized
 resized-less z n now to g e d = ap (λ (x : Staging). x .staged) (skips (ltb now to) _ _ e ∙ picks (ltb to now) _ _ d)
 
@@ -266,7 +283,8 @@ sized z now to e =
     let b = neither _ _ (a .1) in
     record { whole = eqb-true _ _ (not-false _ (a .0)); up = ltb-false _ _ (b .0); down = ltb-false _ _ (b .1) }
 
-resized-kept : (z : ℕ) (s : Setting) (p : Progress) (start to : ℕ) (bytes : List ℕ) → 0 < z → s .copies ≤ 16 → p .size % z ≡ 0 → Staged (s .copies) start (p .size / z) (p .staged)
+resized-kept : (z : ℕ) (s : Setting) (p : Progress) (start to : ℕ) (bytes : List ℕ) → 0 < z → s .copies ≤ 16 → p .size % z ≡ 0
+    → Staged (s .copies) start (p .size / z) (p .staged)
     → Sized z (p .size) to → to ≤ length (p .staged) * z → (ltb (p .size) to ≡ true → asks (p .staged) (p .size / z) ≤ freeCopies s p)
     → Staged (s .copies) start (to / z) (resized z (groundOf s) (p .size) to (record { staged = p .staged; bytes = bytes }) .staged)
 unfolding freeCopies
@@ -289,32 +307,42 @@ resized-kept z s p start to bytes pos few whole f sz len free =
     subst (λ (m : List ℕ). Staged (s .copies) start (to / z) m) (sym (resized-same z (groundOf s) (p .size) to g e d))
     (subst (λ (n : ℕ). Staged (s .copies) start (n / z) (p .staged)) q f)))
 
-pub swap-asks : (b : Bool) (staged : List ℕ) (at to : ℕ) → length (those (λ n. eqb (getD staged n none) none) (pick b (at ∷ []) (at ∷ to ∷ []))) ≡ pick b (asks staged at) (asks staged at + asks staged to)
+pub swap-asks : (b : Bool) (staged : List ℕ) (at to : ℕ) → length (those (λ n. eqb (getD staged n none) none) (pick b (at ∷ []) (at ∷ to ∷ [])))
+    ≡ pick b (asks staged at) (asks staged at + asks staged to)
 unfolding pick
 swap-asks true staged at to = wanted-one staged at
 swap-asks false staged at to = wanted-two staged at to
 
 -- ---- each instruction
 
-module _ (z : ℕ) (s : Setting) (p : Progress) (start : ℕ) (pos : 0 < z) (few : s .copies ≤ 16) (most : s .sectors ≤ length (p .staged)) (whole : p .size % z ≡ 0)
+module _ (z : ℕ) (s : Setting) (p : Progress) (start : ℕ) (pos : 0 < z) (few : s .copies ≤ 16) (most : s .sectors ≤ length (p .staged))
+    (whole : p .size % z ≡ 0)
     (under : p .size / z ≤ length (p .staged)) (f : Staged (s .copies) start (p .size / z) (p .staged)) (bytes : List ℕ) {r : Spot → List ℕ} where
-  pub effect-kept : (op : Op) (a : Args) (n : ℕ) → Passed z s r p op a n → Staged (s .copies) start (newSize (p .size) op a / z) (effect z (groundOf s) (p .size) op a (record { staged = p .staged; bytes = bytes }) .staged)
+  pub effect-kept : (op : Op) (a : Args) (n : ℕ) → Passed z s r p op a n → Staged (s .copies) start (newSize (p .size) op a / z)
+      (effect z (groundOf s) (p .size) op a (record { staged = p .staged; bytes = bytes }) .staged)
   unfolding effect newSize badSpans wanted touched
   effect-kept Read a n q = f
   effect-kept ReadSector a n q = f
   effect-kept Write a n q =
       subst (λ (m : List ℕ). Staged (s .copies) start (p .size / z) m) (sym (written-map z (groundOf s) (a .first) _ _))
-      (one-kept z s p start pos few whole f (a .first) (span-in z (p .size) (a .first) (a .len) (q .spans)) (omega (arith, q .free, wanted-one (p .staged) (a .first / z))))
+      (one-kept z s p start pos few whole f (a .first) (span-in z (p .size) (a .first) (a .len) (q .spans))
+          (omega (arith, q .free, wanted-one (p .staged) (a .first / z))))
   effect-kept Copy a n q =
       subst (λ (m : List ℕ). Staged (s .copies) start (p .size / z) m) (sym (written-map z (groundOf s) (a .first) _ _))
-      (one-kept z s p start pos few whole f (a .first) (span-in z (p .size) (a .first) (a .len) (either-left _ _ (q .spans))) (omega (arith, q .free, wanted-one (p .staged) (a .first / z))))
+      (one-kept z s p start pos few whole f (a .first) (span-in z (p .size) (a .first) (a .len) (either-left _ _ (q .spans)))
+          (omega (arith, q .free, wanted-one (p .staged) (a .first / z))))
   effect-kept Swap a n q =
-      subst (λ (m : List ℕ). Staged (s .copies) start (p .size / z) m) (sym (written-map z (groundOf s) (a .first) _ _ ∙ ap (λ (m : List ℕ). copiedMap (s .copies) (a .first / z) m) (written-map z (groundOf s) (a .second) _ _)))
-      (two-kept z s p start pos few whole f (a .second) (a .first) (span-in z (p .size) (a .second) (a .len) (either-right _ _ (q .spans))) (span-in z (p .size) (a .first) (a .len) (either-left _ _ (q .spans))) under
+      subst (λ (m : List ℕ). Staged (s .copies) start (p .size / z) m)
+          (sym (written-map z (groundOf s) (a .first) _ _ ∙ ap (λ (m : List ℕ). copiedMap (s .copies) (a .first / z) m)
+          (written-map z (groundOf s) (a .second) _ _)))
+      (two-kept z s p start pos few whole f (a .second) (a .first) (span-in z (p .size) (a .second) (a .len) (either-right _ _ (q .spans)))
+          (span-in z (p .size) (a .first) (a .len) (either-left _ _ (q .spans))) under
       (subst (λ (x : ℕ). x ≤ freeCopies s p) (swap-asks (eqb (a .first / z) (a .second / z)) (p .staged) (a .second / z) (a .first / z)) (q .free)))
   effect-kept Truncate a n q =
-      resized-kept z s p start (a .first) bytes pos few whole f (sized z (p .size) (a .first) (q .spans)) (le-trans (omega (arith, q .fits)) (mul-le-mul-right {m = s .sectors} {n = length (p .staged)} z most))
-      (λ e. omega (arith, q .free, wanted-one (p .staged) (p .size / z), ap (λ (l : List ℕ). length (those (λ n. eqb (getD (p .staged) n none) none) l)) (picks (ltb (p .size) (a .first)) (p .size / z ∷ []) [] e)))
+      resized-kept z s p start (a .first) bytes pos few whole f (sized z (p .size) (a .first) (q .spans))
+          (le-trans (omega (arith, q .fits)) (mul-le-mul-right {m = s .sectors} {n = length (p .staged)} z most))
+      (λ e. omega (arith, q .free, wanted-one (p .staged) (p .size / z),
+          ap (λ (l : List ℕ). length (those (λ n. eqb (getD (p .staged) n none) none) l)) (picks (ltb (p .size) (a .first)) (p .size / z ∷ []) [] e)))
   effect-kept Unknown a n q = f
 
 pub effect-length : (z : ℕ) (n : Ground) (size : ℕ) (op : Op) (a : Args) (g : Staging) → length (effect z n size op a g .staged) ≡ length (g .staged)
@@ -323,7 +351,8 @@ effect-length z n size Read a g = refl
 effect-length z n size ReadSector a g = refl
 effect-length z n size Write a g = ap length (written-map z n (a .first) _ g) ∙ length-copied _ _ _
 effect-length z n size Copy a g = ap length (written-map z n (a .first) _ g) ∙ length-copied _ _ _
-effect-length z n size Swap a g = ap length (written-map z n (a .first) _ _) ∙ length-copied _ _ _ ∙ ap length (written-map z n (a .second) _ g) ∙ length-copied _ _ _
+effect-length z n size Swap a g = ap length (written-map z n (a .first) _ _) ∙ length-copied _ _ _ ∙ ap length (written-map z n (a .second) _ g)
+    ∙ length-copied _ _ _
 effect-length z n size Truncate a g =
     by (ltb size (a .first))
     (λ e. ap length (resized-more z n size (a .first) g e) ∙ simp length-set)
@@ -332,7 +361,8 @@ effect-length z n size Truncate a g =
     (λ d. ap length (resized-same z n size (a .first) g e d)))
 effect-length z n size Unknown a g = refl
 
-pub size-whole : (z : ℕ) (s : Setting) {r : Spot → List ℕ} (p : Progress) (op : Op) (a : Args) (n : ℕ) → Passed z s r p op a n → p .size % z ≡ 0 → newSize (p .size) op a % z ≡ 0
+pub size-whole : (z : ℕ) (s : Setting) {r : Spot → List ℕ} (p : Progress) (op : Op) (a : Args) (n : ℕ) → Passed z s r p op a n → p .size % z ≡ 0
+    → newSize (p .size) op a % z ≡ 0
 unfolding newSize badSpans
 size-whole z s p Read a n q w = w
 size-whole z s p ReadSector a n q w = w

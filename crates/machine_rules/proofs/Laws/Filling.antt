@@ -23,7 +23,8 @@ use Rattle.machine_rules.specs.declared.Spot.{Spot}
 -- ---- slots
 
 -- bytes within slot k leave slot m
-pub other-span : (z : ℕ) (a : List ℕ) (k m off : ℕ) (bs : List ℕ) → off + length bs ≤ z → (k ≡ m → ⊥) → part (put a (k * z + off) bs) (m * z) z ≡ part a (m * z) z
+pub other-span : (z : ℕ) (a : List ℕ) (k m off : ℕ) (bs : List ℕ) → off + length bs ≤ z → (k ≡ m → ⊥) → part (put a (k * z + off) bs) (m * z) z
+    ≡ part a (m * z) z
 other-span z a k m off bs few ne =
     by (ltb m k)
     (λ e. let le = mul-le-mul-right {m = suc m} {n = k} z (ltb-true m k e) in part-before a (k * z + off) bs (m * z) z (omega (arith, suc-mul m z)))
@@ -61,7 +62,8 @@ module _ (z : ℕ) (stage staged slots : List ℕ) where
   back-other m i disk ne =
       by (eqb (getD staged i none) none)
       (λ e. ap (λ (d : List ℕ). part d (m * z) z) (picks (eqb (getD staged i none) none) disk _ e))
-      (λ e. ap (λ (d : List ℕ). part d (m * z) z) (skips (eqb (getD staged i none) none) disk _ e) ∙ other-slot z disk (getD slots i 0) m _ (few-part stage _ z) (ne e))
+      (λ e. ap (λ (d : List ℕ). part d (m * z) z) (skips (eqb (getD staged i none) none) disk _ e)
+          ∙ other-slot z disk (getD slots i 0) m _ (few-part stage _ z) (ne e))
 
   -- what position j's slot holds in the end
   unfoldable pub held : ℕ → List ℕ → List ℕ
@@ -71,14 +73,17 @@ module _ (z : ℕ) (stage staged slots : List ℕ) where
   unfolding held
   held-alike j a b e = ap (λ (l : List ℕ). pick (eqb (getD staged j none) none) l (part stage (getD staged j none * z) z)) e
 
-  back-own : (i : ℕ) (disk : List ℕ) → getD slots i 0 * z + z ≤ length disk → (eqb (getD staged i none) none ≡ false → length (part stage (getD staged i none * z) z) ≡ z)
+  back-own : (i : ℕ) (disk : List ℕ) → getD slots i 0 * z + z ≤ length disk
+      → (eqb (getD staged i none) none ≡ false → length (part stage (getD staged i none * z) z) ≡ z)
       → part (back i disk) (getD slots i 0 * z) z ≡ held i disk
   unfolding back held
   back-own i disk room full =
       by (eqb (getD staged i none) none)
-      (λ e. ap (λ (d : List ℕ). part d (getD slots i 0 * z) z) (picks (eqb (getD staged i none) none) disk _ e) ∙ sym (picks (eqb (getD staged i none) none) _ _ e))
+      (λ e. ap (λ (d : List ℕ). part d (getD slots i 0 * z) z) (picks (eqb (getD staged i none) none) disk _ e)
+          ∙ sym (picks (eqb (getD staged i none) none) _ _ e))
       (λ e. ap (λ (d : List ℕ). part d (getD slots i 0 * z) z) (skips (eqb (getD staged i none) none) disk _ e)
-      ∙ part-put disk (getD slots i 0 * z) (part stage (getD staged i none * z) z) z (sym (full e)) (omega (arith, full e)) ∙ sym (skips (eqb (getD staged i none) none) _ _ e))
+      ∙ part-put disk (getD slots i 0 * z) (part stage (getD staged i none * z) z) z (sym (full e)) (omega (arith, full e))
+          ∙ sym (skips (eqb (getD staged i none) none) _ _ e))
 
   -- ---- all of them
 
@@ -102,7 +107,8 @@ module _ (z : ℕ) (stage staged slots : List ℕ) where
   filling-inside i (suc n) disk own j lo hi room full =
       by (ltb i j)
       (λ e. let lt = ltb-true i j e in
-      filling-inside (suc i) n (back i disk) (λ j k lo lt hi. own j k (omega arith) lt (omega arith)) j (omega arith) (omega arith) (omega (arith, back-length i disk)) full
+      filling-inside (suc i) n (back i disk) (λ j k lo lt hi. own j k (omega arith) lt (omega arith)) j (omega arith) (omega arith)
+          (omega (arith, back-length i disk)) full
       ∙ held-alike j (back i disk) disk (back-other (getD slots j 0) i disk (λ u. own i j (omega arith) lt (omega arith))))
       (λ e. let q : i ≡ j = omega (arith, ltb-false i j e) in
       filling-outside (getD slots j 0) (suc i) n (back i disk) (λ k low high u v. own j k (omega arith) (omega arith) (omega arith) (sym v))

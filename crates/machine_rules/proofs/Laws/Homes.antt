@@ -16,7 +16,7 @@ use Rattle.host.specs.Lists.{apart, firstOf}
 use Rattle.host.specs.Empty.{noPlace}
 use Rattle.host.specs.Places.{hasId, whose}
 use Rattle.host.specs.Order.{placeInOrder, twins}
-use Rattle.machine_rules.specs.View.{Setting, parent, committedSpots}
+use Rattle.machine_rules.specs.View.{Setting, committedSpots}
 use Rattle.machine_rules.specs.Seats.{seated, committedSeats, seats, nobody, allSeats}
 use Rattle.machine_rules.specs.StageFirst.{writing, reading}
 use Rattle.machine_rules.proofs.Laws.Search.{Apart}

@@ -83,13 +83,16 @@ unfolding failedProgress
 failed-good z s p e g =
     let o = g .orderly in
     record {
-      orderly = record { ran = o .ran; paid = o .paid; fits = omega (arith, o .fits, skips {A = ℕ} (p .failed) 0 72 e, picks {A = ℕ} true 0 72 refl); whole = o .whole; within = o .within; staged = o .staged };
+      orderly = record { ran = o .ran; paid = o .paid; fits = omega (arith, o .fits, skips {A = ℕ} (p .failed) 0 72 e, picks {A = ℕ} true 0 72 refl);
+          whole = o .whole; within = o .within; staged = o .staged };
       terms = terms-size (s .places) (s .terms) (p .size) _ (λ u. refl) (g .terms);
       entries = g .entries;
     }
 
-pub ran-good : (z : ℕ) (s : Setting) (p : Progress) (op : Op) (a : Args) (n : ℕ) (bytes : List ℕ) {r : Spot → List ℕ} → Lent z s → p .failed ≡ false → p .ran < s .terms .head .count → Passed z s r p op a n → Good z s p
-    → Good z s (ranProgress p (cost (s .terms .head .length) (s .terms .prices) op (a .len)) n (newSize (p .size) op a) (effect z (groundOf s) (p .size) op a (record { staged = p .staged; bytes = bytes }) .staged))
+pub ran-good : (z : ℕ) (s : Setting) (p : Progress) (op : Op) (a : Args) (n : ℕ) (bytes : List ℕ) {r : Spot → List ℕ} → Lent z s → p .failed ≡ false
+    → p .ran < s .terms .head .count → Passed z s r p op a n → Good z s p
+    → Good z s (ranProgress p (cost (s .terms .head .length) (s .terms .prices) op (a .len)) n (newSize (p .size) op a)
+        (effect z (groundOf s) (p .size) op a (record { staged = p .staged; bytes = bytes }) .staged))
 unfolding ranProgress
 ran-good z s p op a n bytes L e lt q g =
     let o = g .orderly in
@@ -103,7 +106,8 @@ ran-good z s p op a n bytes L e lt q g =
         fits = omega (arith, q .room, skips {A = ℕ} (p .failed) 0 72 e);
         whole = size-whole z s p op a n q (o .whole);
         within = q .fits;
-        staged = effect-kept z s p (startOf z s) (Slots.some z (L .size)) (L .few) (omega (arith, L .most, g .entries)) (o .whole) (omega (arith, u, g .entries)) (o .staged) bytes op a n q;
+        staged = effect-kept z s p (startOf z s) (Slots.some z (L .size)) (L .few) (omega (arith, L .most, g .entries)) (o .whole)
+            (omega (arith, u, g .entries)) (o .staged) bytes op a n q;
       };
       terms = terms-size (s .places) (s .terms) (p .size) _ (λ r. size-read op (p .size) a (not-both (changes op) (q .allowed) r)) (g .terms);
       entries = effect-length z (groundOf s) (p .size) op a _ ∙ g .entries;
@@ -114,18 +118,22 @@ ran-good z s p op a n bytes L e lt q g =
 
 -- ---- a step, a run
 
-pub stepped-good : (z : ℕ) (s : Setting) (i : Instruction) (l : List (List ℕ)) (t : Turn) → Lent z s → going (s .terms) (t .progress) ≡ true → Good z s (t .progress) → Good z s (stepped z s i l t .progress)
+pub stepped-good : (z : ℕ) (s : Setting) (i : Instruction) (l : List (List ℕ)) (t : Turn) → Lent z s → going (s .terms) (t .progress) ≡ true
+    → Good z s (t .progress) → Good z s (stepped z s i l t .progress)
 unfolding stepped succeeding failing
 stepped-good z s i l t L h g =
     by (eqb (judged z s (rootAt z s t) (t .progress) i l) 0)
     (λ e. subst (λ (x : Turn). Good z s (x .progress)) (sym (picks (eqb (judged z s (rootAt z s t) (t .progress) i l) 0) _ _ e))
-    (ran-good z s (t .progress) (opOf (i .name)) (argsOf (opOf (i .name)) l) _ (t .stage) L (not-failed s t h) (left-going s t h .1) (passed z s (rootAt z s t) (t .progress) i l (eqb-true _ _ e)) g))
-    (λ e. subst (λ (x : Turn). Good z s (x .progress)) (sym (skips (eqb (judged z s (rootAt z s t) (t .progress) i l) 0) _ _ e)) (failed-good z s (t .progress) (not-failed s t h) g))
+    (ran-good z s (t .progress) (opOf (i .name)) (argsOf (opOf (i .name)) l) _ (t .stage) L (not-failed s t h) (left-going s t h .1)
+        (passed z s (rootAt z s t) (t .progress) i l (eqb-true _ _ e)) g))
+    (λ e. subst (λ (x : Turn). Good z s (x .progress)) (sym (skips (eqb (judged z s (rootAt z s t) (t .progress) i l) 0) _ _ e))
+        (failed-good z s (t .progress) (not-failed s t h) g))
 
 pub runs-good : (z : ℕ) (s : Setting) (a : List ℕ) (k n : ℕ) (t : Turn) → Lent z s → Good z s (t .progress) → Good z s (runs z s a k n t .progress)
 unfolding runs step
 runs-good z s a k zero t L g = g
 runs-good z s a k (suc n) t L g =
     by (ready s k t)
-    (λ r. subst (λ (x : Turn). Good z s (x .progress)) (sym (runs-go z s a k n t r)) (runs-good z s a k n (step z s a t) L (stepped-good z s (current s t) (inputsOf (current s t) a) t L (ready-going s k t r) g)))
+    (λ r. subst (λ (x : Turn). Good z s (x .progress)) (sym (runs-go z s a k n t r))
+        (runs-good z s a k n (step z s a t) L (stepped-good z s (current s t) (inputsOf (current s t) a) t L (ready-going s k t r) g)))
     (λ r. subst (λ (x : Turn). Good z s (x .progress)) (sym (runs-stop z s a k (suc n) t r)) g)

@@ -10,20 +10,21 @@ use lib.Dec.{ltb, eqb}
 use borrow.Author.Tests.{not-false, ltb-true, ltb-false, eqb-true, eqb-false, eq-eqb}
 use Rattle.area.specs.Pick.{pick}
 use Rattle.area.specs.Area.{part}
-use Rattle.area.proofs.Laws.Pick.{by, picks, skips, never, both-left, both-right, either-left}
+use Rattle.area.proofs.Laws.Pick.{by, picks, skips, never, both-left, either-left}
 use Rattle.area.proofs.Laws.Parts.{length-part}
 use Rattle.area.proofs.Laws.Little.{length-bytes}
 use Rattle.tree.specs.Walk.{count}
-use Rattle.tree.proofs.Promise.{roots, proofs}
+use Rattle.tree.proofs.Promise.{roots}
 use Rattle.sia.specs.Names.{opOf}
 use Rattle.sia.specs.Encode.{joined, every}
 use Rattle.machine_rules.specs.View.{Way, kept, worked, Setting, Turn, sector, parent, committedSpots}
-use Rattle.machine_rules.specs.Roots.{sectorRoot, keptRoot, rootBy, rootOf, contractRoot, segments, rangeProof, rangeCount, rootAt, rootOnDisk}
+use Rattle.machine_rules.specs.Roots.{sectorRoot, keptRoot, rootBy, rootOf, contractRoot, segments, rangeProof, rootAt, rootOnDisk}
 use Rattle.machine_rules.proofs.Laws.Worked.{proof-counted}
 use Rattle.machine_rules.proofs.Laws.Areas.{rehashed-length}
 use Rattle.machine_rules.specs.Inputs.{Args, argsOf, illFormed, pastEnd, wellFormed}
-use Rattle.machine_rules.specs.Plan.{Source, spots, sourceOf, reads, badSpan, badSpans, badProof, newSize, proofCount, outputCount, recordCount, judgedSource, judgedInputs, judged}
-use Rattle.machine_rules.specs.Effect.{groundOf, effect, rehashed}
+use Rattle.machine_rules.specs.Plan.{Source, spots, sourceOf, reads, badSpan, badSpans, badProof, newSize, proofCount, outputCount}
+use Rattle.machine_rules.specs.Plan.{recordCount, judgedSource, judgedInputs, judged}
+use Rattle.machine_rules.specs.Effect.{groundOf, effect}
 use Rattle.machine_rules.specs.Record.{pairOf, startingPair, runningPair, recordBytes, failureBytes, outputOf, successBytes}
 use Rattle.machine_rules.specs.Run.{failedProgress, failing, ranProgress, succeeding, stepped}
 use Rattle.machine_rules.specs.Trace.{recordOf}
@@ -45,12 +46,14 @@ use Rattle.machine_rules.specs.declared.Spot.the-variants.{OnDisk, InSta
 slot-length : (l : List ℕ) (n m z : ℕ) → n < m → length l ≡ m * z → length (part l (n * z) z) ≡ z
 slot-length l n m z lt e = length-part l (n * z) z (omega (arith, mul-le-mul-right {m = suc n} {n = m} z lt, suc-mul n z))
 
-pub sector-length : (z : ℕ) (s : Setting) (stage : List ℕ) (x : Spot) → length (s .disk) ≡ s .sectors * z → length stage ≡ s .copies * z → valid s x ≡ true → length (sector z (s .disk) stage x) ≡ z
+pub sector-length : (z : ℕ) (s : Setting) (stage : List ℕ) (x : Spot) → length (s .disk) ≡ s .sectors * z → length stage ≡ s .copies * z → valid s x ≡ true
+    → length (sector z (s .disk) stage x) ≡ z
 unfolding sector valid
 sector-length z s stage (OnDisk n) d e v = slot-length (s .disk) n (s .sectors) z (ltb-true _ _ v) d
 sector-length z s stage (InStage n) d e v = slot-length stage n (s .copies) z (ltb-true _ _ v) e
 
-output-length : (z : ℕ) (s : Setting) (stage : List ℕ) (l : List Spot) (a : Args) → length (s .disk) ≡ s .sectors * z → length stage ≡ s .copies * z → every (valid s) l ≡ true
+output-length : (z : ℕ) (s : Setting) (stage : List ℕ) (l : List Spot) (a : Args) → length (s .disk) ≡ s .sectors * z → length stage ≡ s .copies * z
+    → every (valid s) l ≡ true
     → badSpan z (length l * z) (a .first) (a .len) ≡ false → length (outputOf z (s .disk) stage l a) ≡ a .len
 unfolding outputOf badSpan every
 output-length z s stage [] a d e v b =
@@ -62,7 +65,8 @@ output-length z s stage (c ∷ cs) a d e v b =
     let x = neither (eqb (a .len) 0) _ b in
     let y = neither (ltb (length (c ∷ cs) * z) (a .first + a .len)) _ (x .1) in
     let w = sector-length z s stage (getD (c ∷ cs) (a .first / z) c) d e (every-at (valid s) (c ∷ cs) (a .first / z) c v (both-left _ _ v)) in
-    length-part (sector z (s .disk) stage (getD (c ∷ cs) (a .first / z) c)) (a .first % z) (a .len) (omega (arith, w, ltb-false z (a .first % z + a .len) (y .1)))
+    length-part (sector z (s .disk) stage (getD (c ∷ cs) (a .first / z) c)) (a .first % z) (a .len)
+        (omega (arith, w, ltb-false z (a .first % z + a .len) (y .1)))
 
 -- the output part of a record: for a change nothing, else what was read
 shown : (n : ℕ) (l : List ℕ) → length l ≡ n → length (pick (eqb n 0) [] l) ≡ n
@@ -91,7 +95,8 @@ read-span z size from Swap a e b = never (sym e)
 read-span z size from Truncate a e b = never (sym e)
 read-span z size from Unknown a e b = never (sym e)
 
-shown-length : (z : ℕ) (s : Setting) (size : ℕ) (from : Source) (stage : List ℕ) (op : Op) (a : Args) → length (s .disk) ≡ s .sectors * z → length stage ≡ s .copies * z
+shown-length : (z : ℕ) (s : Setting) (size : ℕ) (from : Source) (stage : List ℕ) (op : Op) (a : Args) → length (s .disk) ≡ s .sectors * z
+    → length stage ≡ s .copies * z
     → every (valid s) (spots from) ≡ true → badSpans z size from op a ≡ false
     → length (pick (eqb (outputCount op a) 0) [] (outputOf z (s .disk) stage (spots from) a)) ≡ outputCount op a
 shown-length z s size from stage op a d e v b =
@@ -132,14 +137,16 @@ span-within z n at len pos b first many =
     }
 
 -- the roots that a reader gives have 32 bytes, whether they are right or not
-reader-long : (way : Way) (z : ℕ) (s : Setting) (stage copies : List ℕ) → s .sectors ≤ 64 → s .copies ≤ 16 → length (s .roots) ≡ 2048 → length copies ≡ 512 → (x : Spot) → valid s x ≡ true
+reader-long : (way : Way) (z : ℕ) (s : Setting) (stage copies : List ℕ) → s .sectors ≤ 64 → s .copies ≤ 16 → length (s .roots) ≡ 2048 → length copies ≡ 512
+    → (x : Spot) → valid s x ≡ true
     → length (rootBy way z (s .disk) stage (s .roots) copies x) ≡ 32
 unfolding rootBy keptRoot sectorRoot sector valid
 reader-long kept z s stage copies most few d e (OnDisk n) v = length-part (s .roots) (n * 32) 32 (omega (arith, ltb-true n (s .sectors) v))
 reader-long kept z s stage copies most few d e (InStage n) v = length-part copies (n * 32) 32 (omega (arith, ltb-true n (s .copies) v))
 reader-long worked z s stage copies most few d e x v = roots .root-long (sector z (s .disk) stage x)
 
-pub length-proof : (z : ℕ) (s : Setting) (stage copies : List ℕ) (from : Source) (a : Args) (asked : Bool) → Solid z s → length stage ≡ s .copies * z → length (s .roots) ≡ 2048 → length copies ≡ 512
+pub length-proof : (z : ℕ) (s : Setting) (stage copies : List ℕ) (from : Source) (a : Args) (asked : Bool) → Solid z s → length stage ≡ s .copies * z
+    → length (s .roots) ≡ 2048 → length copies ≡ 512
     → every (valid s) (spots from) ≡ true → length (spots from) ≤ 64 → (asked ≡ true → Within z (length (spots from)) (a .first) (a .len))
     → length (pick asked (rangeProof z (rootOf z s stage copies) (s .disk) stage (spots from) (a .first) (a .len)) []) ≡ 32 * proofCount z asked from a
 unfolding proofCount pick rootOf
@@ -148,10 +155,12 @@ length-proof z s stage copies from a true solid e d c v few within =
     let k = size .depth in
     let hi = mul-le-mul-right {m = length (spots from)} {n = 64} (2 ^ k) few in
     proof-counted z k (size .segments) (rootOf z s stage copies) (s .disk) stage (valid s) (λ x u. sector-length z s stage x (solid .disk) e u)
-    (reader-long (s .way) z s stage copies (solid .lent .most) (solid .lent .few) d c) (spots from) v (omega (arith, hi, size .segments, size .most)) (a .first) (a .len) (within refl)
+    (reader-long (s .way) z s stage copies (solid .lent .most) (solid .lent .few) d c) (spots from) v (omega (arith, hi, size .segments, size .most))
+        (a .first) (a .len) (within refl)
 length-proof z s stage copies from a false solid e d c v few within = refl
 
-length-record : (number cost : ℕ) (pair : Pair) (hashes : ℕ) (proof : List ℕ) (count : ℕ) (output : List ℕ) → length (pair .root) ≡ 32 → length proof ≡ 32 * hashes
+length-record : (number cost : ℕ) (pair : Pair) (hashes : ℕ) (proof : List ℕ) (count : ℕ) (output : List ℕ) → length (pair .root) ≡ 32 → length proof
+    ≡ 32 * hashes
     → length output ≡ count → length (recordBytes number cost pair hashes proof count output) ≡ 72 + 32 * hashes + count
 unfolding recordBytes
 length-record number cost pair hashes proof count output r p o = simp (length-append, length-bytes, r, p, o) (omega arith)
@@ -161,7 +170,8 @@ unfolding failureBytes startingPair pairOf
 failure-length z s n = length-record n 0 _ 0 [] 0 [] (length-root (rootOnDisk z s) (committedSpots z (parent s))) refl refl
 
 -- a proof is asked of a read
-pub asked-reads : (z : ℕ) (s : Setting) (f : Spot → List ℕ) (p : Progress) (i : Instruction) (l : List (List ℕ)) → judged z s f p i l ≡ 0 → i .proof ≡ true → reads (opOf (i .name)) ≡ true
+pub asked-reads : (z : ℕ) (s : Setting) (f : Spot → List ℕ) (p : Progress) (i : Instruction) (l : List (List ℕ)) → judged z s f p i l ≡ 0 → i .proof ≡ true
+    → reads (opOf (i .name)) ≡ true
 unfolding judged judgedInputs judgedSource badProof
 asked-reads z s f p i l e h =
     let inputs = passes _ 21 _ (passes _ 20 _ e .1) .1 in
@@ -196,8 +206,10 @@ proof-right op a e =
     let y = neither (not (eqb (a .first % 64) 0)) _ (x .1) in
     (eqb-true _ _ (not-false _ (y .0)), eqb-true _ _ (not-false _ (y .1)))
 
-success-length : (z : ℕ) (s : Setting) (f : Spot → List ℕ) (p : Progress) (asked : Bool) (op : Op) (a : Args) (n count : ℕ) (bytes copies : List ℕ) → Solid z s → Good z s p
-    → length bytes ≡ s .copies * z → length (s .roots) ≡ 2048 → length copies ≡ 512 → Passed z s f p op a count → (asked ≡ true → reads op ≡ true) → (asked ≡ true → badProof op a ≡ false)
+success-length : (z : ℕ) (s : Setting) (f : Spot → List ℕ) (p : Progress) (asked : Bool) (op : Op) (a : Args) (n count : ℕ) (bytes copies : List ℕ)
+    → Solid z s → Good z s p
+    → length bytes ≡ s .copies * z → length (s .roots) ≡ 2048 → length copies ≡ 512 → Passed z s f p op a count → (asked ≡ true → reads op ≡ true)
+        → (asked ≡ true → badProof op a ≡ false)
     → let g = effect z (groundOf s) (p .size) op a (record { staged = p .staged; bytes = bytes }) in
     length (successBytes z s (rootOf z s (g .bytes) copies) p asked (sourceOf z s f p op (a .key)) op a n (newSize (p .size) op a) g)
     ≡ recordCount z asked (sourceOf z s f p op (a .key)) op a
@@ -206,26 +218,31 @@ success-length z s f p asked op a n count bytes copies solid g e d c q asks righ
     let from = sourceOf z s f p op (a .key) in
     let w = whole-sectors z (p .size) (g .orderly .whole) in
     let m : s .sectors * z ≤ 64 * z = mul-le-mul-right {m = s .sectors} {n = 64} z (solid .lent .most) in
-    let u : p .size / z ≤ 64 = le-of-mul-le-mul-right {m = p .size / z} {n = 64} {k = z} (omega (arith, w, g .orderly .within, m)) (Slots.some z (solid .lent .size)) in
+    let u : p .size / z ≤ 64 = le-of-mul-le-mul-right {m = p .size / z} {n = 64} {k = z} (omega (arith, w, g .orderly .within, m))
+        (Slots.some z (solid .lent .size)) in
     let valid = source-valid z s p solid (g .orderly .staged) (omega (arith, u, g .entries)) f op (a .key) in
     let stage = effect-bytes z (groundOf s) (p .size) op a (record { staged = p .staged; bytes = bytes }) ∙ e in
     length-record 0 n _ (proofCount z asked from a) _ (outputCount op a) _
     (length-root _ _)
     (length-proof z s _ copies from a asked solid stage d c valid (few-spots z s f p op (a .key) (solid .small) u)
     (λ h. let r = proof-right op a (right h) in
-    span-within z (length (spots from)) (a .first) (a .len) (Slots.some z (solid .lent .size)) (read-span z (p .size) from op a (asks h) (q .spans)) (r .0) (r .1)))
+    span-within z (length (spots from)) (a .first) (a .len) (Slots.some z (solid .lent .size)) (read-span z (p .size) from op a (asks h) (q .spans))
+        (r .0) (r .1)))
     (shown-length z s (p .size) from _ op a (solid .disk) stage valid (q .spans))
 
 -- written bytes grow by the record's length
-pub stepped-written : (z : ℕ) (s : Setting) (i : Instruction) (l : List (List ℕ)) (t : Turn) → Solid z s → Good z s (t .progress) → length (t .stage) ≡ s .copies * z
+pub stepped-written : (z : ℕ) (s : Setting) (i : Instruction) (l : List (List ℕ)) (t : Turn) → Solid z s → Good z s (t .progress) → length (t .stage)
+    ≡ s .copies * z
     → length (s .roots) ≡ 2048 → length (t .roots) ≡ 512 → stepped z s i l t .progress .written ≡ t .progress .written + length (recordOf z s i l t)
 unfolding stepped recordOf succeeding failing ranProgress failedProgress
 stepped-written z s i l t solid g e d c =
     let f = rootAt z s t in
     by (eqb (judged z s (rootAt z s t) (t .progress) i l) 0)
     (λ u. ap (λ (x : Turn). x .progress .written) (picks (eqb (judged z s (rootAt z s t) (t .progress) i l) 0) _ _ u)
-    ∙ ap (λ (n : ℕ). t .progress .written + n) (sym (success-length z s (rootAt z s t) (t .progress) (i .proof) (opOf (i .name)) (argsOf (opOf (i .name)) l) _ _ (t .stage) _ solid g e d
-    (rehashed-length z _ _ (t .roots) ∙ c) (passed z s (rootAt z s t) (t .progress) i l (eqb-true _ _ u)) (asked-reads z s (rootAt z s t) (t .progress) i l (eqb-true _ _ u)) (asked-right z s (rootAt z s t) (t .progress) i l (eqb-true _ _ u))))
+    ∙ ap (λ (n : ℕ). t .progress .written + n)
+        (sym (success-length z s (rootAt z s t) (t .progress) (i .proof) (opOf (i .name)) (argsOf (opOf (i .name)) l) _ _ (t .stage) _ solid g e d
+    (rehashed-length z _ _ (t .roots) ∙ c) (passed z s (rootAt z s t) (t .progress) i l (eqb-true _ _ u))
+        (asked-reads z s (rootAt z s t) (t .progress) i l (eqb-true _ _ u)) (asked-right z s (rootAt z s t) (t .progress) i l (eqb-true _ _ u))))
     ∙ ap (λ (x : List ℕ). t .progress .written + length x) (sym (picks (eqb (judged z s (rootAt z s t) (t .progress) i l) 0) _ _ u)))
     (λ u. ap (λ (x : Turn). x .progress .written) (skips (eqb (judged z s (rootAt z s t) (t .progress) i l) 0) _ _ u)
     ∙ ap (λ (n : ℕ). t .progress .written + n) (sym (failure-length z s _))

@@ -35,7 +35,8 @@ pub not-other : (id other : List ℕ) (p : Place) → same id other ≡ false �
 unfolding hasId
 not-other id other p ne e = both-not-right (p .held) _ (ap (λ (x : List ℕ). same x other) (same-eq (p .id) id (has-same id p e)) ∙ ne)
 
-pub whose-other : (id other : List ℕ) (x : Place) (ps : List Place) → hasId other x ≡ false → same id other ≡ false → whose other (replaced id x ps) ≡ whose other ps
+pub whose-other : (id other : List ℕ) (x : Place) (ps : List Place) → hasId other x ≡ false → same id other ≡ false → whose other (replaced id x ps)
+    ≡ whose other ps
 unfolding replaced each
 whose-other id other x [] no-x ne = refl
 whose-other id other x (p ∷ ps) no-x ne =
@@ -82,7 +83,8 @@ unused-more : (y : ℕ) (m r : List ℕ) → some (eqb y) r ≡ false → every 
 unfolding every some
 unused-more y m [] h k = refl
 unused-more y m (n ∷ r) h k =
-    both-join _ _ (ap not (either-join _ _ (eqb-swap y n (either-left _ _ h)) (not-true _ (both-left _ _ k)))) (unused-more y m r (either-right _ _ h) (both-right _ _ k))
+    both-join _ _ (ap not (either-join _ _ (eqb-swap y n (either-left _ _ h)) (not-true _ (both-left _ _ k))))
+        (unused-more y m r (either-right _ _ h) (both-right _ _ k))
 
 all-unused : (r : List ℕ) → every (unused []) r ≡ true
 unfolding every some

@@ -26,7 +26,8 @@ module _ (q : ℕ → Bool) where
   some-those x [] h = refl
   some-those x (y ∷ ys) h = keeps x y ys (λ e. either-left _ _ h) (some-those x ys (either-right _ _ h))
 
-  pub apart-join : (x : ℕ) (xs : List ℕ) → (q x ≡ true → some (eqb x) (those q xs) ≡ false) → apart eqb (those q xs) ≡ true → apart eqb (those q (x ∷ xs)) ≡ true
+  pub apart-join : (x : ℕ) (xs : List ℕ) → (q x ≡ true → some (eqb x) (those q xs) ≡ false) → apart eqb (those q xs) ≡ true
+      → apart eqb (those q (x ∷ xs)) ≡ true
   unfolding those apart
   apart-join x xs f h =
       by (q x)
@@ -67,7 +68,8 @@ unfolding those every other
 every-those n [] h = refl
 every-those n (x ∷ xs) h =
     by (eqb x n)
-    (λ e. ap (λ (l : List ℕ). every (λ y. ltb y n) l) (skips (not (eqb x n)) (x ∷ those (other n) xs) (those (other n) xs) (ap not e)) ∙ every-those n xs (both-right _ _ h))
+    (λ e. ap (λ (l : List ℕ). every (λ y. ltb y n) l) (skips (not (eqb x n)) (x ∷ those (other n) xs) (those (other n) xs) (ap not e))
+        ∙ every-those n xs (both-right _ _ h))
     (λ e. ap (λ (l : List ℕ). every (λ y. ltb y n) l) (picks (not (eqb x n)) (x ∷ those (other n) xs) (those (other n) xs) (ap not e))
     ∙ both-join _ _ (lt-ltb x n (omega (arith, ltb-true x (suc n) (both-left _ _ h), eqb-false x n e))) (every-those n xs (both-right _ _ h)))
 

@@ -57,7 +57,8 @@ unfolding contractRoot
 root-agree f g [] h = refl
 root-agree f g (x ∷ xs) h = ap join (joined-agree f g (x ∷ xs) h)
 
-pub proof-agree : (z : ℕ) (f g : Spot → List ℕ) (disk stage : List ℕ) (l : List Spot) (at n : ℕ) → every (agree f g) l ≡ true → rangeProof z f disk stage l at n ≡ rangeProof z g disk stage l at n
+pub proof-agree : (z : ℕ) (f g : Spot → List ℕ) (disk stage : List ℕ) (l : List Spot) (at n : ℕ) → every (agree f g) l ≡ true
+    → rangeProof z f disk stage l at n ≡ rangeProof z g disk stage l at n
 unfolding rangeProof
 proof-agree z f g disk stage [] at n h = refl
 proof-agree z f g disk stage (x ∷ xs) at n h =
@@ -97,25 +98,31 @@ module _ (z : ℕ) (s : Setting) (P : Spot → Bool) (onDisk : every (λ n. P (O
   unfolding parent
   all-start = all-committed (s .terms .head .contract)
 
-module _ (z : ℕ) (s : Setting) (p : Progress) (solid : Solid z s) (f : Staged (s .copies) (startOf z s) (p .size / z) (p .staged)) (few : p .size / z ≤ 64) (long : length (p .staged) ≡ 64) (shaped : Shaped (s .places))
-    (P : Spot → Bool) (onDisk : every (λ n. P (OnDisk n)) (taken z (s .places)) ≡ true) (inStage : (j : ℕ) → eqb (getD (p .staged) j none) none ≡ false → P (InStage (getD (p .staged) j none)) ≡ true) where
+module _ (z : ℕ) (s : Setting) (p : Progress) (solid : Solid z s) (f : Staged (s .copies) (startOf z s) (p .size / z) (p .staged))
+    (few : p .size / z ≤ 64) (long : length (p .staged) ≡ 64) (shaped : Shaped (s .places))
+    (P : Spot → Bool) (onDisk : every (λ n. P (OnDisk n)) (taken z (s .places)) ≡ true) (inStage : (j : ℕ) → eqb (getD (p .staged) j none) none ≡ false
+        → P (InStage (getD (p .staged) j none)) ≡ true) where
   slot-all : (j : ℕ) → j < startOf z s → j < 64 → P (OnDisk (getD (whose (s .terms .head .contract) (s .places) .slots) j 0)) ≡ true
   slot-all j lt most =
       let own = whose (s .terms .head .contract) (s .places) in
       by (whose (s .terms .head .contract) (s .places) .held)
       (λ u. subst (λ (x : ℕ). P (OnDisk x) ≡ true) (getD-take (startOf z s) (whose (s .terms .head .contract) (s .places) .slots) j 0 lt)
       (every-get (λ n. P (OnDisk n)) (take (startOf z s) (whose (s .terms .head .contract) (s .places) .slots)) j 0
-      (omega (arith, length-take (startOf z s) (whose (s .terms .head .contract) (s .places) .slots), length-slots (s .terms .head .contract) (s .places) shaped))
-      (subst (λ (l : List ℕ). every (λ n. P (OnDisk n)) l ≡ true) (committed-held z (whose (s .terms .head .contract) (s .places)) u) (whose-every (λ n. P (OnDisk n)) z (s .terms .head .contract) (s .places) onDisk))))
+      (omega (arith, length-take (startOf z s) (whose (s .terms .head .contract) (s .places) .slots),
+          length-slots (s .terms .head .contract) (s .places) shaped))
+      (subst (λ (l : List ℕ). every (λ n. P (OnDisk n)) l ≡ true) (committed-held z (whose (s .terms .head .contract) (s .places)) u)
+          (whose-every (λ n. P (OnDisk n)) z (s .terms .head .contract) (s .places) onDisk))))
       (λ u. let q : startOf z s ≡ 0 = ap (λ (n : ℕ). n / z) (whose-nobody (s .terms .head .contract) (s .places) u) ∙ zero-div z in absurd (omega arith))
 
   spot-all : (j : ℕ) → j < p .size / z → P (spotOf (parent s .slots) (p .staged) j) ≡ true
   unfolding spotOf parent
   spot-all j lt =
       by (eqb (getD (p .staged) j none) none)
-      (λ e. ap P (picks (eqb (getD (p .staged) j none) none) (OnDisk (getD (whose (s .terms .head .contract) (s .places) .slots) j 0)) (InStage (getD (p .staged) j none)) e)
+      (λ e. ap P (picks (eqb (getD (p .staged) j none) none) (OnDisk (getD (whose (s .terms .head .contract) (s .places) .slots) j 0))
+          (InStage (getD (p .staged) j none)) e)
       ∙ slot-all j (unstaged z s p solid f (omega (arith, long)) j lt e) (omega arith))
-      (λ e. ap P (skips (eqb (getD (p .staged) j none) none) (OnDisk (getD (whose (s .terms .head .contract) (s .places) .slots) j 0)) (InStage (getD (p .staged) j none)) e) ∙ inStage j e)
+      (λ e. ap P (skips (eqb (getD (p .staged) j none) none) (OnDisk (getD (whose (s .terms .head .contract) (s .places) .slots) j 0))
+          (InStage (getD (p .staged) j none)) e) ∙ inStage j e)
 
   pub all-parent : every P (parentSpots z s p) ≡ true
   unfolding parentSpots
@@ -147,11 +154,13 @@ module _ (z : ℕ) (s : Setting) (p : Progress) (solid : Solid z s) (f : Staged 
 unfoldable pub withWay : Way → Setting → Setting
 withWay way s = record { sectors = s .sectors; copies = s .copies; places = s .places; terms = s .terms; disk = s .disk; roots = s .roots; way = way }
 
-disk-agrees : (z : ℕ) (s : Setting) (stage copies : List ℕ) (n : ℕ) → right z (s .disk) (s .roots) n ≡ agree (rootOf z (withWay kept s) stage copies) (rootOf z (withWay worked s) stage copies) (OnDisk n)
+disk-agrees : (z : ℕ) (s : Setting) (stage copies : List ℕ) (n : ℕ) → right z (s .disk) (s .roots) n
+    ≡ agree (rootOf z (withWay kept s) stage copies) (rootOf z (withWay worked s) stage copies) (OnDisk n)
 unfolding right agree rootOf rootBy withWay keptRoot sectorRoot sector
 disk-agrees z s stage copies n = refl
 
-stage-agrees : (z : ℕ) (s : Setting) (stage copies : List ℕ) (n : ℕ) → right z stage copies n ≡ agree (rootOf z (withWay kept s) stage copies) (rootOf z (withWay worked s) stage copies) (InStage n)
+stage-agrees : (z : ℕ) (s : Setting) (stage copies : List ℕ) (n : ℕ) → right z stage copies n
+    ≡ agree (rootOf z (withWay kept s) stage copies) (rootOf z (withWay worked s) stage copies) (InStage n)
 unfolding right agree rootOf rootBy withWay keptRoot sectorRoot sector
 stage-agrees z s stage copies n = refl
 
@@ -171,14 +180,16 @@ pub known-disk : (z : ℕ) (s : Setting) (stage copies : List ℕ) → every (ri
     → every (λ n. agree (rootOf z (withWay kept s) stage copies) (rootOf z (withWay worked s) stage copies) (OnDisk n)) (taken z (s .places)) ≡ true
 known-disk z s stage copies h = every-alike _ _ _ (disk-agrees z s stage copies) h
 
-pub known-stage : (z : ℕ) (s : Setting) (stage copies staged : List ℕ) → stagedRight z stage copies staged ≡ true → (j : ℕ) → eqb (getD staged j none) none ≡ false
+pub known-stage : (z : ℕ) (s : Setting) (stage copies staged : List ℕ) → stagedRight z stage copies staged ≡ true → (j : ℕ)
+    → eqb (getD staged j none) none ≡ false
     → agree (rootOf z (withWay kept s) stage copies) (rootOf z (withWay worked s) stage copies) (InStage (getD staged j none)) ≡ true
 known-stage z s stage copies staged h j n = sym (stage-agrees z s stage copies (getD staged j none)) ∙ right-at z stage copies staged j h n
 
 -- ---- checks
 
 -- which way makes no difference but by the reader
-source-way : (way : Way) (z : ℕ) (s : Setting) (f : Spot → List ℕ) (p : Progress) (op : Op) (key : List ℕ) → sourceOf z (withWay way s) f p op key ≡ sourceOf z s f p op key
+source-way : (way : Way) (z : ℕ) (s : Setting) (f : Spot → List ℕ) (p : Progress) (op : Op) (key : List ℕ) → sourceOf z (withWay way s) f p op key
+    ≡ sourceOf z s f p op key
 unfolding sourceOf contractSource sectorSource seatsOf readOnlyMode parentSpots parent withWay
 source-way way z s f p Read key = refl
 source-way way z s f p ReadSector key = refl
@@ -209,11 +220,13 @@ inputs-alike : (z : ℕ) (s : Setting) (f g : Spot → List ℕ) (p : Progress) 
     → judgedInputs z (withWay kept s) f p i op l ≡ judgedInputs z (withWay worked s) g p i op l
 unfolding judgedInputs judgedSource readOnlyMode freeCopies withWay
 inputs-alike z s f g p i op l h =
-    ap (λ (from : Source). pick (not (wellFormed op l)) 23 (pick (both (changes op) (readOnlyMode (s .terms))) 24 (pick (not (isThere from)) 25 (judgedSource z s p (i .proof) from op (argsOf op l)))))
+    ap (λ (from : Source). pick (not (wellFormed op l)) 23 (pick (both (changes op) (readOnlyMode (s .terms))) 24
+        (pick (not (isThere from)) 25 (judgedSource z s p (i .proof) from op (argsOf op l)))))
     (source-alike z s f g p op (argsOf op l .key) h)
 
 pub judged-alike : (z : ℕ) (s : Setting) (f g : Spot → List ℕ) (p : Progress) (i : Instruction) (l : List (List ℕ))
     → every (λ x. agree f g (x .spot)) (seatsOf z s p) ≡ true
     → judged z (withWay kept s) f p i l ≡ judged z (withWay worked s) g p i l
 unfolding judged withWay
-judged-alike z s f g p i l h = ap (λ (n : ℕ). pick (illFormed i) 21 (pick (pastEnd (s .terms .head .length) i) 22 n)) (inputs-alike z s f g p i (opOf (i .name)) l h)
+judged-alike z s f g p i l h = ap (λ (n : ℕ). pick (illFormed i) 21 (pick (pastEnd (s .terms .head .length) i) 22 n))
+    (inputs-alike z s f g p i (opOf (i .name)) l h)

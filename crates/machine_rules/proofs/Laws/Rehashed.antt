@@ -2,16 +2,15 @@
 use mathlib.Core.Path.{_≡_, refl, sym, ap, _∙_, subst}
 use mathlib.Core.Bool.{Bool, true, false, not}
 use mathlib.Core.List.{List, [], _∷_}
-use Prim.Native.Nat.{ℕ, zero, suc, _+_, _*_, _/_, _%_, _≤_, _<_}
-use native.Mathlib.Nat.{suc-mul, mul-le-mul-right}
+use Prim.Native.Nat.{ℕ, zero, suc, _+_, _*_, _≤_, _<_}
 use native.Mathlib.Omega.{arith}
 use lib.ListN.{length, getD}
 use lib.Dec.{ltb, eqb}
 use borrow.Author.Tests.{not-true, ltb-true, ltb-false, eqb-true, eqb-false, ne-eqb, eq-eqb}
-use Rattle.area.specs.Pick.{pick, either, both}
-use Rattle.area.specs.Area.{same, part, put}
+use Rattle.area.specs.Pick.{either, both}
+use Rattle.area.specs.Area.{part, put}
 use Rattle.area.proofs.Laws.Pick.{by, picks, skips, never, both-left, both-right, both-join, either-left, either-right}
-use Rattle.area.proofs.Laws.Puts.{length-put, part-put}
+use Rattle.area.proofs.Laws.Puts.{part-put}
 use Rattle.area.proofs.Laws.Same.{same-eq, eq-same}
 use Rattle.tree.specs.Tree.{root}
 use Rattle.tree.proofs.Promise.{roots}
@@ -22,7 +21,7 @@ use Rattle.host.specs.Order.{slotInOrder, clash}
 use Rattle.host.specs.Facts.{Staged}
 use Rattle.machine_rules.specs.Effect.{Staging, rehashed}
 use Rattle.machine_rules.specs.Sound.{right, stagedRight}
-use Rattle.machine_rules.proofs.Laws.Spots.{every-get, every-at}
+use Rattle.machine_rules.proofs.Laws.Spots.{every-at}
 use Rattle.machine_rules.proofs.Laws.Filling.{other-slot}
 use Rattle.machine_rules.proofs.Laws.Areas.{rehashed-length}
 use Rattle.machine_rules.proofs.Laws.Wrote.{Wrote}
@@ -48,7 +47,8 @@ pub rehashed-out : (z : ℕ) (g : Staging) (m : ℕ) (l copies : List ℕ) → (
 unfolding rehashed
 rehashed-out z g m [] copies o = refl
 rehashed-out z g m (at ∷ l) copies o =
-    other-slot 32 (rehashed z g l copies) (getD (g .staged) at none) m _ (omega (arith, roots .root-long (part (g .bytes) (getD (g .staged) at none * z) z))) (o at (some-here at l))
+    other-slot 32 (rehashed z g l copies) (getD (g .staged) at none) m _
+        (omega (arith, roots .root-long (part (g .bytes) (getD (g .staged) at none * z) z))) (o at (some-here at l))
     ∙ rehashed-out z g m l copies (λ j u. o j (some-more j at l u))
 
 -- one of them has it
@@ -60,8 +60,10 @@ rehashed-in z g m (at ∷ l) copies j u k room =
     let long = roots .root-long (part (g .bytes) (getD (g .staged) at none * z) z) in
     by (eqb (getD (g .staged) at none) m)
     (λ v. let q = eqb-true (getD (g .staged) at none) m v in
-    ap (λ (x : ℕ). part (put (rehashed z g l copies) (getD (g .staged) at none * 32) (root (part (g .bytes) (getD (g .staged) at none * z) z))) (x * 32) 32) (sym q)
-    ∙ part-put (rehashed z g l copies) (getD (g .staged) at none * 32) (root (part (g .bytes) (getD (g .staged) at none * z) z)) 32 (sym long) (omega (arith, long, rehashed-length z g l copies, q))
+    ap (λ (x : ℕ). part (put (rehashed z g l copies) (getD (g .staged) at none * 32) (root (part (g .bytes) (getD (g .staged) at none * z) z)))
+        (x * 32) 32) (sym q)
+    ∙ part-put (rehashed z g l copies) (getD (g .staged) at none * 32) (root (part (g .bytes) (getD (g .staged) at none * z) z)) 32 (sym long)
+        (omega (arith, long, rehashed-length z g l copies, q))
     ∙ ap (λ (x : ℕ). root (part (g .bytes) (x * z) z)) q)
     (λ v. let ne = eqb-false (getD (g .staged) at none) m v in
     other-slot 32 (rehashed z g l copies) (getD (g .staged) at none) m _ (omega (arith, long)) ne
@@ -110,20 +112,23 @@ every-two p q r (x ∷ xs) u v f = both-join _ _ (f x (both-left _ _ u) (both-le
 or-second : (a b : Bool) → (a ≡ false → b ≡ true) → either a b ≡ true
 or-second a b f = by a (λ u. picks a true b u) (λ u. skips a true b u ∙ f u)
 
-pub right-at : (z : ℕ) (stage copies staged : List ℕ) (j : ℕ) → stagedRight z stage copies staged ≡ true → eqb (getD staged j none) none ≡ false → right z stage copies (getD staged j none) ≡ true
+pub right-at : (z : ℕ) (stage copies staged : List ℕ) (j : ℕ) → stagedRight z stage copies staged ≡ true → eqb (getD staged j none) none ≡ false
+    → right z stage copies (getD staged j none) ≡ true
 unfolding stagedRight
 right-at z stage copies staged j h n =
     sym (skips (eqb (getD staged j none) none) true _ n)
     ∙ every-at (λ m. either (eqb m none) (right z stage copies m)) staged j none h (picks (eqb none none) true _ refl)
 
-pub rehashed-right : (z : ℕ) (ps copies : List ℕ) (g h : Staging) (n start now : ℕ) → Wrote z ps g h → n ≤ 16 → Staged n start now (h .staged) → length copies ≡ 512
+pub rehashed-right : (z : ℕ) (ps copies : List ℕ) (g h : Staging) (n start now : ℕ) → Wrote z ps g h → n ≤ 16 → Staged n start now (h .staged)
+    → length copies ≡ 512
     → stagedRight z (g .bytes) copies (g .staged) ≡ true → stagedRight z (h .bytes) (rehashed z h ps copies) (h .staged) ≡ true
 unfolding stagedRight right slotInOrder
 rehashed-right z ps copies g h n start now w few f long before =
     every-all (λ m. either (eqb m none) (right z (h .bytes) (rehashed z h ps copies) m)) (h .staged) none (λ j lt.
     or-second (eqb (getD (h .staged) j none) none) _ (λ has.
     let m = getD (h .staged) j none in
-    let below : getD (h .staged) j none < n = ltb-true _ _ (sym (skips (eqb (getD (h .staged) j none) none) true _ has) ∙ every-at (slotInOrder n) (h .staged) j none (f .slots) (slot-none n)) in
+    let below : getD (h .staged) j none < n = ltb-true _ _ (sym (skips (eqb (getD (h .staged) j none) none) true _ has)
+        ∙ every-at (slotInOrder n) (h .staged) j none (f .slots) (slot-none n)) in
     by (some (eqb j) ps)
     (λ u. eq-same _ _ (rehashed-in z h (getD (h .staged) j none) ps copies j u refl (omega arith)))
     (λ u. let s = w .stay j u has in

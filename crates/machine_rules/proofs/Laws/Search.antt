@@ -13,7 +13,7 @@ use Rattle.area.specs.Area.{same}
 use Rattle.area.proofs.Laws.Pick.{by, picks, skips, never}
 use Rattle.host.specs.Lists.{each, firstOf}
 use Rattle.host.specs.Empty.{noPlace}
-use Rattle.host.specs.Places.{whose, committed}
+use Rattle.host.specs.Places.{committed}
 use Rattle.machine_rules.specs.View.{committedSpots}
 use Rattle.machine_rules.specs.Seats.{seated, committedSeats, seats, firstSeat}
 use Rattle.machine_rules.specs.StageFirst.{Search, isMine, sectorsAt, Sits, earlier, Finds}

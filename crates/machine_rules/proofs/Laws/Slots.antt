@@ -72,7 +72,8 @@ apart-out e [] [] m h = h
 apart-out e [] (y ∷ r) m h = apart-out e [] r m (tail-apart e y (r ++ m) h .1)
 apart-out e (x ∷ l) r m h =
     let t = tail-apart e x (l ++ (r ++ m)) h in
-    join-apart e x (l ++ m) (some-and (e x) l m (some-fore (e x) l (r ++ m) (t .0)) (some-aft (e x) r m (some-aft (e x) l (r ++ m) (t .0)))) (apart-out e l r m (t .1))
+    join-apart e x (l ++ m) (some-and (e x) l m (some-fore (e x) l (r ++ m) (t .0)) (some-aft (e x) r m (some-aft (e x) l (r ++ m) (t .0))))
+        (apart-out e l r m (t .1))
 
 -- x is none of those that are not in a list which has it
 unused-head : (x : ℕ) (l n : List ℕ) → every (unused (x ∷ l)) n ≡ true → (some (eqb x) n ≡ false) × (every (unused l) n ≡ true)
@@ -92,7 +93,8 @@ apart-in [] (y ∷ n) m h a u =
 apart-in (x ∷ l) n m h a u =
     let t = tail-apart eqb x (l ++ m) h in
     let r = unused-head x (l ++ m) n u in
-    join-apart eqb x (l ++ (n ++ m)) (some-and (eqb x) l (n ++ m) (some-fore (eqb x) l m (t .0)) (some-and (eqb x) n m (r .0) (some-aft (eqb x) l m (t .0)))) (apart-in l n m (t .1) a (r .1))
+    join-apart eqb x (l ++ (n ++ m)) (some-and (eqb x) l (n ++ m) (some-fore (eqb x) l m (t .0))
+        (some-and (eqb x) n m (r .0) (some-aft (eqb x) l m (t .0)))) (apart-in l n m (t .1) a (r .1))
 
 -- ---- new slots
 

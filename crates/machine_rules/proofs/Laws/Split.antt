@@ -29,7 +29,8 @@ use Rattle.host.specs.declared.Place.{Place}
 are-twins : (id : List ℕ) (p q : Place) → hasId id p ≡ true → hasId id q ≡ true → twins p q ≡ true
 unfolding twins
 are-twins id p q u v =
-    both-join _ _ (has-held id p u) (both-join _ _ (has-held id q v) (eq-same _ _ (same-eq (p .id) id (has-same id p u) ∙ sym (same-eq (q .id) id (has-same id q v)))))
+    both-join _ _ (has-held id p u)
+        (both-join _ _ (has-held id q v) (eq-same _ _ (same-eq (p .id) id (has-same id p u) ∙ sym (same-eq (q .id) id (has-same id q v)))))
 
 pub none-has : (id : List ℕ) (p : Place) (ps : List Place) → hasId id p ≡ true → some (twins p) ps ≡ false → every (λ q. not (hasId id q)) ps ≡ true
 unfolding every some
@@ -131,7 +132,8 @@ replaced-here id x p ps e = ap (λ (q : Place). q ∷ each (λ r. pick (hasId id
 pub replaced-split : (id : List ℕ) (x : Place) (ps : List Place) (s : Split id ps) → replaced id x ps ≡ s .before ++ (x ∷ s .behind)
 replaced-split id x ps s =
     ap (λ (l : List Place). replaced id x l) (s .is) ∙ replaced-append id x (s .before) (s .it ∷ s .behind)
-    ∙ ap₂ _++_ (replaced-none id x (s .before) (s .not-before)) (replaced-here id x (s .it) (s .behind) (s .here) ∙ ap (λ (l : List Place). x ∷ l) (replaced-none id x (s .behind) (s .not-behind)))
+    ∙ ap₂ _++_ (replaced-none id x (s .before) (s .not-before)) (replaced-here id x (s .it) (s .behind) (s .here)
+        ∙ ap (λ (l : List Place). x ∷ l) (replaced-none id x (s .behind) (s .not-behind)))
 
 pub taken-split : (z : ℕ) (l : List Place) (x : Place) (m : List Place) → taken z (l ++ (x ∷ m)) ≡ taken z l ++ (committed z x ++ taken z m)
 unfolding taken joined
@@ -161,14 +163,16 @@ others-append id (p ∷ l) m =
     (λ u. omega (arith, others-left id p (l ++ m) u, others-left id p l u, others-append id l m))
 
 -- the sizes of places without the id are those of their slots
-pub others-none : (z : ℕ) (id : List ℕ) (l : List Place) → every (λ q. not (hasId id q)) l ≡ true → every (placeInOrder z) l ≡ true → Shaped l → others id l ≡ length (taken z l) * z
+pub others-none : (z : ℕ) (id : List ℕ) (l : List Place) → every (λ q. not (hasId id q)) l ≡ true → every (placeInOrder z) l ≡ true → Shaped l
+    → others id l ≡ length (taken z l) * z
 unfolding every
 others-none z id [] h k s = others-nil id ∙ sym (taken-nil z)
 others-none z id (p ∷ l) h k s =
     let ih = others-none z id l (both-right _ _ h) (both-right _ _ k) (s .1) in
     let tl = taken-length z p l in
     by (p .held)
-    (λ e. omega (arith, ih, tl, committed-bytes z p (both-left _ _ k) (s .0) e, others-kept id p l (both-join _ _ e (ap not (not-same id p e (not-true _ (both-left _ _ h)))))))
+    (λ e. omega (arith, ih, tl, committed-bytes z p (both-left _ _ k) (s .0) e, others-kept id p l
+        (both-join _ _ e (ap not (not-same id p e (not-true _ (both-left _ _ h)))))))
     (λ e. omega (arith, ih, tl, others-left id p l (skips (p .held) _ false e), ap (λ (l : List ℕ). length l * z) (committed-free z p e), zero-mul z))
 
 -- ---- kept slots
@@ -208,7 +212,8 @@ unfolding cut-rest
 cut-prefix z n p pos e =
     held-slots z p e
     ∙ sym (take-append-drop (min (p .size) n / z) (take (p .size / z) (p .slots)))
-    ∙ ap (λ (l : List ℕ). l ++ drop (min (p .size) n / z) (take (p .size / z) (p .slots))) (take-take (min (p .size) n / z) (p .size / z) (p .slots) (cut-fewer z n p pos .0) ∙ sym (cut-held z n p e))
+    ∙ ap (λ (l : List ℕ). l ++ drop (min (p .size) n / z) (take (p .size / z) (p .slots)))
+        (take-take (min (p .size) n / z) (p .size / z) (p .slots) (cut-fewer z n p pos .0) ∙ sym (cut-held z n p e))
 
 pub cut-most : (z n : ℕ) (p : Place) → 0 < z → p .held ≡ true → length (committed z (cut n p)) ≤ n / z
 cut-most z n p pos e = omega (arith, ap length (cut-held z n p e), length-take (min (p .size) n / z) (p .slots), cut-fewer z n p pos .1)

@@ -102,7 +102,8 @@ whose-nobody id [] h = refl
 whose-nobody id (p ∷ ps) h =
     by (hasId id p)
     (λ e. never (sym (has-held id p e) ∙ sym (ap (λ (x : Place). x .held) (picks (hasId id p) p (whose id ps) e)) ∙ h))
-    (λ e. ap (λ (x : Place). x .size) (skips (hasId id p) p (whose id ps) e) ∙ whose-nobody id ps (sym (ap (λ (x : Place). x .held) (skips (hasId id p) p (whose id ps) e)) ∙ h))
+    (λ e. ap (λ (x : Place). x .size) (skips (hasId id p) p (whose id ps) e)
+        ∙ whose-nobody id ps (sym (ap (λ (x : Place). x .held) (skips (hasId id p) p (whose id ps) e)) ∙ h))
 
 committed-held : (z : ℕ) (p : Place) → p .held ≡ true → committed z p ≡ take (p .size / z) (p .slots)
 unfolding committed
@@ -180,7 +181,8 @@ unfolding pick
 pick-spots true x y = refl
 pick-spots false x y = refl
 
-module _ (z : ℕ) (s : Setting) (p : Progress) (solid : Solid z s) (f : Staged (s .copies) (startOf z s) (p .size / z) (p .staged)) (long : p .size / z ≤ length (p .staged)) where
+module _ (z : ℕ) (s : Setting) (p : Progress) (solid : Solid z s) (f : Staged (s .copies) (startOf z s) (p .size / z) (p .staged))
+    (long : p .size / z ≤ length (p .staged)) where
   -- a position with no copy is a committed one
   pub unstaged : (j : ℕ) → j < p .size / z → eqb (getD (p .staged) j none) none ≡ true → j < startOf z s
   unstaged j lt e =
@@ -189,11 +191,14 @@ module _ (z : ℕ) (s : Setting) (p : Progress) (solid : Solid z s) (f : Staged 
       (λ u. let le = ltb-false j (startOf z s) u in
       let i : ℕ = j - startOf z s in
       let at : startOf z s + (j - startOf z s) ≡ j = omega arith in
-      let inside : j - startOf z s < length (drop (startOf z s) (take (p .size / z) (p .staged))) = omega (arith, length-drop (startOf z s) (take (p .size / z) (p .staged)), length-take-le (p .size / z) (p .staged) long) in
+      let inside : j - startOf z s < length (drop (startOf z s) (take (p .size / z) (p .staged))) =
+          omega (arith, length-drop (startOf z s) (take (p .size / z) (p .staged)), length-take-le (p .size / z) (p .staged) long) in
       let g : getD (drop (startOf z s) (take (p .size / z) (p .staged))) (j - startOf z s) none ≡ getD (p .staged) j none =
-      getD-drop (startOf z s) (take (p .size / z) (p .staged)) (j - startOf z s) none ∙ ap (λ (x : ℕ). getD (take (p .size / z) (p .staged)) x none) at ∙ getD-take (p .size / z) (p .staged) j none lt in
+      getD-drop (startOf z s) (take (p .size / z) (p .staged)) (j - startOf z s) none
+          ∙ ap (λ (x : ℕ). getD (take (p .size / z) (p .staged)) x none) at ∙ getD-take (p .size / z) (p .staged) j none lt in
       let q : not (eqb (getD (p .staged) j none) none) ≡ true =
-      subst (λ (x : ℕ). not (eqb x none) ≡ true) g (every-get (λ n. not (eqb n none)) (drop (startOf z s) (take (p .size / z) (p .staged))) (j - startOf z s) none inside (f .past)) in
+      subst (λ (x : ℕ). not (eqb x none) ≡ true) g (every-get (λ n. not (eqb n none)) (drop (startOf z s) (take (p .size / z) (p .staged)))
+          (j - startOf z s) none inside (f .past)) in
       never (sym e ∙ not-true _ q))
 
   pub committed-slot : (j : ℕ) → j < startOf z s → ltb (getD (whose (s .terms .head .contract) (s .places) .slots) j 0) (s .sectors) ≡ true
@@ -201,7 +206,8 @@ module _ (z : ℕ) (s : Setting) (p : Progress) (solid : Solid z s) (f : Staged 
       by (whose (s .terms .head .contract) (s .places) .held)
       (λ u. subst (λ (x : ℕ). ltb x (s .sectors) ≡ true) (getD-take (startOf z s) (whose (s .terms .head .contract) (s .places) .slots) j 0 lt)
       (every-at (λ n. ltb n (s .sectors)) (take (startOf z s) (whose (s .terms .head .contract) (s .places) .slots)) j 0
-      (subst (λ (l : List ℕ). every (λ n. ltb n (s .sectors)) l ≡ true) (committed-held z (whose (s .terms .head .contract) (s .places)) u) (whose-every _ z (s .terms .head .contract) (s .places) (solid .slots)))
+      (subst (λ (l : List ℕ). every (λ n. ltb n (s .sectors)) l ≡ true) (committed-held z (whose (s .terms .head .contract) (s .places)) u)
+          (whose-every _ z (s .terms .head .contract) (s .places) (solid .slots)))
       (lt-ltb 0 (s .sectors) (solid .one))))
       (λ u. let q : startOf z s ≡ 0 = ap (λ (n : ℕ). n / z) (whose-nobody (s .terms .head .contract) (s .places) u) ∙ zero-div z in absurd (omega arith))
 
@@ -209,8 +215,11 @@ module _ (z : ℕ) (s : Setting) (p : Progress) (solid : Solid z s) (f : Staged 
   unfolding spotOf valid parent slotInOrder
   spot-valid j lt =
       by (eqb (getD (p .staged) j none) none)
-      (λ e. ap (valid s) (picks (eqb (getD (p .staged) j none) none) (OnDisk (getD (whose (s .terms .head .contract) (s .places) .slots) j 0)) (InStage (getD (p .staged) j none)) e) ∙ committed-slot j (unstaged j lt e))
-      (λ e. ap (valid s) (skips (eqb (getD (p .staged) j none) none) (OnDisk (getD (whose (s .terms .head .contract) (s .places) .slots) j 0)) (InStage (getD (p .staged) j none)) e) ∙ either-second (eqb (getD (p .staged) j none) none) _ (every-at (slotInOrder (s .copies)) (p .staged) j none (f .slots) (slot-none (s .copies))) e)
+      (λ e. ap (valid s) (picks (eqb (getD (p .staged) j none) none) (OnDisk (getD (whose (s .terms .head .contract) (s .places) .slots) j 0))
+          (InStage (getD (p .staged) j none)) e) ∙ committed-slot j (unstaged j lt e))
+      (λ e. ap (valid s) (skips (eqb (getD (p .staged) j none) none) (OnDisk (getD (whose (s .terms .head .contract) (s .places) .slots) j 0))
+          (InStage (getD (p .staged) j none)) e) ∙ either-second (eqb (getD (p .staged) j none) none) _
+          (every-at (slotInOrder (s .copies)) (p .staged) j none (f .slots) (slot-none (s .copies))) e)
 
   pub parent-valid : every (valid s) (parentSpots z s p) ≡ true
   unfolding parentSpots
@@ -222,7 +231,8 @@ module _ (z : ℕ) (s : Setting) (p : Progress) (solid : Solid z s) (f : Staged 
       ap (λ (l : List Spot). every (valid s) l) (pick-spots _ missing _)
       ∙ every-pick (valid s) _ [] _ (none-valid s)
       (ap (λ (l : List Spot). every (valid s) l) (pick-spots _ (seen (parentSpots z s p)) _)
-      ∙ every-pick (valid s) _ (parentSpots z s p) _ parent-valid (disk-valid s (committed z (whose id (s .places))) (whose-every _ z id (s .places) (solid .slots))))
+      ∙ every-pick (valid s) _ (parentSpots z s p) _ parent-valid (disk-valid s (committed z (whose id (s .places)))
+          (whose-every _ z id (s .places) (solid .slots))))
 
   pub source-valid : (r : Spot → List ℕ) (op : Op) (key : List ℕ) → every (valid s) (spots (sourceOf z s r p op key)) ≡ true
   unfolding sourceOf sectorSource spots valid
@@ -275,7 +285,8 @@ few-contract : (z : ℕ) (s : Setting) (p : Progress) (id : List ℕ) → every 
     → length (spots (contractSource z s p id)) ≤ 64
 unfolding contractSource committedSpots parentSpots spots
 few-contract z s p id h u =
-    rw (pick-spots (not (whose id (s .places) .held)) missing (pick (same id (s .terms .head .contract)) (seen (parentSpots z s p)) (seen (committedSpots z (whose id (s .places))))))
+    rw (pick-spots (not (whose id (s .places) .held)) missing (pick (same id (s .terms .head .contract)) (seen (parentSpots z s p))
+        (seen (committedSpots z (whose id (s .places))))))
     (few-pick _ [] _ (omega arith)
     (rw (pick-spots (same id (s .terms .head .contract)) (seen (parentSpots z s p)) (seen (committedSpots z (whose id (s .places)))))
     (few-pick _ _ _ (omega (arith, length-tab 0 (p .size / z) (spotOf (parent s .slots) (p .staged)), u))

@@ -43,7 +43,8 @@ slot-none stage = picks _ true _ refl
 
 module _ (stage start : ℕ) (few : stage ≤ 16) where
   -- a position below the running size gets a copy
-  pub copy-kept : (now pos slot : ℕ) (staged : List ℕ) → pos < now → Free stage slot staged → Staged stage start now staged → Staged stage start now (set staged pos slot)
+  pub copy-kept : (now pos slot : ℕ) (staged : List ℕ) → pos < now → Free stage slot staged → Staged stage start now staged
+      → Staged stage start now (set staged pos slot)
   copy-kept now pos slot staged lt fr f =
       let nn = free-not-none stage slot few (fr .below) in
       record {
@@ -54,7 +55,8 @@ module _ (stage start : ℕ) (few : stage ≤ 16) where
       }
 
   -- a sector is added
-  pub grow-kept : (now slot : ℕ) (staged : List ℕ) → now < length staged → Free stage slot staged → Staged stage start now staged → Staged stage start (suc now) (set staged now slot)
+  pub grow-kept : (now slot : ℕ) (staged : List ℕ) → now < length staged → Free stage slot staged → Staged stage start now staged
+      → Staged stage start (suc now) (set staged now slot)
   grow-kept now slot staged lt fr f =
       let nn = free-not-none stage slot few (fr .below) in
       record {
@@ -64,7 +66,8 @@ module _ (stage start : ℕ) (few : stage ≤ 16) where
         past = rw (take-suc-set staged now slot lt) (by (leb start now)
             (λ e. let le : start ≤ length (take now staged) = omega (arith, leb-true start now e, length-take-le now staged (omega arith)) in
             rw (drop-append-le start (take now staged) (slot ∷ []) le) (every-one-more _ (drop start (take now staged)) slot (f .past) (ap not nn)))
-            (λ e. let le : length (take now staged ++ (slot ∷ [])) ≤ start = omega (arith, leb-false start now e, length-append (take now staged) (slot ∷ []), length-take-le now staged (omega arith)) in
+            (λ e. let le : length (take now staged ++ (slot ∷ [])) ≤ start = omega
+                (arith, leb-false start now e, length-append (take now staged) (slot ∷ []), length-take-le now staged (omega arith)) in
             rw (drop-of-length-le (take now staged ++ (slot ∷ [])) le) (every-none _)));
       }
 

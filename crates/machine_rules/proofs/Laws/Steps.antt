@@ -63,7 +63,8 @@ unfolding each
 inputs-below [] a b k h e = refl
 inputs-below (o ∷ os) a b k h e =
     ap₂ _∷_
-    (by (eqb (o .len) 0) (λ z. part-empty a b (o .offset) (o .len) (eqb-true (o .len) 0 z)) (λ z. part-below a b (o .offset) (o .len) k (largest-first o os k h z) e))
+    (by (eqb (o .len) 0) (λ z. part-empty a b (o .offset) (o .len) (eqb-true (o .len) 0 z))
+        (λ z. part-below a b (o .offset) (o .len) k (largest-first o os k h z) e))
     (inputs-below os a b k (largest-rest o os k h) e)
 
 -- ---- one instruction reads the input only below its need
@@ -72,12 +73,14 @@ pub judged-ill : (z : ℕ) (s : Setting) (f : Spot → List ℕ) (p : Progress) 
 unfolding judged
 judged-ill z s f p i l e = picks (illFormed i) 21 _ e
 
-pub judged-past : (z : ℕ) (s : Setting) (f : Spot → List ℕ) (p : Progress) (i : Instruction) (l : List (List ℕ)) → illFormed i ≡ false → pastEnd (s .terms .head .length) i ≡ true → judged z s f p i l ≡ 22
+pub judged-past : (z : ℕ) (s : Setting) (f : Spot → List ℕ) (p : Progress) (i : Instruction) (l : List (List ℕ)) → illFormed i ≡ false
+    → pastEnd (s .terms .head .length) i ≡ true → judged z s f p i l ≡ 22
 unfolding judged
 judged-past z s r p i l e f = skips (illFormed i) 21 _ e ∙ picks (pastEnd (s .terms .head .length) i) 22 _ f
 
 -- a failure does not look at the inputs
-pub stepped-fails : (z : ℕ) (s : Setting) (i : Instruction) (l : List (List ℕ)) (t : Turn) (n : ℕ) → judged z s (rootAt z s t) (t .progress) i l ≡ suc n → stepped z s i l t ≡ failing z s (suc n) t
+pub stepped-fails : (z : ℕ) (s : Setting) (i : Instruction) (l : List (List ℕ)) (t : Turn) (n : ℕ) → judged z s (rootAt z s t) (t .progress) i l
+    ≡ suc n → stepped z s i l t ≡ failing z s (suc n) t
 unfolding stepped
 stepped-fails z s i l t n e = rw e (skips (eqb (suc n) 0) _ _ (eqb·suc-zero n))
 
@@ -90,10 +93,13 @@ stepped-below : (z : ℕ) (s : Setting) (i : Instruction) (t : Turn) (a b : List
 unfolding inputsOf
 stepped-below z s i t a b k h e =
     by (illFormed i)
-    (λ x. stepped-fails z s i _ t 20 (judged-ill z s (rootAt z s t) (t .progress) i _ x) ∙ sym (stepped-fails z s i _ t 20 (judged-ill z s (rootAt z s t) (t .progress) i _ x)))
+    (λ x. stepped-fails z s i _ t 20 (judged-ill z s (rootAt z s t) (t .progress) i _ x)
+        ∙ sym (stepped-fails z s i _ t 20 (judged-ill z s (rootAt z s t) (t .progress) i _ x)))
     (λ x. by (pastEnd (s .terms .head .length) i)
-    (λ y. stepped-fails z s i _ t 21 (judged-past z s (rootAt z s t) (t .progress) i _ x y) ∙ sym (stepped-fails z s i _ t 21 (judged-past z s (rootAt z s t) (t .progress) i _ x y)))
-    (λ y. ap (λ (l : List (List ℕ)). stepped z s i l t) (inputs-below (operandsIn i) a b k (subst (λ (n : ℕ). n ≤ k) (need-sound (s .terms .head .length) i x y) h) e)))
+    (λ y. stepped-fails z s i _ t 21 (judged-past z s (rootAt z s t) (t .progress) i _ x y)
+        ∙ sym (stepped-fails z s i _ t 21 (judged-past z s (rootAt z s t) (t .progress) i _ x y)))
+    (λ y. ap (λ (l : List (List ℕ)). stepped z s i l t)
+        (inputs-below (operandsIn i) a b k (subst (λ (n : ℕ). n ≤ k) (need-sound (s .terms .head .length) i x y) h) e)))
 
 pub ready-need : (s : Setting) (k : ℕ) (t : Turn) → ready s k t ≡ true → need (s .terms .head .length) (current s t) ≤ k
 unfolding ready
@@ -124,7 +130,8 @@ unfolding runs
 runs-below z s a b k zero t e = refl
 runs-below z s a b k (suc n) t e =
     by (ready s k t)
-    (λ h. runs-go z s a k n t h ∙ ap (λ (x : Turn). runs z s a k n x) (step-below z s t a b k h e) ∙ runs-below z s a b k n (step z s b t) e ∙ sym (runs-go z s b k n t h))
+    (λ h. runs-go z s a k n t h ∙ ap (λ (x : Turn). runs z s a k n x) (step-below z s t a b k h e) ∙ runs-below z s a b k n (step z s b t) e
+        ∙ sym (runs-go z s b k n t h))
     (λ h. runs-stop z s a k (suc n) t h ∙ sym (runs-stop z s b k (suc n) t h))
 
 -- ---- a run ends: at most as many turns as there are instructions left
@@ -136,7 +143,8 @@ pub ready-going : (s : Setting) (k : ℕ) (t : Turn) → ready s k t ≡ true �
 unfolding ready
 ready-going s k t h = both-left _ _ h
 
-pub left-going : (s : Setting) (t : Turn) → going (s .terms) (t .progress) ≡ true → (left s t ≡ s .terms .head .count - t .progress .ran) × (t .progress .ran < s .terms .head .count)
+pub left-going : (s : Setting) (t : Turn) → going (s .terms) (t .progress) ≡ true → (left s t ≡ s .terms .head .count - t .progress .ran)
+    × (t .progress .ran < s .terms .head .count)
 unfolding going left
 left-going s t h = (skips (t .progress .failed) 0 _ (not-true _ (both-left _ _ h)), ltb-true _ _ (both-right (not (t .progress .failed)) _ h))
 
@@ -144,7 +152,8 @@ pub left-failing : (z : ℕ) (s : Setting) (n : ℕ) (t : Turn) → left s (fail
 unfolding left failing failedProgress
 left-failing z s n t = picks true 0 (s .terms .head .count - t .progress .ran) refl
 
-pub left-succeeding : (z : ℕ) (s : Setting) (asked : Bool) (op : Op) (a : Args) (t : Turn) → t .progress .failed ≡ false → left s (succeeding z s asked op a t) ≡ s .terms .head .count - (t .progress .ran + 1)
+pub left-succeeding : (z : ℕ) (s : Setting) (asked : Bool) (op : Op) (a : Args) (t : Turn) → t .progress .failed ≡ false
+    → left s (succeeding z s asked op a t) ≡ s .terms .head .count - (t .progress .ran + 1)
 unfolding left succeeding ranProgress
 left-succeeding z s asked op a t f = skips (t .progress .failed) 0 (s .terms .head .count - (t .progress .ran + 1)) f
 
@@ -153,19 +162,27 @@ unfolding going
 not-failed s t h = not-true _ (both-left _ _ h)
 
 -- what a step does to them
-pub stepped-left : (z : ℕ) (s : Setting) (i : Instruction) (l : List (List ℕ)) (t : Turn) → going (s .terms) (t .progress) ≡ true → left s (stepped z s i l t) < left s t
+pub stepped-left : (z : ℕ) (s : Setting) (i : Instruction) (l : List (List ℕ)) (t : Turn) → going (s .terms) (t .progress) ≡ true
+    → left s (stepped z s i l t) < left s t
 unfolding stepped
 stepped-left z s i l t g =
     let q = left-going s t g in
     by (eqb (judged z s (rootAt z s t) (t .progress) i l) 0)
-    (λ e. rw (picks (eqb (judged z s (rootAt z s t) (t .progress) i l) 0) (succeeding z s (i .proof) (opOf (i .name)) (argsOf (opOf (i .name)) l) t) (failing z s (judged z s (rootAt z s t) (t .progress) i l) t) e) (succeeds q))
-    (λ e. rw (skips (eqb (judged z s (rootAt z s t) (t .progress) i l) 0) (succeeding z s (i .proof) (opOf (i .name)) (argsOf (opOf (i .name)) l) t) (failing z s (judged z s (rootAt z s t) (t .progress) i l) t) e) (fails q))
+    (λ e. rw (picks (eqb (judged z s (rootAt z s t) (t .progress) i l) 0) (succeeding z s (i .proof) (opOf (i .name)) (argsOf (opOf (i .name)) l) t)
+        (failing z s (judged z s (rootAt z s t) (t .progress) i l) t) e) (succeeds q))
+    (λ e. rw (skips (eqb (judged z s (rootAt z s t) (t .progress) i l) 0) (succeeding z s (i .proof) (opOf (i .name)) (argsOf (opOf (i .name)) l) t)
+        (failing z s (judged z s (rootAt z s t) (t .progress) i l) t) e) (fails q))
   where
-    fails : (left s t ≡ s .terms .head .count - t .progress .ran) × (t .progress .ran < s .terms .head .count) → left s (failing z s (judged z s (rootAt z s t) (t .progress) i l) t) < left s t
-    fails q = let e : left s (failing z s (judged z s (rootAt z s t) (t .progress) i l) t) ≡ 0 = left-failing z s (judged z s (rootAt z s t) (t .progress) i l) t in omega arith
+    fails : (left s t ≡ s .terms .head .count - t .progress .ran) × (t .progress .ran < s .terms .head .count)
+        → left s (failing z s (judged z s (rootAt z s t) (t .progress) i l) t) < left s t
+    fails q = let e : left s (failing z s (judged z s (rootAt z s t) (t .progress) i l) t) ≡ 0 =
+        left-failing z s (judged z s (rootAt z s t) (t .progress) i l) t in omega arith
 
-    succeeds : (left s t ≡ s .terms .head .count - t .progress .ran) × (t .progress .ran < s .terms .head .count) → left s (succeeding z s (i .proof) (opOf (i .name)) (argsOf (opOf (i .name)) l) t) < left s t
-    succeeds q = let e : left s (succeeding z s (i .proof) (opOf (i .name)) (argsOf (opOf (i .name)) l) t) ≡ s .terms .head .count - (t .progress .ran + 1) = left-succeeding z s (i .proof) (opOf (i .name)) (argsOf (opOf (i .name)) l) t (not-failed s t g) in omega arith
+    succeeds : (left s t ≡ s .terms .head .count - t .progress .ran) × (t .progress .ran < s .terms .head .count)
+        → left s (succeeding z s (i .proof) (opOf (i .name)) (argsOf (opOf (i .name)) l) t) < left s t
+    succeeds q = let e : left s (succeeding z s (i .proof) (opOf (i .name)) (argsOf (opOf (i .name)) l) t)
+        ≡ s .terms .head .count - (t .progress .ran + 1) = left-succeeding z s (i .proof) (opOf (i .name)) (argsOf (opOf (i .name)) l) t
+        (not-failed s t g) in omega arith
 
 pub step-left : (z : ℕ) (s : Setting) (a : List ℕ) (k : ℕ) (t : Turn) → ready s k t ≡ true → left s (step z s a t) < left s t
 unfolding step
@@ -188,7 +205,8 @@ unfolding ready
 ready-more s k m t h r = both-join _ _ (both-left _ _ r) (le-leb _ _ (le-trans (leb-true _ _ (both-right _ _ r)) h))
 
 -- running with k bytes come and then with m is running with m
-pub runs-on : (z : ℕ) (s : Setting) (a : List ℕ) (k m n : ℕ) (t : Turn) → k ≤ m → left s t ≤ n → (j : ℕ) → n ≤ j → runs z s a m j (runs z s a k n t) ≡ runs z s a m j t
+pub runs-on : (z : ℕ) (s : Setting) (a : List ℕ) (k m n : ℕ) (t : Turn) → k ≤ m → left s t ≤ n → (j : ℕ) → n ≤ j → runs z s a m j (runs z s a k n t)
+    ≡ runs z s a m j t
 runs-on z s a k m zero t le h j g = ap (λ (x : Turn). runs z s a m j x) (runs-stop z s a k 0 t (none-left s k t (omega arith)))
 runs-on z s a k m (suc n) t le h zero g = absurd (omega arith)
 runs-on z s a k m (suc n) t le h (suc j) g =
@@ -208,7 +226,8 @@ run-below z s a b k t e = runs-below z s a b k (s .terms .head .count) t e
 pub left-most : (s : Setting) (t : Turn) → left s t ≤ s .terms .head .count
 unfolding left
 left-most s t =
-    by (t .progress .failed) (λ e. omega (arith, picks (t .progress .failed) 0 (s .terms .head .count - t .progress .ran) e)) (λ e. omega (arith, skips (t .progress .failed) 0 (s .terms .head .count - t .progress .ran) e))
+    by (t .progress .failed) (λ e. omega (arith, picks (t .progress .failed) 0 (s .terms .head .count - t .progress .ran) e))
+        (λ e. omega (arith, skips (t .progress .failed) 0 (s .terms .head .count - t .progress .ran) e))
 
 pub run-on : (z : ℕ) (s : Setting) (a : List ℕ) (k m : ℕ) (t : Turn) → k ≤ m → run z s a m (run z s a k t) ≡ run z s a m t
 unfolding run

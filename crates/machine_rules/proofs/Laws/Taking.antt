@@ -69,13 +69,16 @@ pub order-program : (h : Host) → inOrder h ≡ true → h .program .active ≡
 unfolding inOrder
 order-program h e live = either-second (h .program .active) _ (both-right _ _ (both-right _ _ (both-right _ _ (both-right _ _ e)))) live
 
-pub order-good : (h : Host) (disk : List ℕ) → inOrder h ≡ true → h .program .active ≡ true → length (h .program .progress .staged) ≡ 64 → Good (h .sector) (settingOf h disk) (h .program .progress)
+pub order-good : (h : Host) (disk : List ℕ) → inOrder h ≡ true → h .program .active ≡ true → length (h .program .progress .staged) ≡ 64
+    → Good (h .sector) (settingOf h disk) (h .program .progress)
 unfolding settingBy programInOrder
 order-good h disk e live len =
     let q = order-program h e live in
-    record { orderly = progress-facts (h .sector) (settingOf h disk) (h .program .progress) (both-right _ _ (both-right _ _ q)); terms = both-left _ _ q; entries = len }
+    record { orderly = progress-facts (h .sector) (settingOf h disk) (h .program .progress) (both-right _ _ (both-right _ _ q));
+        terms = both-left _ _ q; entries = len }
 
-pub good-order : (h : Host) (disk : List ℕ) (k : ℕ) (p : Progress) (roots : List ℕ) → inOrder h ≡ true → k ≤ h .program .terms .head .length → Good (h .sector) (settingOf h disk) p → inOrder (withRun h k p roots) ≡ true
+pub good-order : (h : Host) (disk : List ℕ) (k : ℕ) (p : Progress) (roots : List ℕ) → inOrder h ≡ true → k ≤ h .program .terms .head .length
+    → Good (h .sector) (settingOf h disk) p → inOrder (withRun h k p roots) ≡ true
 unfolding inOrder withRun withStageRoots withProgram withProgress withCame programInOrder settingBy
 good-order h disk k p roots e le g =
     let b = both-right _ _ e in
@@ -91,7 +94,8 @@ unfolding pick
 both-no true b e = e
 both-no false b e = refl
 
-areas-again : (h : Host) (disk stage new : List ℕ) (k : ℕ) (p : Progress) (roots : List ℕ) → length new ≡ length stage → areasRight h disk stage ≡ true → areasRight (withRun h k p roots) disk new ≡ true
+areas-again : (h : Host) (disk stage new : List ℕ) (k : ℕ) (p : Progress) (roots : List ℕ) → length new ≡ length stage → areasRight h disk stage ≡ true
+    → areasRight (withRun h k p roots) disk new ≡ true
 unfolding areasRight diskRight withRun withStageRoots withProgram withProgress withCame
 areas-again h disk stage new k p roots e a = both-join _ _ (both-left _ _ a) (ap (λ (n : ℕ). eqb n (h .stage * h .sector)) e ∙ both-right _ _ a)
 
@@ -101,10 +105,13 @@ module _ (disk : List ℕ) (w : Pieced) (t : Taking disk w) (b : List ℕ) (fit 
   unfolding pieceBy inputRight outputRight
   takes =
       let h = w .host in
-      let input : both (eqb (length (w .input)) (h .program .terms .head .length)) (eqb (length (w .output)) (h .program .terms .room)) ≡ true = both-join _ _ (eq-eqb _ _ (t .input)) (eq-eqb _ _ (t .output)) in
+      let input : both (eqb (length (w .input)) (h .program .terms .head .length)) (eqb (length (w .output)) (h .program .terms .room)) ≡ true =
+          both-join _ _ (eq-eqb _ _ (t .input)) (eq-eqb _ _ (t .output)) in
       skips (not (inOrder h)) _ _ (not-no _ (t .order))
       ∙ skips (not (areasRight h disk (w .stage))) _ _ (not-no _ (t .areas))
-      ∙ skips (both (h .program .active) (not (both (eqb (length (w .input)) (h .program .terms .head .length)) (eqb (length (w .output)) (h .program .terms .room))))) _ _ (both-no _ _ (not-no _ input))
+      ∙ skips (both (h .program .active)
+          (not (both (eqb (length (w .input)) (h .program .terms .head .length)) (eqb (length (w .output)) (h .program .terms .room))))) _ _
+          (both-no _ _ (not-no _ input))
       ∙ skips (not (h .program .active)) _ _ (not-no _ (t .live))
       ∙ skips (ltb (h .program .terms .head .length) (h .program .came + length b)) _ _ (le-ltb _ _ fit)
 
@@ -115,8 +122,10 @@ module _ (disk : List ℕ) (w : Pieced) (t : Taking disk w) (b : List ℕ) (fit 
       let h = w .host in
       let s = settingOf h disk in
       let L = order-lent h disk (t .order) in
-      let g = runs-good (w .host .sector) s (put (w .input) (h .program .came) b) (h .program .came + length b) (s .terms .head .count) (turnOf h (w .stage) (w .output)) L (order-good h disk (t .order) (t .live) (t .entries)) in
-      let a = runs-alike (w .host .sector) s (put (w .input) (h .program .came) b) (h .program .came + length b) (s .terms .head .count) (turnOf h (w .stage) (w .output)) in
+      let g = runs-good (w .host .sector) s (put (w .input) (h .program .came) b) (h .program .came + length b) (s .terms .head .count)
+          (turnOf h (w .stage) (w .output)) L (order-good h disk (t .order) (t .live) (t .entries)) in
+      let a = runs-alike (w .host .sector) s (put (w .input) (h .program .came) b) (h .program .came + length b) (s .terms .head .count)
+          (turnOf h (w .stage) (w .output)) in
       record {
         order = good-order h disk (h .program .came + length b) _ _ (t .order) fit g;
         areas = areas-again (w .host) disk (w .stage) _ _ _ _ (a .stage) (t .areas);
@@ -128,11 +137,13 @@ module _ (disk : List ℕ) (w : Pieced) (t : Taking disk w) (b : List ℕ) (fit 
         stageRoots = a .roots ∙ t .stageRoots;
       }
 
-came-accepted : (disk : List ℕ) (w : Pieced) (b : List ℕ) → accepted disk (w .host) (w .stage) (w .input) (w .output) b .host .program .came ≡ w .host .program .came + length b
+came-accepted : (disk : List ℕ) (w : Pieced) (b : List ℕ) → accepted disk (w .host) (w .stage) (w .input) (w .output) b .host .program .came
+    ≡ w .host .program .came + length b
 unfolding acceptedBy withRun withStageRoots withProgram withProgress withCame
 came-accepted disk w b = refl
 
-length-accepted : (disk : List ℕ) (w : Pieced) (b : List ℕ) → accepted disk (w .host) (w .stage) (w .input) (w .output) b .host .program .terms .head .length ≡ w .host .program .terms .head .length
+length-accepted : (disk : List ℕ) (w : Pieced) (b : List ℕ) → accepted disk (w .host) (w .stage) (w .input)
+    (w .output) b .host .program .terms .head .length ≡ w .host .program .terms .head .length
 unfolding acceptedBy withRun withStageRoots withProgram withProgress withCame
 length-accepted disk w b = refl
 
@@ -141,7 +152,8 @@ unfolding acceptedBy
 answer-accepted disk w b = refl
 
 -- pieces that together stay within the declared length are all accepted
-pub all-accepted : (disk : List ℕ) (w : Pieced) (bs : List (List ℕ)) → Taking disk w → w .host .program .came + length (together bs) ≤ w .host .program .terms .head .length → AllAccepted disk w bs
+pub all-accepted : (disk : List ℕ) (w : Pieced) (bs : List (List ℕ)) → Taking disk w → w .host .program .came + length
+    (together bs) ≤ w .host .program .terms .head .length → AllAccepted disk w bs
 unfolding together
 all-accepted disk w [] t h = tt
 all-accepted disk w (b ∷ bs) t h =

@@ -25,7 +25,8 @@ use Rattle.sia.specs.declared.Operand.{Operand}
 use Rattle.sia.specs.declared.Instruction.{Instruction}
 use Rattle.machine_rules.specs.Roots.{rootAt}
 
-pub stepped-output : (z : ℕ) (s : Setting) (i : Instruction) (l : List (List ℕ)) (t : Turn) → stepped z s i l t .output ≡ put (t .output) (t .progress .written) (recordOf z s i l t)
+pub stepped-output : (z : ℕ) (s : Setting) (i : Instruction) (l : List (List ℕ)) (t : Turn) → stepped z s i l t .output
+    ≡ put (t .output) (t .progress .written) (recordOf z s i l t)
 unfolding stepped recordOf succeeding failing pick
 stepped-output z s i l t = under (eqb (judged z s (rootAt z s t) (t .progress) i l) 0) _ _ _ _ refl refl
   where
@@ -74,14 +75,16 @@ module _ (z : ℕ) (s : Setting) (a : List ℕ) where
       by (ready s k t)
       (λ r. let d = step-left z s a k t r in let e = runs-left k n (step z s a t) in
       trail-go m j t (ready-more s k m t le r)
-      ∙ ap (λ (x : List (List ℕ)). recorded z s a t ∷ x) (trail-on k m n (step z s a t) le (omega arith) j (omega arith) ∙ ap (λ (x : List (List ℕ)). trail z s a k n (step z s a t) ++ x) (sym (trail-enough m j (runs z s a k n (step z s a t)) (omega arith))))
+      ∙ ap (λ (x : List (List ℕ)). recorded z s a t ∷ x) (trail-on k m n (step z s a t) le (omega arith) j (omega arith)
+          ∙ ap (λ (x : List (List ℕ)). trail z s a k n (step z s a t) ++ x) (sym (trail-enough m j (runs z s a k n (step z s a t)) (omega arith))))
       ∙ sym (ap₂ _++_ (trail-go k n t r) (ap (λ (x : Turn). trail z s a m (suc j) x) (runs-go z s a k n t r))))
       (λ r. sym (ap₂ _++_ (trail-stop k (suc n) t r) (ap (λ (x : Turn). trail z s a m (suc j) x) (runs-stop z s a k (suc n) t r))))
 
   -- the first m records of the whole run
   pub firsts : (k m : ℕ) (t : Turn) → k ≤ m
       → take (length (trail z s a k (s .terms .head .count) t)) (trail z s a m (s .terms .head .count) t) ≡ trail z s a k (s .terms .head .count) t
-  firsts k m t le = ap (λ (x : List (List ℕ)). take (length (trail z s a k (s .terms .head .count) t)) x) (trail-on k m (s .terms .head .count) t le (left-most s t) (s .terms .head .count) (omega arith)) ∙ take-append-seam _ _
+  firsts k m t le = ap (λ (x : List (List ℕ)). take (length (trail z s a k (s .terms .head .count) t)) x)
+      (trail-on k m (s .terms .head .count) t le (left-most s t) (s .terms .head .count) (omega arith)) ∙ take-append-seam _ _
 
 some-none : (d : ℕ) (os : List Operand) → some (λ o. ltb d (o .offset + o .len)) os ≡ false → largest os ≤ d
 unfolding some largest
@@ -110,17 +113,21 @@ need-within d i =
     (λ f. rw (picks (pastEnd d i) 0 (largest (operandsIn i)) f) (omega arith))
     (λ f. rw (skips (pastEnd d i) 0 (largest (operandsIn i)) f) (past-none d i f))))
 
-stepped-next : (z : ℕ) (s : Setting) (i : Instruction) (l : List (List ℕ)) (t : Turn) → (stepped z s i l t .progress .ran ≡ t .progress .ran + 1) ⊎ (stepped z s i l t .progress .failed ≡ true)
+stepped-next : (z : ℕ) (s : Setting) (i : Instruction) (l : List (List ℕ)) (t : Turn) → (stepped z s i l t .progress .ran ≡ t .progress .ran + 1) ⊎
+    (stepped z s i l t .progress .failed ≡ true)
 unfolding stepped succeeding failing ranProgress failedProgress pick
 stepped-next z s i l t = under (eqb (judged z s (rootAt z s t) (t .progress) i l) 0)
   where
-    under : (b : Bool) → (pick b (succeeding z s (i .proof) (opOf (i .name)) (argsOf (opOf (i .name)) l) t) (failing z s (judged z s (rootAt z s t) (t .progress) i l) t) .progress .ran ≡ t .progress .ran + 1)
-        ⊎ (pick b (succeeding z s (i .proof) (opOf (i .name)) (argsOf (opOf (i .name)) l) t) (failing z s (judged z s (rootAt z s t) (t .progress) i l) t) .progress .failed ≡ true)
+    under : (b : Bool) → (pick b (succeeding z s (i .proof) (opOf (i .name)) (argsOf (opOf (i .name)) l) t)
+        (failing z s (judged z s (rootAt z s t) (t .progress) i l) t) .progress .ran ≡ t .progress .ran + 1)
+        ⊎ (pick b (succeeding z s (i .proof) (opOf (i .name)) (argsOf (opOf (i .name)) l) t)
+            (failing z s (judged z s (rootAt z s t) (t .progress) i l) t) .progress .failed ≡ true)
     under true = inl refl
     under false = inr refl
 
 failed-stops : (s : Setting) (k : ℕ) (t : Turn) → t .progress .failed ≡ true → ready s k t ≡ false
-failed-stops s k t e = by (ready s k t) (λ h. absurd (let q : true ≡ false = sym e ∙ not-failed s t (ready-going s k t h) in let r : _≡_ {A = ℕ} 0 1 = cc in omega arith)) (λ h. h)
+failed-stops s k t e = by (ready s k t) (λ h. absurd (let q : true ≡ false = sym e ∙ not-failed s t (ready-going s k t h) in
+    let r : _≡_ {A = ℕ} 0 1 = cc in omega arith)) (λ h. h)
 
 ready-if : (s : Setting) (k : ℕ) (t : Turn) → going (s .terms) (t .progress) ≡ true → need (s .terms .head .length) (current s t) ≤ k → ready s k t ≡ true
 unfolding ready
@@ -154,9 +161,11 @@ module _ (z : ℕ) (s : Setting) (a : List ℕ) where
       (λ e. let rk : ready s k t ≡ true = ready-if s k t g (leb-true _ _ e) in
       let ih : length (trail z s a k n (step z s a t)) ≡ min (ripe s k (t .progress .ran + 1) n) (length (trail z s a d n (step z s a t))) =
       ⊎-elim (λ r. counted k n (step z s a t) ∙ ap (λ (x : ℕ). min (ripe s k x n) (length (trail z s a d n (step z s a t)))) r)
-      (λ f. ap length (trail-stop z s a k n (step z s a t) (failed-stops s k (step z s a t) f)) ∙ omega (arith, ap length (trail-stop z s a d n (step z s a t) (failed-stops s d (step z s a t) f))))
+      (λ f. ap length (trail-stop z s a k n (step z s a t) (failed-stops s k (step z s a t) f))
+          ∙ omega (arith, ap length (trail-stop z s a d n (step z s a t) (failed-stops s d (step z s a t) f))))
       (stepped-next z s (current s t) (inputsOf (current s t) a) t) in
-      omega (arith, ih, ap length (trail-go z s a k n t rk), ap length (trail-go z s a d n t rd), picks (leb (need d (current s t)) k) (suc (ripe s k (t .progress .ran + 1) n)) 0 e))
+      omega (arith, ih, ap length (trail-go z s a k n t rk), ap length (trail-go z s a d n t rd), picks (leb (need d (current s t)) k)
+          (suc (ripe s k (t .progress .ran + 1) n)) 0 e))
       (λ e. let rk : ready s k t ≡ false = need-stops s k t e in
       omega (arith, ap length (trail-stop z s a k (suc n) t rk), skips (leb (need d (current s t)) k) (suc (ripe s k (t .progress .ran + 1) n)) 0 e)))
       (λ g. omega (arith, ap length (trail-stop z s a k (suc n) t (going-stops s k t g)), ap length (trail-stop z s a d (suc n) t (going-stops s d t g))))

@@ -4,23 +4,22 @@ use mathlib.Core.Path.{_≡_, refl, sym, ap, ap₂, _∙_}
 use mathlib.Core.Bool.{Bool, true}
 use mathlib.Core.List.{List, [], _∷_}
 use Prim.Native.Nat.{ℕ, zero, suc, _+_, _*_, _/_, _%_, _^_, _≤_, _<_}
-use native.Mathlib.Nat.{div-add-mod', div-lt-iff-lt-mul, mul-left-comm, mul-comm, mul-le-mul-right, mul-le-mul-left, suc-mul}
+use native.Mathlib.Nat.{div-add-mod', mul-left-comm, mul-comm}
 use native.Mathlib.Omega.{arith}
 use lib.ListN.{length, getD}
-use lib.Pow.{pow-pos}
-use Rattle.area.specs.Area.{part, zeros}
+use Rattle.area.specs.Area.{part}
 use Rattle.tree.specs.Tree.{root, join}
 use Rattle.tree.specs.Walk.{count, proof, proofIn}
 use Rattle.tree.specs.Promise.{Parted}
 use Rattle.tree.proofs.Promise.{roots, proofs}
 use Rattle.sia.specs.Encode.{joined, every}
 use Rattle.machine_rules.specs.View.{sector, whole}
-use Rattle.machine_rules.specs.Roots.{sectorRoot, contractRoot, segments, rangeProof, rangeCount}
+use Rattle.machine_rules.specs.Roots.{sectorRoot, contractRoot, rangeProof, rangeCount}
 use Rattle.machine_rules.specs.Facts.{Within}
 use Rattle.machine_rules.proofs.Laws.Pieces.{length-pieces, part-pieces}
 use Rattle.machine_rules.proofs.Laws.Spots.{every-get}
 use Rattle.machine_rules.specs.declared.Spot.{Spot}
-use Rattle.machine_rules.specs.declared.Spot.the-variants.{OnDisk, InStage}
+use Rattle.machine_rules.specs.declared.Spot.the-variants.{OnDisk}
 
 -- ---- segments of sectors of 2 ^ k segments
 
@@ -63,9 +62,11 @@ range-is : (z : ℕ) (f : Spot → List ℕ) (disk stage : List ℕ) (l : List S
 unfolding rangeProof
 range-is z f disk stage [] at n lt = absurd (omega arith)
 range-is z f disk stage (x ∷ xs) at n lt =
-    ap (λ (y : Spot). proofIn (joined f (x ∷ xs)) (at / z) (sector z disk stage y) (at % z / 64) (at % z / 64 + n / 64)) (get-default (x ∷ xs) (at / z) x (OnDisk 0) lt)
+    ap (λ (y : Spot). proofIn (joined f (x ∷ xs)) (at / z) (sector z disk stage y) (at % z / 64) (at % z / 64 + n / 64))
+        (get-default (x ∷ xs) (at / z) x (OnDisk 0) lt)
 
-module _ (z k : ℕ) (is : z ≡ 64 * 2 ^ k) (disk stage : List ℕ) (p : Spot → Bool) (long : (x : Spot) → p x ≡ true → length (sector z disk stage x) ≡ z) (l : List Spot) (h : every p l ≡ true)
+module _ (z k : ℕ) (is : z ≡ 64 * 2 ^ k) (disk stage : List ℕ) (p : Spot → Bool) (long : (x : Spot) → p x ≡ true → length (sector z disk stage x) ≡ z)
+    (l : List Spot) (h : every p l ≡ true)
     (few : length l * 2 ^ k ≤ 2 ^ 64) where
   root-sized : (x : Spot) → p x ≡ true → length (sectorRoot z disk stage x) ≡ 32
   unfolding sectorRoot
@@ -96,12 +97,15 @@ module _ (z k : ℕ) (is : z ≡ 64 * 2 ^ k) (disk stage : List ℕ) (p : Spot �
       over-all m = no-case (sectorRoot z disk stage) m
 
   -- "walk the tree (Read: the contract as read; ReadSector: the sector)"
-  pub proof-worked : (at n : ℕ) → Within z (length l) at n → rangeProof z (sectorRoot z disk stage) disk stage l at n ≡ proof (whole z disk stage l) (at / 64) ((at + n) / 64)
+  pub proof-worked : (at n : ℕ) → Within z (length l) at n → rangeProof z (sectorRoot z disk stage) disk stage l at n
+      ≡ proof (whole z disk stage l) (at / 64) ((at + n) / 64)
   proof-worked at n w =
       range-is z (sectorRoot z disk stage) disk stage l at n (w .below)
       ∙ ap (λ (b : List ℕ). proofIn (joined (sectorRoot z disk stage) l) (at / z) b (at % z / 64) (at % z / 64 + n / 64))
-      (sym (part-pieces p (sector z disk stage) z long l (at / z) (OnDisk 0) h (w .below)) ∙ ap (λ (x : ℕ). part (joined (sector z disk stage) l) (at / z * x) x) is ∙ whole-is)
-      ∙ proofs .within k (length l) (whole z disk stage l) (joined (sectorRoot z disk stage) l) parted (at / z) (at % z / 64) (at % z / 64 + n / 64) (w .below) (goes-up z k is at n (length l) w) (stays-in z k is at n (length l) w)
+      (sym (part-pieces p (sector z disk stage) z long l (at / z) (OnDisk 0) h (w .below))
+          ∙ ap (λ (x : ℕ). part (joined (sector z disk stage) l) (at / z * x) x) is ∙ whole-is)
+      ∙ proofs .within k (length l) (whole z disk stage l) (joined (sectorRoot z disk stage) l) parted (at / z) (at % z / 64) (at % z / 64 + n / 64)
+          (w .below) (goes-up z k is at n (length l) w) (stays-in z k is at n (length l) w)
       ∙ ap₂ (proof (whole z disk stage l)) (starts z k is at n (length l) w) (ends z k is at n (length l) w)
     where
       whole-is : part (joined (sector z disk stage) l) (at / z * (64 * 2 ^ k)) (64 * 2 ^ k) ≡ part (whole z disk stage l) (at / z * (64 * 2 ^ k)) (64 * 2 ^ k)
@@ -109,7 +113,8 @@ module _ (z k : ℕ) (is : z ≡ 64 * 2 ^ k) (disk stage : List ℕ) (p : Spot �
 
 -- ---- its length
 
-pub proof-counted : (z k : ℕ) → z ≡ 64 * 2 ^ k → (f : Spot → List ℕ) (disk stage : List ℕ) (p : Spot → Bool) → ((x : Spot) → p x ≡ true → length (sector z disk stage x) ≡ z)
+pub proof-counted : (z k : ℕ) → z ≡ 64 * 2 ^ k → (f : Spot → List ℕ) (disk stage : List ℕ) (p : Spot → Bool)
+    → ((x : Spot) → p x ≡ true → length (sector z disk stage x) ≡ z)
     → ((x : Spot) → p x ≡ true → length (f x) ≡ 32) → (l : List Spot) → every p l ≡ true → length l * 2 ^ k ≤ 2 ^ 64 → (at n : ℕ) → Within z (length l) at n
     → length (rangeProof z f disk stage l at n) ≡ 32 * rangeCount z l at n
 unfolding rangeCount

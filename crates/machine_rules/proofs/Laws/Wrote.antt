@@ -1,27 +1,27 @@
 -- What an effect leaves: positions that it does not write to keep their slots, and slots that none of those positions has keep their bytes.
 -- Assumes nothing.
 use mathlib.Core.Path.{_≡_, refl, sym, ap, _∙_, subst}
-use mathlib.Core.Bool.{Bool, true, false}
+use mathlib.Core.Bool.{true, false}
 use mathlib.Core.List.{List, [], _∷_}
-use Prim.Native.Nat.{ℕ, zero, suc, _+_, _*_, _/_, _%_, _≤_, _<_}
+use Prim.Native.Nat.{ℕ, _+_, _*_, _/_, _%_, _≤_, _<_}
 use native.Mathlib.Nat.{div-lt-iff-lt-mul}
 use native.Mathlib.Omega.{arith}
 use lib.ListN.{length, getD, set, length-replicate}
 use lib.Seq.{getD-set-same, getD-set-other}
 use lib.Dec.{ltb, eqb}
-use borrow.Author.Tests.{ltb-true, ltb-false, eqb-true, eqb-false, ne-eqb, eq-eqb}
-use Rattle.area.specs.Pick.{pick, either}
-use Rattle.area.specs.Area.{part, put, zeros}
-use Rattle.area.specs.Lowest.{lowest}
+use borrow.Author.Tests.{ltb-true, ltb-false, eqb-true, eqb-false, eq-eqb}
+use Rattle.area.specs.Pick.{pick}
+use Rattle.area.specs.Area.{part, zeros}
 use Rattle.area.proofs.Laws.Pick.{by, picks, skips, never, either-left, either-right}
-use Rattle.host.specs.Lists.{some, unused}
+use Rattle.host.specs.Lists.{some}
 use Rattle.host.specs.Empty.{none}
 use Rattle.host.specs.Places.{freeCopy}
-use Rattle.machine_rules.specs.View.{Setting, sector}
+use Rattle.machine_rules.specs.View.{sector}
 use Rattle.machine_rules.specs.Inputs.{Args}
 use Rattle.machine_rules.specs.Plan.{Source, badSpan, badSpans, touched, newSize}
 use Rattle.machine_rules.specs.Effect.{Ground, Staging, newCopy, sectorAt, copied, spanRead, laid, spanWritten, resized, effect}
-use Rattle.machine_rules.proofs.Laws.Effects.{neither, span-in, sector-below, Sized, sized, whole-sectors, copiedMap, copied-map, written-map, copied-new, copied-old, length-copied, resized-more, resized-less, resized-same}
+use Rattle.machine_rules.proofs.Laws.Effects.{neither, span-in, sector-below, Sized, sized, copiedMap, copied-map, written-map, copied-new}
+use Rattle.machine_rules.proofs.Laws.Effects.{copied-old, length-copied}
 use Rattle.machine_rules.proofs.Laws.Filling.{other-span, other-slot, few-part}
 use Rattle.sia.specs.declared.Op.{Op}
 use Rattle.sia.specs.declared.Op.the-variants.{Read, ReadSector, Write, Copy, Swap, Truncate, Unknown}
@@ -31,7 +31,8 @@ use Rattle.machine_rules.specs.declared.Spot.the-variants.{OnDisk, InSta
 -- h after g, with the positions ps written to
 pub record Wrote (z : ℕ) (ps : List ℕ) (g h : Staging) : Type 0 where
   pub stay : (j : ℕ) → some (eqb j) ps ≡ false → eqb (getD (h .staged) j none) none ≡ false → getD (h .staged) j none ≡ getD (g .staged) j none
-  pub hold : (m : ℕ) → eqb m none ≡ false → ((at : ℕ) → some (eqb at) ps ≡ true → getD (h .staged) at none ≡ m → ⊥) → part (h .bytes) (m * z) z ≡ part (g .bytes) (m * z) z
+  pub hold : (m : ℕ) → eqb m none ≡ false → ((at : ℕ) → some (eqb at) ps ≡ true → getD (h .staged) at none ≡ m → ⊥) → part (h .bytes) (m * z) z
+      ≡ part (g .bytes) (m * z) z
 
 pub wrote-nothing : (z : ℕ) (g : Staging) → Wrote z [] g g
 wrote-nothing z g = record { stay = λ j o n. refl; hold = λ m n o. refl }
@@ -53,7 +54,8 @@ unfolding sector
 few-sector z disk stage (OnDisk n) = few-part disk (n * z) z
 few-sector z disk stage (InStage n) = few-part stage (n * z) z
 
-copied-hold : (z : ℕ) (e : Ground) (at : ℕ) (g : Staging) (m : ℕ) → at < length (g .staged) → (getD (copied z e at g .staged) at none ≡ m → ⊥) → part (copied z e at g .bytes) (m * z) z ≡ part (g .bytes) (m * z) z
+copied-hold : (z : ℕ) (e : Ground) (at : ℕ) (g : Staging) (m : ℕ) → at < length (g .staged) → (getD (copied z e at g .staged) at none ≡ m → ⊥)
+    → part (copied z e at g .bytes) (m * z) z ≡ part (g .bytes) (m * z) z
 unfolding copied newCopy sectorAt
 copied-hold z e at g m lt ne =
     by (eqb (getD (g .staged) at none) none)
@@ -73,10 +75,12 @@ copied-other copies at j staged ne =
 copied-keeps : (copies at j : ℕ) (staged : List ℕ) → eqb (getD staged j none) none ≡ false → getD (copiedMap copies at staged) j none ≡ getD staged j none
 copied-keeps copies at j staged n =
     by (eqb j at)
-    (λ u. let q = eqb-true j at u in ap (λ (l : List ℕ). getD l j none) (copied-old copies at staged (subst (λ (x : ℕ). eqb (getD staged x none) none ≡ false) q n)))
+    (λ u. let q = eqb-true j at u in
+        ap (λ (l : List ℕ). getD l j none) (copied-old copies at staged (subst (λ (x : ℕ). eqb (getD staged x none) none ≡ false) q n)))
     (λ u. copied-other copies at j staged (eqb-false j at u))
 
-pub wrote-span : (z : ℕ) (e : Ground) (at : ℕ) (bs : List ℕ) (g : Staging) → at % z + length bs ≤ z → at / z < length (g .staged) → Wrote z (at / z ∷ []) g (spanWritten z e at bs g)
+pub wrote-span : (z : ℕ) (e : Ground) (at : ℕ) (bs : List ℕ) (g : Staging) → at % z + length bs ≤ z → at / z < length (g .staged)
+    → Wrote z (at / z ∷ []) g (spanWritten z e at bs g)
 unfolding spanWritten laid
 wrote-span z e at bs g few lt = record {
   stay = λ j o n. ap (λ (l : List ℕ). getD l j none) (copied-map z e (at / z) g) ∙ copied-other (e .copies) (at / z) j (g .staged) (one-not j (at / z) o);
@@ -117,7 +121,8 @@ one-of j at e = by (eqb j at) (λ u. eqb-true j at u) (λ u. never (sym e ∙ sk
 not-one : (j at : ℕ) → (j ≡ at → ⊥) → some (eqb j) (at ∷ []) ≡ false
 not-one j at ne = by (some (eqb j) (at ∷ [])) (λ u. absurd (ne (one-of j at u))) (λ u. u)
 
-pub wrote-two : (z : ℕ) (e : Ground) (at to : ℕ) (bs cs : List ℕ) (g : Staging) → at % z + length bs ≤ z → to % z + length cs ≤ z → at / z < length (g .staged) → to / z < length (g .staged)
+pub wrote-two : (z : ℕ) (e : Ground) (at to : ℕ) (bs cs : List ℕ) (g : Staging) → at % z + length bs ≤ z → to % z + length cs ≤ z
+    → at / z < length (g .staged) → to / z < length (g .staged)
     → Wrote z (two (at / z) (to / z)) g (spanWritten z e at bs (spanWritten z e to cs g))
 wrote-two z e at to bs cs g fa ft la lt =
     let f : Staging = spanWritten z e to cs g in
@@ -153,7 +158,9 @@ pub wrote-less : (z : ℕ) (at : ℕ) (g : Staging) → at < length (g .staged) 
 wrote-less z at g lt = record {
   stay = λ j o n.
       by (eqb j at)
-      (λ u. let q = eqb-true j at u in never (sym (eq-eqb none none refl) ∙ sym (ap (λ (x : ℕ). eqb x none) (ap (λ (x : ℕ). getD (set (g .staged) at none) x none) q ∙ getD-set-same (g .staged) at none none lt)) ∙ n))
+      (λ u. let q = eqb-true j at u in
+          never (sym (eq-eqb none none refl)
+          ∙ sym (ap (λ (x : ℕ). eqb x none) (ap (λ (x : ℕ). getD (set (g .staged) at none) x none) q ∙ getD-set-same (g .staged) at none none lt)) ∙ n))
       (λ u. getD-set-other (g .staged) at j none none (eqb-false j at u));
   hold = λ m n o. refl;
 }
@@ -180,7 +187,8 @@ module _ (z : ℕ) (e : Ground) (size : ℕ) (g : Staging) (pos : 0 < z) (whole 
       (λ u. let lt = ltb-true size new u in
       let at : size / z < length (g .staged) = div-lt-iff-lt-mul {k = z} {x = size} {y = length (g .staged)} pos .1 (omega arith) in
       subst (λ (l : List ℕ). Wrote z l g (resized z e size new g)) (sym (picks (ltb size new) (size / z ∷ []) [] u))
-      (subst (λ (x : Staging). Wrote z (size / z ∷ []) g x) (sym (picks (ltb size new) (newCopy z e (size / z) (zeros z) g) _ u)) (wrote-more z e (size / z) g at)))
+      (subst (λ (x : Staging). Wrote z (size / z ∷ []) g x) (sym (picks (ltb size new) (newCopy z e (size / z) (zeros z) g) _ u))
+          (wrote-more z e (size / z) g at)))
       (λ u. subst (λ (l : List ℕ). Wrote z l g (resized z e size new g)) (sym (skips (ltb size new) (size / z ∷ []) [] u))
       (subst (λ (x : Staging). Wrote z [] g x) (sym (skips (ltb size new) (newCopy z e (size / z) (zeros z) g) _ u))
       (by (ltb new size)
@@ -188,19 +196,23 @@ module _ (z : ℕ) (e : Ground) (size : ℕ) (g : Staging) (pos : 0 < z) (whole 
       subst (λ (x : Staging). Wrote z [] g x) (sym (picks (ltb new size) _ g v)) (wrote-less z (new / z) g (omega arith)))
       (λ v. subst (λ (x : Staging). Wrote z [] g x) (sym (skips (ltb new size) _ g v)) (wrote-nothing z g)))))
 
-  pub wrote-effect : (from : Source) (op : Op) (a : Args) → badSpans z size from op a ≡ false → (op ≡ Write → length (a .bytes) ≡ a .len) → newSize size op a ≤ length (g .staged) * z
+  pub wrote-effect : (from : Source) (op : Op) (a : Args) → badSpans z size from op a ≡ false → (op ≡ Write → length (a .bytes) ≡ a .len)
+      → newSize size op a ≤ length (g .staged) * z
       → Wrote z (touched z size op a) g (effect z e size op a g)
   unfolding effect touched badSpans newSize two
   wrote-effect from Read a b long room = wrote-nothing z g
   wrote-effect from ReadSector a b long room = wrote-nothing z g
-  wrote-effect from Write a b long room = wrote-span z e (a .first) (a .bytes) g (omega (arith, span-few z size (a .first) (a .len) b, long refl)) (in-staged (a .first) (a .len) b)
+  wrote-effect from Write a b long room = wrote-span z e (a .first) (a .bytes) g (omega (arith, span-few z size (a .first) (a .len) b, long refl))
+      (in-staged (a .first) (a .len) b)
   wrote-effect from Copy a b long room =
       let c = either-left _ _ b in
-      wrote-span z e (a .first) _ g (omega (arith, span-few z size (a .first) (a .len) c, few-read z e (a .second) (a .len) g)) (in-staged (a .first) (a .len) c)
+      wrote-span z e (a .first) _ g (omega (arith, span-few z size (a .first) (a .len) c, few-read z e (a .second) (a .len) g))
+          (in-staged (a .first) (a .len) c)
   wrote-effect from Swap a b long room =
       let c = either-left _ _ b in
       let d = either-right _ _ b in
       wrote-two z e (a .first) (a .second) _ _ g (omega (arith, span-few z size (a .first) (a .len) c, few-read z e (a .second) (a .len) g))
-      (omega (arith, span-few z size (a .second) (a .len) d, few-read z e (a .first) (a .len) g)) (in-staged (a .first) (a .len) c) (in-staged (a .second) (a .len) d)
+      (omega (arith, span-few z size (a .second) (a .len) d, few-read z e (a .first) (a .len) g)) (in-staged (a .first) (a .len) c)
+          (in-staged (a .second) (a .len) d)
   wrote-effect from Truncate a b long room = wrote-resized (a .first) (sized z size (a .first) b) room
   wrote-effect from Unknown a b long room = wrote-nothing z g

@@ -19,7 +19,8 @@ use Rattle.host.specs.Calls.{replaced}
 use Rattle.machine_rules.specs.View.{settingOf, parent, settingBy}
 use Rattle.machine_rules.specs.Roots.{rootOf}
 use Rattle.machine_rules.specs.Record.{samePair, startingPair, runningPair}
-use Rattle.machine_rules.specs.Commit.{Closed, closed, givenUp, cut, newSlots, finalSlots, copiedBack, finalPlace, commit, agreed, unfinished, close, closeBy, agreedBy}
+use Rattle.machine_rules.specs.Commit.{Closed, closed, givenUp, cut, newSlots, finalSlots, copiedBack, finalPlace, commit, agreed}
+use Rattle.machine_rules.specs.Commit.{unfinished, close, closeBy, agreedBy}
 use Rattle.host.specs.Renaming.{Renaming, placeAs, hostAs}
 use Rattle.host.proofs.Renaming.Places.{allAs, id-as, taken-as, replaced-as, in-order-as}
 use Rattle.machine_rules.proofs.Laws.Sizes.{nothing-reached}
@@ -106,7 +107,8 @@ module _ (r : List ℕ → List ℕ) (new : Renaming r) where
       (copiedBack z stage (p .staged) slots 0 (p .size / z) disk)
 
   body-as : (disk : List ℕ) (h : Host) (stage c : List ℕ) → parentInOrder (h .places) c (h .program .progress .size) ≡ true
-      → body (hostAs r h .sector) disk (hostAs r h) stage (r c) (placeAs r (whose c (h .places))) ≡ closedAs (body (h .sector) disk h stage c (whose c (h .places)))
+      → body (hostAs r h .sector) disk (hostAs r h) stage (r c) (placeAs r (whose c (h .places)))
+          ≡ closedAs (body (h .sector) disk h stage c (whose c (h .places)))
   unfolding closedAs hostAs withProgram withPlaces withDiskRoots noProgram pick finalPlace withSize withSlots
   body-as disk h stage c e =
       let size = h .program .progress .size in

@@ -15,7 +15,8 @@ use Rattle.machine_rules.specs.View.{Setting, setting, Turn, settingOf, 
 use Rattle.machine_rules.specs.Roots.{keptRoot, rootBy, rootOf}
 use Rattle.machine_rules.specs.Seats.{allSeats, seatsOf, firstSeat, seatsIn, notLocated, locatedAt, locatedBy, located}
 use Rattle.machine_rules.specs.Run.{going, run}
-use Rattle.machine_rules.specs.Calls.{Pieced, pieced, accepted, inputRight, outputRight, piece, Interrupted, interrupted, stopped, interrupt, acceptedBy, pieceBy, interruptBy, stoppedBy, reachedBy, reachedPairBy}
+use Rattle.machine_rules.specs.Calls.{Pieced, pieced, accepted, inputRight, outputRight, piece, Interrupted, interrupted, stopped, interrupt}
+use Rattle.machine_rules.specs.Calls.{acceptedBy, pieceBy, interruptBy, stoppedBy, reachedBy, reachedPairBy}
 use Rattle.machine_rules.specs.Calls.{reachedPair, reachedAt, reached}
 use Rattle.machine_rules.specs.Visit.{Areas, gives}
 use Rattle.host.specs.Renaming.{Renaming, termsAs, hostAs}
@@ -107,7 +108,8 @@ module _ (r : List ℕ → List ℕ) (new : Renaming r) where
       → reachedPair disk (hostAs r h) stage ≡ reachedPair disk h stage
   unfolding reachedPairBy hostAs rootOf
   reached-pair-as disk h stage e =
-      rw (setting-as h disk e, starting-as r new (h .sector) (settingOf h disk), running-as r new (h .sector) (settingOf h disk) (rootOf (h .sector) (settingOf h disk) stage (h .stageroots)) (h .program .progress))
+      rw (setting-as h disk e, starting-as r new (h .sector) (settingOf h disk), running-as r new (h .sector) (settingOf h disk)
+          (rootOf (h .sector) (settingOf h disk) stage (h .stageroots)) (h .program .progress))
 
   pub reached-as : (disk : List ℕ) (h : Host) (stage : List ℕ) → reached disk (hostAs r h) stage ≡ reached disk h stage
   unfolding reachedBy

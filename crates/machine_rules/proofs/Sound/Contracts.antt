@@ -31,7 +31,7 @@ use Rattle.machine_rules.proofs.Sound.Programs.{sound-order, sound-disk
 use Rattle.host.specs.declared.Host.{Host}
 use Rattle.host.specs.declared.Place.{Place}
 use Rattle.host.specs.declared.Prices.{Prices}
-use Rattle.host.specs.declared.Answer.{Answer as Contract}
+use Rattle.host.specs.declared.Made.{Made}
 use Rattle.sia.specs.declared.Head.{Head}
 use Rattle.machine_rules.specs.declared.Answer.{Answer}
 
@@ -78,12 +78,13 @@ bare-right z d s disk stage = refl
 fresh-right : (z d s : ℕ) (disk stage : List ℕ) → rootsRight disk (freshed z d s .host) stage ≡ true
 unfolding freshed
 fresh-right z d s disk stage =
-    let or = either-way (λ (r : Contract). rootsRight disk (r .host) stage ≡ true) in
-    let no : Contract = Contracts.answered 2 (bare 0 0 0) in
+    let or = either-way (λ (r : Made). rootsRight disk (r .host) stage ≡ true) in
+    let no : Made = Contracts.answered 2 (bare 0 0 0) in
     or _ no _ (λ _. bare-right 0 0 0 disk stage) (λ _. or _ no _ (λ _. bare-right 0 0 0 disk stage)
     (λ _. or _ no _ (λ _. bare-right 0 0 0 disk stage) (λ _. bare-right _ _ _ disk stage)))
 
-with-right : (disk : List ℕ) (h : Host) (stage : List ℕ) (ps : List Place) → h .program .active ≡ false → every (right (h .sector) disk (h .diskroots)) (taken (h .sector) ps) ≡ true → rootsRight disk (withPlaces h ps) stage ≡ true
+with-right : (disk : List ℕ) (h : Host) (stage : List ℕ) (ps : List Place) → h .program .active ≡ false
+    → every (right (h .sector) disk (h .diskroots)) (taken (h .sector) ps) ≡ true → rootsRight disk (withPlaces h ps) stage ≡ true
 unfolding rootsRight withPlaces
 with-right disk h stage ps idle d = both-join _ _ d (picks (not (h .program .active)) true _ (ap not idle))
 
@@ -92,10 +93,10 @@ module _ (disk : List ℕ) (h : Host) (stage : List ℕ) (fine : sound disk h st
   unfolding sound
   roots-fine = both-right _ _ fine
 
-  abbrev Keeps : Contract → Type 0
+  abbrev Keeps : Made → Type 0
   Keeps r = rootsRight disk (r .host) stage ≡ true
 
-  keeps-refused : (b : Bool) (n : ℕ) (rest : Contract) → (b ≡ false → Keeps rest) → Keeps (pick b (Contracts.answered n h) rest)
+  keeps-refused : (b : Bool) (n : ℕ) (rest : Made) → (b ≡ false → Keeps rest) → Keeps (pick b (Contracts.answered n h) rest)
   keeps-refused b n rest f = either-way Keeps b (Contracts.answered n h) rest (λ _. roots-fine) f
 
   pub formed-sound : (id : List ℕ) → sound disk (formed h id .host) stage ≡ true
@@ -123,11 +124,13 @@ module _ (disk : List ℕ) (h : Host) (stage : List ℕ) (fine : sound disk h st
   unfolding rootsRight withProgram begun started
   begun-right hd budget p room = both-join _ _ (sound-disk disk h stage fine) (or-right _ _ (none-staged (h .sector) stage (h .stageroots) 64))
 
-  pub opened-sound : (bytes : List ℕ) (budget : ℕ) (p : Prices) (room : ℕ) → Declared h → Bytes bytes → sound disk (opened h bytes budget p room .host) stage ≡ true
+  pub opened-sound : (bytes : List ℕ) (budget : ℕ) (p : Prices) (room : ℕ) → Declared h → Bytes bytes
+      → sound disk (opened h bytes budget p room .host) stage ≡ true
   unfolding sound opened openedHead
   opened-sound bytes budget p room shape bs =
       both-join _ _ (opening-order h bytes budget p room shape bs (sound-order disk h stage fine))
-      (opens-refused _ 1 _ (λ _. opens-refused _ 2 _ (λ _. opens-refused _ 3 _ (λ _. opens-refused _ _ _ (λ _. opens-refused _ 7 _ (λ _. opens-refused _ 11 _ (λ _.
+      (opens-refused _ 1 _ (λ _. opens-refused _ 2 _
+          (λ _. opens-refused _ 3 _ (λ _. opens-refused _ _ _ (λ _. opens-refused _ 7 _ (λ _. opens-refused _ 11 _ (λ _.
       begun-right (decode bytes .head) budget p room)))))))
 
 pub fresh-sound : (z d s : ℕ) (disk stage : List ℕ) → freshed z d s .number ≡ 0 → sound disk (freshed z d s .host) stage ≡ true

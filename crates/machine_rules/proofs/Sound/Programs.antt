@@ -7,7 +7,7 @@ use lib.ListN.{length}
 use lib.IntN.{pos}
 use borrow.Author.Tests.{not-false, ltb-false}
 use Rattle.area.specs.Pick.{pick}
-use Rattle.area.specs.Area.{same, put}
+use Rattle.area.specs.Area.{put}
 use Rattle.area.proofs.Laws.Pick.{by, picks, skips, never, both-left, both-right, both-join}
 use Rattle.sia.specs.Encode.{every}
 use Rattle.host.specs.Empty.{noProgram}
@@ -17,11 +17,12 @@ use Rattle.machine_rules.specs.View.{kept, worked, Turn, settingBy, sett
 use Rattle.machine_rules.specs.Roots.{sectorRoot, keptRoot, rootBy, rootOf, rootOnDisk}
 use Rattle.machine_rules.specs.Record.{pairing, samePair, pairOf, startingPair, runningPair}
 use Rattle.machine_rules.specs.Run.{failedProgress, failing, run}
-use Rattle.machine_rules.specs.Calls.{Pieced, pieced, acceptedBy, pieceBy, piece, Interrupted, interrupted, stoppedBy, interruptBy, interrupt, reachedAt, reachedPairBy, reachedBy}
+use Rattle.machine_rules.specs.Calls.{Pieced, pieced, acceptedBy, pieceBy, piece, Interrupted, interrupted, stoppedBy, interruptBy}
+use Rattle.machine_rules.specs.Calls.{interrupt, reachedAt, reachedPairBy, reachedBy}
 use Rattle.machine_rules.specs.Commit.{Closed, closed, givenUp, commit, agreedBy, closeBy, close}
 use Rattle.machine_rules.specs.Sound.{right, stagedRight, rootsRight, sound}
-use Rattle.machine_rules.specs.Visit.{Areas, gives, Declared}
-use Rattle.machine_rules.specs.Trace.{running, wholeRunBy}
+use Rattle.machine_rules.specs.Visit.{Areas, Declared}
+use Rattle.machine_rules.specs.Trace.{wholeRunBy}
 use Rattle.machine_rules.proofs.Laws.Taking.{order-solid, order-good}
 use Rattle.machine_rules.proofs.Laws.Areas.{either-second, or-right}
 use Rattle.machine_rules.proofs.Laws.Ways.{either-way}
@@ -47,7 +48,8 @@ pub sound-order : (disk : List ℕ) (h : Host) (stage : List ℕ) → sound disk
 unfolding sound
 sound-order disk h stage e = both-left _ _ e
 
-pub sound-disk : (disk : List ℕ) (h : Host) (stage : List ℕ) → sound disk h stage ≡ true → every (right (h .sector) disk (h .diskroots)) (taken (h .sector) (h .places)) ≡ true
+pub sound-disk : (disk : List ℕ) (h : Host) (stage : List ℕ) → sound disk h stage ≡ true
+    → every (right (h .sector) disk (h .diskroots)) (taken (h .sector) (h .places)) ≡ true
 unfolding sound rootsRight
 sound-disk disk h stage e = both-left _ _ (both-right _ _ e)
 
@@ -75,36 +77,45 @@ module _ (disk : List ℕ) (h : Host) (stage : List ℕ) (shape : Declared h) (f
 
   start-known : (output : List ℕ) → h .program .active ≡ true → Known z (settingOf h disk) (turnOf h stage output)
   unfolding settingBy turnOf
-  start-known output live = record { disk = sound-disk disk h stage fine; stage = sound-stage disk h stage fine live; kept = shape .stage; shaped = shape .places }
+  start-known output live = record { disk = sound-disk disk h stage fine; stage = sound-stage disk h stage fine live; kept = shape .stage;
+      shaped = shape .places }
 
-  accepted-alike : (input output bytes : List ℕ) → areasRight h disk stage ≡ true → h .program .active ≡ true → acceptedBy kept disk h stage input output bytes ≡ acceptedBy worked disk h stage input output bytes
+  accepted-alike : (input output bytes : List ℕ) → areasRight h disk stage ≡ true → h .program .active ≡ true
+      → acceptedBy kept disk h stage input output bytes ≡ acceptedBy worked disk h stage input output bytes
   unfolding acceptedBy run settingBy withWay turnOf
   accepted-alike input output bytes areas live =
       let k = h .program .came + length bytes in
       let area = put input (h .program .came) bytes in
-      ap (λ (t : Turn). pieced 0 (t .progress .tally) (withRun h (h .program .came + length bytes) (t .progress) (t .roots)) (t .stage) (put input (h .program .came) bytes) (t .output))
-      (runs-alike z (settingOf h disk) (order-solid h disk stage o areas) (put input (h .program .came) bytes) (h .program .came + length bytes) (h .program .terms .head .count) (turnOf h stage output)
+      ap (λ (t : Turn). pieced 0 (t .progress .tally) (withRun h (h .program .came + length bytes) (t .progress) (t .roots)) (t .stage)
+          (put input (h .program .came) bytes) (t .output))
+      (runs-alike z (settingOf h disk) (order-solid h disk stage o areas) (put input (h .program .came) bytes) (h .program .came + length bytes)
+          (h .program .terms .head .count) (turnOf h stage output)
       (order-good h disk o live (shape .staged)) (start-known output live))
 
   -- a piece on a sound host gives what document 01 says
   pub piece-alike : (input output bytes : List ℕ) → pieceBy kept disk h stage input output bytes ≡ pieceBy worked disk h stage input output bytes
   unfolding pieceBy
   piece-alike input output bytes =
-      behind (not (inOrder h)) _ _ _ (λ _. behind (not (areasRight h disk stage)) _ _ _ (λ right. behind _ _ _ _ (λ _. behind (not (h .program .active)) _ _ _ (λ live.
+      behind (not (inOrder h)) _ _ _ (λ _. behind (not (areasRight h disk stage)) _ _ _
+          (λ right. behind _ _ _ _ (λ _. behind (not (h .program .active)) _ _ _ (λ live.
       behind _ _ _ _ (λ _. accepted-alike input output bytes (not-false _ right) (not-false _ live))))))
 
-  pub records-alike : (output all : List ℕ) → areasRight h disk stage ≡ true → h .program .active ≡ true → wholeRunBy kept h (lends disk stage output) all ≡ wholeRunBy worked h (lends disk stage output) all
+  pub records-alike : (output all : List ℕ) → areasRight h disk stage ≡ true → h .program .active ≡ true
+      → wholeRunBy kept h (lends disk stage output) all ≡ wholeRunBy worked h (lends disk stage output) all
   unfolding wholeRunBy settingBy withWay turnOf
   records-alike output all areas live =
-      trail-alike z (settingOf h disk) (order-solid h disk stage o areas) all (h .program .terms .head .length) (h .program .terms .head .count) (turnOf h stage output)
+      trail-alike z (settingOf h disk) (order-solid h disk stage o areas) all (h .program .terms .head .length) (h .program .terms .head .count)
+          (turnOf h stage output)
       (order-good h disk o live (shape .staged)) (start-known output live)
 
   -- and leaves it sound
-  accepted-sound : (input output bytes : List ℕ) → areasRight h disk stage ≡ true → h .program .active ≡ true → inOrder (acceptedBy kept disk h stage input output bytes .host) ≡ true
+  accepted-sound : (input output bytes : List ℕ) → areasRight h disk stage ≡ true → h .program .active ≡ true
+      → inOrder (acceptedBy kept disk h stage input output bytes .host) ≡ true
       → sound disk (acceptedBy kept disk h stage input output bytes .host) (acceptedBy kept disk h stage input output bytes .stage) ≡ true
   unfolding acceptedBy run withRun withStageRoots withProgram withProgress withCame settingBy withWay turnOf
   accepted-sound input output bytes areas live order =
-      let known = runs-known z (settingOf h disk) (order-solid h disk stage o areas) (put input (h .program .came) bytes) (h .program .came + length bytes) (h .program .terms .head .count) (turnOf h stage output)
+      let known = runs-known z (settingOf h disk) (order-solid h disk stage o areas) (put input (h .program .came) bytes)
+          (h .program .came + length bytes) (h .program .terms .head .count) (turnOf h stage output)
       (order-good h disk o live (shape .staged)) (start-known output live) in
       is-sound disk _ _ order (sound-disk disk h stage fine) (λ _. known .stage)
 
@@ -115,12 +126,14 @@ module _ (disk : List ℕ) (h : Host) (stage : List ℕ) (shape : Declared h) (f
   piece-refused : (input output : List ℕ) (b : Bool) (n : ℕ) (rest : Pieced) → (b ≡ false → Stays rest) → Stays (pick b (pieced n 0 h stage input output) rest)
   piece-refused input output b n rest f = either-way Stays b (pieced n 0 h stage input output) rest (λ _. fine) f
 
-  pub piece-sound : (input output bytes : List ℕ) → sound disk (piece disk h stage input output bytes .host) (piece disk h stage input output bytes .stage) ≡ true
+  pub piece-sound : (input output bytes : List ℕ) → sound disk (piece disk h stage input output bytes .host)
+      (piece disk h stage input output bytes .stage) ≡ true
   unfolding pieceBy
   piece-sound input output bytes =
       let or = piece-refused input output in
       or _ 1 _ (λ _. or _ 2 _ (λ right. or _ 2 _ (λ _. or _ 4 _ (λ live. or _ 12 _ (λ fit.
-      accepted-sound input output bytes (not-false _ right) (not-false _ live) (accepted-order disk h stage input output bytes shape o (not-false _ live) (ltb-false _ _ fit)))))))
+      accepted-sound input output bytes (not-false _ right) (not-false _ live)
+          (accepted-order disk h stage input output bytes shape o (not-false _ live) (ltb-false _ _ fit)))))))
 
   -- ---- interrupts
 
@@ -134,16 +147,20 @@ module _ (disk : List ℕ) (h : Host) (stage : List ℕ) (shape : Declared h) (f
   -- ---- the running pair
 
   parent-right : areasRight h disk stage ≡ true → h .program .active ≡ true
-      → every (agree (rootOf z (settingBy kept h disk) stage (h .stageroots)) (rootOf z (settingBy worked h disk) stage (h .stageroots))) (parentSpots z (settingOf h disk) (h .program .progress)) ≡ true
+      → every (agree (rootOf z (settingBy kept h disk) stage (h .stageroots)) (rootOf z (settingBy worked h disk) stage (h .stageroots)))
+          (parentSpots z (settingOf h disk) (h .program .progress)) ≡ true
   unfolding settingBy withWay
   parent-right areas live =
       let s = settingOf h disk in
       let g = order-good h disk o live (shape .staged) in
       let solid = order-solid h disk stage o areas in
-      all-parent z (settingOf h disk) (h .program .progress) solid (g .orderly .staged) (few-sectors z (settingOf h disk) (h .program .progress) (solid .lent) g) (g .entries) (shape .places) _
-      (known-disk z (settingOf h disk) stage (h .stageroots) (sound-disk disk h stage fine)) (known-stage z (settingOf h disk) stage (h .stageroots) (h .program .progress .staged) (sound-stage disk h stage fine live))
+      all-parent z (settingOf h disk) (h .program .progress) solid (g .orderly .staged)
+          (few-sectors z (settingOf h disk) (h .program .progress) (solid .lent) g) (g .entries) (shape .places) _
+      (known-disk z (settingOf h disk) stage (h .stageroots) (sound-disk disk h stage fine))
+          (known-stage z (settingOf h disk) stage (h .stageroots) (h .program .progress .staged) (sound-stage disk h stage fine live))
 
-  pub pair-alike : areasRight h disk stage ≡ true → h .program .active ≡ true → runningPair z (settingBy kept h disk) (rootOf z (settingBy kept h disk) stage (h .stageroots)) (h .program .progress)
+  pub pair-alike : areasRight h disk stage ≡ true → h .program .active ≡ true → runningPair z (settingBy kept h disk)
+      (rootOf z (settingBy kept h disk) stage (h .stageroots)) (h .program .progress)
       ≡ runningPair z (settingBy worked h disk) (rootOf z (settingBy worked h disk) stage (h .stageroots)) (h .program .progress)
   unfolding runningPair parentSpots parent settingBy
   pair-alike areas live = ap (λ (r : List ℕ). pairing (h .program .progress .size) r) (root-agree _ _ _ (parent-right areas live))
@@ -151,7 +168,8 @@ module _ (disk : List ℕ) (h : Host) (stage : List ℕ) (shape : Declared h) (f
   starting-alike : startingPair z (settingBy kept h disk) ≡ startingPair z (settingBy worked h disk)
   unfolding startingPair pairOf parent settingBy withWay
   starting-alike = ap (λ (r : List ℕ). pairing (parent (settingOf h disk) .size) r)
-      (root-agree (rootOnDisk z (settingBy kept h disk)) (rootOnDisk z (settingBy worked h disk)) (committedSpots z (parent (settingOf h disk))) (all-start z (settingOf h disk) _ (known-disk z (settingOf h disk) [] [] (sound-disk disk h stage fine))))
+      (root-agree (rootOnDisk z (settingBy kept h disk)) (rootOnDisk z (settingBy worked h disk)) (committedSpots z (parent (settingOf h disk)))
+          (all-start z (settingOf h disk) _ (known-disk z (settingOf h disk) [] [] (sound-disk disk h stage fine))))
 
   pub reached-alike : reachedBy kept disk h stage ≡ reachedBy worked disk h stage
   unfolding reachedBy reachedPairBy
@@ -164,7 +182,8 @@ module _ (disk : List ℕ) (h : Host) (stage : List ℕ) (shape : Declared h) (f
   pub close-alike : (agrees : Bool) (size : ℕ) (root : List ℕ) → closeBy kept disk h stage agrees size root ≡ closeBy worked disk h stage agrees size root
   unfolding closeBy agreedBy
   close-alike agrees size root =
-      behind (not (inOrder h)) _ _ _ (λ _. behind (not (areasRight h disk stage)) _ _ _ (λ right. behind (not (h .program .active)) _ _ _ (λ live. behind _ _ _ _ (λ _. behind _ _ _ _ (λ _.
+      behind (not (inOrder h)) _ _ _ (λ _. behind (not (areasRight h disk stage)) _ _ _
+          (λ right. behind (not (h .program .active)) _ _ _ (λ live. behind _ _ _ _ (λ _. behind _ _ _ _ (λ _.
       ap₂ (λ (x y : Pair). pick (samePair x y) (givenUp 0 disk h) (pick (samePair (pairing size root) x) (commit disk h stage) (givenUp 14 disk h)))
       (pair-alike (not-false _ right) (not-false _ live)) starting-alike)))))
 
@@ -188,10 +207,12 @@ module _ (disk : List ℕ) (h : Host) (stage : List ℕ) (shape : Declared h) (f
       is-sound (commit disk h stage .disk) (commit disk h stage .host) stage (commit-order disk h stage shape o live)
       (commit-right disk h stage shape o areas live (parent-right areas live) (sound-disk disk h stage fine)) (λ u. never (sym u ∙ commit-idle))
 
-  pub close-sound : (agrees : Bool) (size : ℕ) (root : List ℕ) → sound (close disk h stage agrees size root .disk) (close disk h stage agrees size root .host) stage ≡ true
+  pub close-sound : (agrees : Bool) (size : ℕ) (root : List ℕ) → sound (close disk h stage agrees size root .disk)
+      (close disk h stage agrees size root .host) stage ≡ true
   unfolding closeBy agreedBy
   close-sound agrees size root =
-      close-refused _ 1 _ (λ _. close-refused _ 2 _ (λ right. close-refused _ 4 _ (λ live. either-way Ends _ (givenUp 0 disk h) _ (λ _. given-up-sound 0) (λ _. close-refused _ 13 _ (λ _.
+      close-refused _ 1 _ (λ _. close-refused _ 2 _
+          (λ right. close-refused _ 4 _ (λ live. either-way Ends _ (givenUp 0 disk h) _ (λ _. given-up-sound 0) (λ _. close-refused _ 13 _ (λ _.
       either-way Ends _ (givenUp 0 disk h) _ (λ _. given-up-sound 0) (λ _.
       either-way Ends _ (commit disk h stage) (givenUp 14 disk h) (λ _. commit-sound (not-false _ right) (not-false _ live)) (λ _. given-up-sound 14)))))))
 

@@ -52,20 +52,24 @@ args-full op l e = subst (λ (o : Op). length (argsOf o l .bytes) ≡ argsOf o l
 pub few-sectors : (z : ℕ) (s : Setting) (p : Progress) → Lent z s → Good z s p → p .size / z ≤ 64
 few-sectors z s p L g =
     let c : s .sectors * z ≤ 64 * z = mul-le-mul-right {m = s .sectors} {n = 64} z (L .most) in
-    le-of-mul-le-mul-right {m = p .size / z} {n = 64} {k = z} (omega (arith, whole-sectors z (p .size) (g .orderly .whole), g .orderly .within, c)) (Slots.some z (L .size))
+    le-of-mul-le-mul-right {m = p .size / z} {n = 64} {k = z} (omega (arith, whole-sectors z (p .size) (g .orderly .whole), g .orderly .within, c))
+        (Slots.some z (L .size))
 
 -- ---- a failure
 
-failure-alike : (z : ℕ) (s : Setting) (n : ℕ) → every (right z (s .disk) (s .roots)) (taken z (s .places)) ≡ true → failureBytes z (withWay kept s) n ≡ failureBytes z (withWay worked s) n
+failure-alike : (z : ℕ) (s : Setting) (n : ℕ) → every (right z (s .disk) (s .roots)) (taken z (s .places)) ≡ true → failureBytes z (withWay kept s) n
+    ≡ failureBytes z (withWay worked s) n
 unfolding failureBytes startingPair pairOf parent withWay
 failure-alike z s n h =
     ap (λ (r : List ℕ). recordBytes n 0 (record { size = parent s .size; root = r }) 0 [] 0 [])
     (root-agree (rootOnDisk z (withWay kept s)) (rootOnDisk z (withWay worked s)) (committedSpots z (parent s)) (all-start z s _ (known-disk z s [] [] h)))
 
-pub failing-alike : (z : ℕ) (s : Setting) (n : ℕ) (t : Turn) → every (right z (s .disk) (s .roots)) (taken z (s .places)) ≡ true → failing z (withWay kept s) n t ≡ failing z (withWay worked s) n t
+pub failing-alike : (z : ℕ) (s : Setting) (n : ℕ) (t : Turn) → every (right z (s .disk) (s .roots)) (taken z (s .places)) ≡ true
+    → failing z (withWay kept s) n t ≡ failing z (withWay worked s) n t
 unfolding failing
 failing-alike z s n t h =
-    ap (λ (b : List ℕ). record { progress = failedProgress (t .progress); stage = t .stage; output = put (t .output) (t .progress .written) b; roots = t .roots }) (failure-alike z s n h)
+    ap (λ (b : List ℕ). record { progress = failedProgress (t .progress); stage = t .stage; output = put (t .output) (t .progress .written) b;
+        roots = t .roots }) (failure-alike z s n h)
 
 -- ---- an instruction that runs
 
@@ -74,11 +78,13 @@ success-alike : (z : ℕ) (s : Setting) (f r : Spot → List ℕ) (p : Progress)
     → successBytes z (withWay kept s) f p asked from op a n size g ≡ successBytes z (withWay worked s) r p asked from op a n size g
 unfolding successBytes runningPair parentSpots parent withWay
 success-alike z s f r p asked from op a n size g u v =
-    ap₂ (λ (x y : List ℕ). recordBytes 0 n (record { size = withStaged (withRunning p size) (g .staged) .size; root = x }) (proofCount z asked from a) (pick asked y [])
+    ap₂ (λ (x y : List ℕ). recordBytes 0 n (record { size = withStaged (withRunning p size) (g .staged) .size; root = x }) (proofCount z asked from a)
+        (pick asked y [])
     (outputCount op a) (pick (eqb (outputCount op a) 0) [] (outputOf z (s .disk) (g .bytes) (spots from) a)))
     (root-agree f r _ u) (proof-agree z f r (s .disk) (g .bytes) (spots from) (a .first) (a .len) v)
 
-module _ (z : ℕ) (s : Setting) (t : Turn) (solid : Solid z (withWay kept s)) (good : Good z (withWay kept s) (t .progress)) (known : Known z (withWay kept s) t) where
+module _ (z : ℕ) (s : Setting) (t : Turn) (solid : Solid z (withWay kept s)) (good : Good z (withWay kept s) (t .progress))
+    (known : Known z (withWay kept s) t) where
   unfoldable after : Op → Args → Staging
   after op a = effect z (groundOf (withWay kept s)) (t .progress .size) op a (record { staged = t .progress .staged; bytes = t .stage })
 
@@ -96,18 +102,22 @@ module _ (z : ℕ) (s : Setting) (t : Turn) (solid : Solid z (withWay kept s)) (
       (good .entries) (known .shaped) _
       (known-disk z s (t .stage) (t .roots) disk-known) (known-stage z s (t .stage) (t .roots) (t .progress .staged) (known .stage))
 
-  source-same : (op : Op) (key : List ℕ) → sourceOf z (withWay kept s) (rootAt z (withWay kept s) t) (t .progress) op key ≡ sourceOf z (withWay worked s) (rootAt z (withWay worked s) t) (t .progress) op key
+  source-same : (op : Op) (key : List ℕ) → sourceOf z (withWay kept s) (rootAt z (withWay kept s) t) (t .progress) op key
+      ≡ sourceOf z (withWay worked s) (rootAt z (withWay worked s) t) (t .progress) op key
   source-same op key = source-alike z s _ _ (t .progress) op key now-agree
 
   -- what is read is read with roots that are right
   source-after : (op : Op) (a : Args) (r : Spot → List ℕ) (key : List ℕ)
-      → every (agree (rootOf z (withWay kept s) (after op a .bytes) (copies op a)) (rootOf z (withWay worked s) (after op a .bytes) (copies op a))) (spots (sourceOf z (withWay kept s) r (t .progress) op key)) ≡ true
+      → every (agree (rootOf z (withWay kept s) (after op a .bytes) (copies op a)) (rootOf z (withWay worked s) (after op a .bytes) (copies op a)))
+          (spots (sourceOf z (withWay kept s) r (t .progress) op key)) ≡ true
   unfolding after copies effect touched rehashed withWay spots sourceOf
   source-after Read a r key =
-      all-source z (withWay kept s) (t .progress) solid (good .orderly .staged) (few-sectors z (withWay kept s) (t .progress) (solid .lent) good) (good .entries) (known .shaped) _
+      all-source z (withWay kept s) (t .progress) solid (good .orderly .staged) (few-sectors z (withWay kept s) (t .progress) (solid .lent) good)
+          (good .entries) (known .shaped) _
       (known-disk z s (t .stage) (t .roots) disk-known) (known-stage z s (t .stage) (t .roots) (t .progress .staged) (known .stage)) r Read key
   source-after ReadSector a r key =
-      all-source z (withWay kept s) (t .progress) solid (good .orderly .staged) (few-sectors z (withWay kept s) (t .progress) (solid .lent) good) (good .entries) (known .shaped) _
+      all-source z (withWay kept s) (t .progress) solid (good .orderly .staged) (few-sectors z (withWay kept s) (t .progress) (solid .lent) good)
+          (good .entries) (known .shaped) _
       (known-disk z s (t .stage) (t .roots) disk-known) (known-stage z s (t .stage) (t .roots) (t .progress .staged) (known .stage)) r ReadSector key
   source-after Write a r key = every-none _
   source-after Copy a r key = every-none _
@@ -115,31 +125,38 @@ module _ (z : ℕ) (s : Setting) (t : Turn) (solid : Solid z (withWay kept s)) (
   source-after Truncate a r key = every-none _
   source-after Unknown a r key = every-none _
 
-  module _ (op : Op) (a : Args) (n : ℕ) {r : Spot → List ℕ} (passes : Passed z (withWay kept s) r (t .progress) op a n) (full : op ≡ Write → length (a .bytes) ≡ a .len)
+  module _ (op : Op) (a : Args) (n : ℕ) {r : Spot → List ℕ} (passes : Passed z (withWay kept s) r (t .progress) op a n)
+      (full : op ≡ Write → length (a .bytes) ≡ a .len)
       (run : going (s .terms) (t .progress) ≡ true) where
-    ran : Good z (withWay kept s) (ranProgress (t .progress) (cost (s .terms .head .length) (s .terms .prices) op (a .len)) n (newSize (t .progress .size) op a) (after op a .staged))
+    ran : Good z (withWay kept s) (ranProgress (t .progress) (cost (s .terms .head .length) (s .terms .prices) op (a .len)) n
+        (newSize (t .progress .size) op a) (after op a .staged))
     unfolding after withWay
-    ran = ran-good z (withWay kept s) (t .progress) op a n (t .stage) (solid .lent) (not-failed (withWay kept s) t run) (left-going (withWay kept s) t run .1) passes good
+    ran = ran-good z (withWay kept s) (t .progress) op a n (t .stage) (solid .lent) (not-failed (withWay kept s) t run)
+        (left-going (withWay kept s) t run .1) passes good
 
     few-new : newSize (t .progress .size) op a ≤ length (t .progress .staged) * z
-    few-new = le-trans (omega (arith, passes .fits)) (mul-le-mul-right {m = withWay kept s .sectors} {n = length (t .progress .staged)} z (omega (arith, solid .lent .most, good .entries)))
+    few-new = le-trans (omega (arith, passes .fits)) (mul-le-mul-right {m = withWay kept s .sectors} {n = length (t .progress .staged)} z
+        (omega (arith, solid .lent .most, good .entries)))
 
     wrote : Wrote z (touched z (t .progress .size) op a) (record { staged = t .progress .staged; bytes = t .stage }) (after op a)
     unfolding after
     wrote =
-        wrote-effect z (groundOf (withWay kept s)) (t .progress .size) (record { staged = t .progress .staged; bytes = t .stage }) (Slots.some z (solid .lent .size)) (good .orderly .whole)
+        wrote-effect z (groundOf (withWay kept s)) (t .progress .size) (record { staged = t .progress .staged; bytes = t .stage })
+            (Slots.some z (solid .lent .size)) (good .orderly .whole)
         (omega (arith, few-sectors z (withWay kept s) (t .progress) (solid .lent) good, good .entries)) _ op a (passes .spans) full few-new
 
     -- the roots beside the stage's slots are right again
     staged-right : stagedRight z (after op a .bytes) (copies op a) (after op a .staged) ≡ true
     unfolding copies ranProgress
-    staged-right = rehashed-right z _ (t .roots) _ (after op a) (withWay kept s .copies) _ _ wrote (solid .lent .few) (ran .orderly .staged) (known .kept) (known .stage)
+    staged-right = rehashed-right z _ (t .roots) _ (after op a) (withWay kept s .copies) _ _ wrote (solid .lent .few) (ran .orderly .staged)
+        (known .kept) (known .stage)
 
     parent-agree : every (agree (rootOf z (withWay kept s) (after op a .bytes) (copies op a)) (rootOf z (withWay worked s) (after op a .bytes) (copies op a)))
         (parentSpots z s (withStaged (withRunning (t .progress) (newSize (t .progress .size) op a)) (after op a .staged))) ≡ true
     unfolding parentSpots parent withWay withStaged withRunning ranProgress
     parent-agree =
-        all-parent z (withWay kept s) (ranProgress (t .progress) (cost (s .terms .head .length) (s .terms .prices) op (a .len)) n (newSize (t .progress .size) op a) (after op a .staged)) solid (ran .orderly .staged)
+        all-parent z (withWay kept s) (ranProgress (t .progress) (cost (s .terms .head .length) (s .terms .prices) op (a .len)) n
+            (newSize (t .progress .size) op a) (after op a .staged)) solid (ran .orderly .staged)
         (few-sectors z (withWay kept s) _ (solid .lent) ran) (ran .entries) (known .shaped) _ (known-disk z s (after op a .bytes) (copies op a) disk-known)
         (known-stage z s (after op a .bytes) (copies op a) (after op a .staged) staged-right)
 
@@ -147,15 +164,18 @@ module _ (z : ℕ) (s : Setting) (t : Turn) (solid : Solid z (withWay kept s)) (
     unfolding succeeding after copies parent withWay
     succeeding-alike asked =
         let made : Source → List ℕ → Turn = λ from b. record {
-          progress = ranProgress (t .progress) (cost (s .terms .head .length) (s .terms .prices) op (a .len)) (recordCount z asked from op a) (newSize (t .progress .size) op a) (after op a .staged);
+          progress = ranProgress (t .progress) (cost (s .terms .head .length) (s .terms .prices) op (a .len)) (recordCount z asked from op a)
+              (newSize (t .progress .size) op a) (after op a .staged);
           stage = after op a .bytes;
           output = put (t .output) (t .progress .written) b;
           roots = copies op a;
         } in
-        let bytes : Way → Source → List ℕ = λ way from. successBytes z (withWay way s) (rootOf z (withWay way s) (after op a .bytes) (copies op a)) (t .progress) asked from op a
+        let bytes : Way → Source → List ℕ = λ way from. successBytes z (withWay way s) (rootOf z (withWay way s) (after op a .bytes) (copies op a))
+            (t .progress) asked from op a
         (cost (s .terms .head .length) (s .terms .prices) op (a .len)) (newSize (t .progress .size) op a) (after op a) in
         let from : Source = sourceOf z (withWay kept s) (rootAt z (withWay kept s) t) (t .progress) op (a .key) in
-        ap (made from) (success-alike z s _ _ (t .progress) asked from op a _ _ (after op a) parent-agree (source-after op a (rootAt z (withWay kept s) t) (a .key)))
+        ap (made from) (success-alike z s _ _ (t .progress) asked from op a _ _ (after op a) parent-agree
+            (source-after op a (rootAt z (withWay kept s) t) (a .key)))
         ∙ ap (λ (x : Source). made x (bytes worked x)) (source-same op (a .key))
 
     known-ran : (asked : Bool) → Known z (withWay kept s) (succeeding z (withWay kept s) asked op a t)
@@ -167,16 +187,19 @@ module _ (z : ℕ) (s : Setting) (t : Turn) (solid : Solid z (withWay kept s)) (
   known-failing n = record { disk = known .disk; stage = known .stage; kept = known .kept; shaped = known .shaped }
 
   -- one instruction, whichever it is: the kept roots give what document 01 says
-  pub stepped-alike : (i : Instruction) (l : List (List ℕ)) → going (s .terms) (t .progress) ≡ true → stepped z (withWay kept s) i l t ≡ stepped z (withWay worked s) i l t
+  pub stepped-alike : (i : Instruction) (l : List (List ℕ)) → going (s .terms) (t .progress) ≡ true → stepped z (withWay kept s) i l t
+      ≡ stepped z (withWay worked s) i l t
   unfolding stepped
   stepped-alike i l run =
       let n = judged z (withWay kept s) (rootAt z (withWay kept s) t) (t .progress) i l in
       let m = judged z (withWay worked s) (rootAt z (withWay worked s) t) (t .progress) i l in
-      let e : judged z (withWay kept s) (rootAt z (withWay kept s) t) (t .progress) i l ≡ judged z (withWay worked s) (rootAt z (withWay worked s) t) (t .progress) i l =
+      let e : judged z (withWay kept s) (rootAt z (withWay kept s) t) (t .progress) i l
+          ≡ judged z (withWay worked s) (rootAt z (withWay worked s) t) (t .progress) i l =
       judged-alike z s _ _ (t .progress) i l now-agree in
       by (eqb (judged z (withWay kept s) (rootAt z (withWay kept s) t) (t .progress) i l) 0)
       (λ u. picks (eqb (judged z (withWay kept s) (rootAt z (withWay kept s) t) (t .progress) i l) 0) _ _ u
-      ∙ succeeding-alike (opOf (i .name)) (argsOf (opOf (i .name)) l) _ (passed z (withWay kept s) _ (t .progress) i l (eqb-true _ _ u)) (args-full (opOf (i .name)) l) run (i .proof)
+      ∙ succeeding-alike (opOf (i .name)) (argsOf (opOf (i .name)) l) _ (passed z (withWay kept s) _ (t .progress) i l (eqb-true _ _ u))
+          (args-full (opOf (i .name)) l) run (i .proof)
       ∙ sym (picks (eqb (judged z (withWay worked s) (rootAt z (withWay worked s) t) (t .progress) i l) 0) _ _ (ap (λ (x : ℕ). eqb x 0) (sym e) ∙ u)))
       (λ u. skips (eqb (judged z (withWay kept s) (rootAt z (withWay kept s) t) (t .progress) i l) 0) _ _ u
       ∙ failing-alike z s _ t disk-known
@@ -184,19 +207,26 @@ module _ (z : ℕ) (s : Setting) (t : Turn) (solid : Solid z (withWay kept s)) (
       ∙ sym (skips (eqb (judged z (withWay worked s) (rootAt z (withWay worked s) t) (t .progress) i l) 0) _ _ (ap (λ (x : ℕ). eqb x 0) (sym e) ∙ u)))
 
   -- and its record is document 01's
-  pub record-alike : (i : Instruction) (l : List (List ℕ)) → going (s .terms) (t .progress) ≡ true → recordOf z (withWay kept s) i l t ≡ recordOf z (withWay worked s) i l t
+  pub record-alike : (i : Instruction) (l : List (List ℕ)) → going (s .terms) (t .progress) ≡ true → recordOf z (withWay kept s) i l t
+      ≡ recordOf z (withWay worked s) i l t
   unfolding recordOf after copies parent withWay
   record-alike i l run =
       let op : Op = opOf (i .name) in
       let a : Args = argsOf (opOf (i .name)) l in
-      let e : judged z (withWay kept s) (rootAt z (withWay kept s) t) (t .progress) i l ≡ judged z (withWay worked s) (rootAt z (withWay worked s) t) (t .progress) i l =
+      let e : judged z (withWay kept s) (rootAt z (withWay kept s) t) (t .progress) i l
+          ≡ judged z (withWay worked s) (rootAt z (withWay worked s) t) (t .progress) i l =
       judged-alike z s _ _ (t .progress) i l now-agree in
-      let bytes : Way → Source → List ℕ = λ way from. successBytes z (withWay way s) (rootOf z (withWay way s) (after (opOf (i .name)) (argsOf (opOf (i .name)) l) .bytes) (copies (opOf (i .name)) (argsOf (opOf (i .name)) l))) (t .progress) (i .proof) from
-      (opOf (i .name)) (argsOf (opOf (i .name)) l) (cost (s .terms .head .length) (s .terms .prices) (opOf (i .name)) (argsOf (opOf (i .name)) l .len)) (newSize (t .progress .size) (opOf (i .name)) (argsOf (opOf (i .name)) l)) (after (opOf (i .name)) (argsOf (opOf (i .name)) l)) in
+      let bytes : Way → Source → List ℕ = λ way from. successBytes z (withWay way s)
+          (rootOf z (withWay way s) (after (opOf (i .name)) (argsOf (opOf (i .name)) l) .bytes) (copies (opOf (i .name)) (argsOf (opOf (i .name)) l)))
+          (t .progress) (i .proof) from
+      (opOf (i .name)) (argsOf (opOf (i .name)) l) (cost (s .terms .head .length) (s .terms .prices) (opOf (i .name))
+          (argsOf (opOf (i .name)) l .len)) (newSize (t .progress .size) (opOf (i .name)) (argsOf (opOf (i .name)) l))
+          (after (opOf (i .name)) (argsOf (opOf (i .name)) l)) in
       by (eqb (judged z (withWay kept s) (rootAt z (withWay kept s) t) (t .progress) i l) 0)
       (λ u. picks (eqb (judged z (withWay kept s) (rootAt z (withWay kept s) t) (t .progress) i l) 0) _ _ u
       ∙ success-alike z s _ _ (t .progress) (i .proof) _ (opOf (i .name)) (argsOf (opOf (i .name)) l) _ _ (after (opOf (i .name)) (argsOf (opOf (i .name)) l))
-      (parent-agree (opOf (i .name)) (argsOf (opOf (i .name)) l) _ (passed z (withWay kept s) _ (t .progress) i l (eqb-true _ _ u)) (args-full (opOf (i .name)) l) run)
+      (parent-agree (opOf (i .name)) (argsOf (opOf (i .name)) l) _ (passed z (withWay kept s) _ (t .progress) i l (eqb-true _ _ u))
+          (args-full (opOf (i .name)) l) run)
       (source-after (opOf (i .name)) (argsOf (opOf (i .name)) l) (rootAt z (withWay kept s) t) (argsOf (opOf (i .name)) l .key))
       ∙ ap (bytes worked) (source-same (opOf (i .name)) (argsOf (opOf (i .name)) l .key))
       ∙ sym (picks (eqb (judged z (withWay worked s) (rootAt z (withWay worked s) t) (t .progress) i l) 0) _ _ (ap (λ (x : ℕ). eqb x 0) (sym e) ∙ u)))
@@ -206,13 +236,17 @@ module _ (z : ℕ) (s : Setting) (t : Turn) (solid : Solid z (withWay kept s)) (
       ∙ sym (skips (eqb (judged z (withWay worked s) (rootAt z (withWay worked s) t) (t .progress) i l) 0) _ _ (ap (λ (x : ℕ). eqb x 0) (sym e) ∙ u)))
 
   -- and it leaves roots that are right
-  pub stepped-known : (i : Instruction) (l : List (List ℕ)) → going (s .terms) (t .progress) ≡ true → Known z (withWay kept s) (stepped z (withWay kept s) i l t)
+  pub stepped-known : (i : Instruction) (l : List (List ℕ)) → going (s .terms) (t .progress) ≡ true
+      → Known z (withWay kept s) (stepped z (withWay kept s) i l t)
   unfolding stepped
   stepped-known i l run =
       by (eqb (judged z (withWay kept s) (rootAt z (withWay kept s) t) (t .progress) i l) 0)
-      (λ u. subst (λ (x : Turn). Known z (withWay kept s) x) (sym (picks (eqb (judged z (withWay kept s) (rootAt z (withWay kept s) t) (t .progress) i l) 0) _ _ u))
-      (known-ran (opOf (i .name)) (argsOf (opOf (i .name)) l) _ (passed z (withWay kept s) _ (t .progress) i l (eqb-true _ _ u)) (args-full (opOf (i .name)) l) run (i .proof)))
-      (λ u. subst (λ (x : Turn). Known z (withWay kept s) x) (sym (skips (eqb (judged z (withWay kept s) (rootAt z (withWay kept s) t) (t .progress) i l) 0) _ _ u)) (known-failing _))
+      (λ u. subst (λ (x : Turn). Known z (withWay kept s) x)
+          (sym (picks (eqb (judged z (withWay kept s) (rootAt z (withWay kept s) t) (t .progress) i l) 0) _ _ u))
+      (known-ran (opOf (i .name)) (argsOf (opOf (i .name)) l) _ (passed z (withWay kept s) _ (t .progress) i l (eqb-true _ _ u))
+          (args-full (opOf (i .name)) l) run (i .proof)))
+      (λ u. subst (λ (x : Turn). Known z (withWay kept s) x)
+          (sym (skips (eqb (judged z (withWay kept s) (rootAt z (withWay kept s) t) (t .progress) i l) 0) _ _ u)) (known-failing _))
 
 -- ---- a run
 
@@ -221,19 +255,23 @@ module _ (z : ℕ) (s : Setting) (solid : Solid z (withWay kept s)) (a : List �
   unfolding ready current withWay
   ready-way way t = refl
 
-  step-alike : (t : Turn) → Good z (withWay kept s) (t .progress) → Known z (withWay kept s) t → going (s .terms) (t .progress) ≡ true → step z (withWay kept s) a t ≡ step z (withWay worked s) a t
+  step-alike : (t : Turn) → Good z (withWay kept s) (t .progress) → Known z (withWay kept s) t → going (s .terms) (t .progress) ≡ true
+      → step z (withWay kept s) a t ≡ step z (withWay worked s) a t
   unfolding step current withWay
   step-alike t g q h = stepped-alike z s t solid g q (current s t) (inputsOf (current s t) a) h
 
-  step-known : (t : Turn) → Good z (withWay kept s) (t .progress) → Known z (withWay kept s) t → going (s .terms) (t .progress) ≡ true → Known z (withWay kept s) (step z (withWay kept s) a t)
+  step-known : (t : Turn) → Good z (withWay kept s) (t .progress) → Known z (withWay kept s) t → going (s .terms) (t .progress) ≡ true
+      → Known z (withWay kept s) (step z (withWay kept s) a t)
   unfolding step
   step-known t g q h = stepped-known z s t solid g q _ _ h
 
-  step-good : (t : Turn) → Good z (withWay kept s) (t .progress) → going (s .terms) (t .progress) ≡ true → Good z (withWay kept s) (step z (withWay kept s) a t .progress)
+  step-good : (t : Turn) → Good z (withWay kept s) (t .progress) → going (s .terms) (t .progress) ≡ true
+      → Good z (withWay kept s) (step z (withWay kept s) a t .progress)
   unfolding step withWay
   step-good t g h = stepped-good z (withWay kept s) _ _ t (solid .lent) h g
 
-  pub runs-alike : (n : ℕ) (t : Turn) → Good z (withWay kept s) (t .progress) → Known z (withWay kept s) t → runs z (withWay kept s) a k n t ≡ runs z (withWay worked s) a k n t
+  pub runs-alike : (n : ℕ) (t : Turn) → Good z (withWay kept s) (t .progress) → Known z (withWay kept s) t → runs z (withWay kept s) a k n t
+      ≡ runs z (withWay worked s) a k n t
   unfolding runs
   runs-alike zero t g q = refl
   runs-alike (suc n) t g q =
@@ -245,25 +283,30 @@ module _ (z : ℕ) (s : Setting) (solid : Solid z (withWay kept s)) (a : List �
       ∙ sym (runs-go z (withWay worked s) a k n t (ready-way worked t ∙ r)))
       (λ r. runs-stop z (withWay kept s) a k (suc n) t (ready-way kept t ∙ r) ∙ sym (runs-stop z (withWay worked s) a k (suc n) t (ready-way worked t ∙ r)))
 
-  recorded-alike : (t : Turn) → Good z (withWay kept s) (t .progress) → Known z (withWay kept s) t → going (s .terms) (t .progress) ≡ true → recorded z (withWay kept s) a t ≡ recorded z (withWay worked s) a t
+  recorded-alike : (t : Turn) → Good z (withWay kept s) (t .progress) → Known z (withWay kept s) t → going (s .terms) (t .progress) ≡ true
+      → recorded z (withWay kept s) a t ≡ recorded z (withWay worked s) a t
   unfolding recorded current withWay
   recorded-alike t g q h = record-alike z s t solid g q (current s t) (inputsOf (current s t) a) h
 
-  pub trail-alike : (n : ℕ) (t : Turn) → Good z (withWay kept s) (t .progress) → Known z (withWay kept s) t → trail z (withWay kept s) a k n t ≡ trail z (withWay worked s) a k n t
+  pub trail-alike : (n : ℕ) (t : Turn) → Good z (withWay kept s) (t .progress) → Known z (withWay kept s) t → trail z (withWay kept s) a k n t
+      ≡ trail z (withWay worked s) a k n t
   trail-alike zero t g q = trail-zero z (withWay kept s) a k t ∙ sym (trail-zero z (withWay worked s) a k t)
   trail-alike (suc n) t g q =
       by (ready s k t)
       (λ r. let h = ready-going s k t r in
       trail-go z (withWay kept s) a k n t (ready-way kept t ∙ r)
-      ∙ ap₂ _∷_ (recorded-alike t g q h) (trail-alike n (step z (withWay kept s) a t) (step-good t g h) (step-known t g q h) ∙ ap (trail z (withWay worked s) a k n) (step-alike t g q h))
+      ∙ ap₂ _∷_ (recorded-alike t g q h) (trail-alike n (step z (withWay kept s) a t) (step-good t g h) (step-known t g q h)
+          ∙ ap (trail z (withWay worked s) a k n) (step-alike t g q h))
       ∙ sym (trail-go z (withWay worked s) a k n t (ready-way worked t ∙ r)))
       (λ r. trail-stop z (withWay kept s) a k (suc n) t (ready-way kept t ∙ r) ∙ sym (trail-stop z (withWay worked s) a k (suc n) t (ready-way worked t ∙ r)))
 
-  pub runs-known : (n : ℕ) (t : Turn) → Good z (withWay kept s) (t .progress) → Known z (withWay kept s) t → Known z (withWay kept s) (runs z (withWay kept s) a k n t)
+  pub runs-known : (n : ℕ) (t : Turn) → Good z (withWay kept s) (t .progress) → Known z (withWay kept s) t
+      → Known z (withWay kept s) (runs z (withWay kept s) a k n t)
   unfolding runs
   runs-known zero t g q = q
   runs-known (suc n) t g q =
       by (ready s k t)
       (λ r. let h = ready-going s k t r in
-      subst (λ (x : Turn). Known z (withWay kept s) x) (sym (runs-go z (withWay kept s) a k n t (ready-way kept t ∙ r))) (runs-known n (step z (withWay kept s) a t) (step-good t g h) (step-known t g q h)))
+      subst (λ (x : Turn). Known z (withWay kept s) x) (sym (runs-go z (withWay kept s) a k n t (ready-way kept t ∙ r)))
+          (runs-known n (step z (withWay kept s) a t) (step-good t g h) (step-known t g q h)))
       (λ r. subst (λ (x : Turn). Known z (withWay kept s) x) (sym (runs-stop z (withWay kept s) a k (suc n) t (ready-way kept t ∙ r))) q)

@@ -247,7 +247,8 @@ module _ (z : ℕ) (s : Setting) (t : Turn) (input : List ℕ) (i : Instruction)
 
     ranged : i .proof ≡ true → Ranged z (r .seen .count) (a .first) (a .len)
     unfolding op a
-    ranged h = range-ranged z (x .solid .lent .size) op a (r .seen .count) (span-right (asked-is h)) (asked-right z s (rootAt z s t) (t .progress) i (inputsOf i input) can h)
+    ranged h = range-ranged z (x .solid .lent .size) op a (r .seen .count) (span-right (asked-is h))
+        (asked-right z s (rootAt z s t) (t .progress) i (inputsOf i input) can h)
 
     -- the roots that the record is made with
     abbrev reader : Spot → List ℕ

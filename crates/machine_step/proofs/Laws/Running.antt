@@ -1,4 +1,5 @@
--- An instruction that can run, from what its functions left: x is the stage after its effect, roots those kept beside its slots, g the progress, out the output area, z the
+-- An instruction that can run, from what its functions left: x is the stage after its effect, roots those kept beside its slots, g the progress, out
+-- the output area, z the
 -- sector size. Assumes nothing.
 use mathlib.Core.Path.{_≡_, sym, ap, ap₂, _∙_, subst}
 use mathlib.Core.Bool.{Bool}

@@ -8,4 +8,5 @@ unfolding going
 returns c = c .goes-on .ensures
 
 pub going-spec : {M : Type 1} → statement M
-going-spec = tie.close (tie.spec (λ c κs. tt) returns)
+going-spec =
+    tie.close (tie.spec (λ c κs. tt) returns)

@@ -19,16 +19,9 @@ sub-result-2 c =
     let f = sfits-toZ (fits-ofZ (c .before .fits .n)) in
     rw (counted _ f (c .if1 .taken)) (omega (arith, f .sfits))
 
-returns : tie.Need-returns
-returns c = search needs
-
 cast-result-2 : tie.Need-cast-result-2
 cast-result-2 c = kept _ (sfits-toZ (fits-ofZ (c .before .fits .n))) (c .if1 .left)
 
-returns-2 : tie.Need-returns-2
-returns-2 c = search needs
-
 pub complement-spec : {M : Type 1} → statement M
 complement-spec =
-    tie.close
-    (tie.spec sub-result cast-result sub-result-2 returns cast-result-2 returns-2)
+    tie.close (tie.spec sub-result cast-result sub-result-2 (λ c. search needs) cast-result-2 (λ c. search needs))

@@ -31,16 +31,5 @@ loop-again c =
 
 pub records-spec : {M : Type 1} → statement M
 records-spec =
-    tie.close
-    (tie.spec
-    Inv-loop
-    μ-loop
-    (λ c. search needs)
-    (λ c κs. search needs)
-    (λ c κs. search needs)
-    (λ c. search needs)
-    record-requires
-    add-place
-    loop-less
-    loop-again
-    (λ c. search needs))
+    tie.close (tie.spec Inv-loop μ-loop (λ c. search needs) (λ c κs. search needs) (λ c κs. search needs) (λ c. search needs)
+        record-requires add-place loop-less loop-again (λ c. search needs))

@@ -97,7 +97,8 @@ operand-back bs h o rest e =
 -- ---- lists
 
 module _ {A : Type 0} (one : List ℕ → Reading A) (f : A → List ℕ) (back : Back one f) where
-  pub several-back : (n : ℕ) (bs : List ℕ) → Bytes bs → (xs : List A) (rest : List ℕ) → several one n bs ≡ value xs rest → (bs ≡ joined f xs ++ rest) × (length xs ≡ n)
+  pub several-back : (n : ℕ) (bs : List ℕ) → Bytes bs → (xs : List A) (rest : List ℕ) → several one n bs ≡ value xs rest → (bs ≡ joined f xs ++ rest)
+      × (length xs ≡ n)
   unfolding several joined
   several-back zero bs h xs rest e = let q = same-value e in ((λ i. joined f (q .0 i) ++ q .1 i), ap length (sym (q .0)))
   several-back (suc n) bs h xs rest e =

@@ -54,7 +54,8 @@ module _ {A : Type 0} (one : List ℕ → Reading A) (room : ℕ) (none : A) (n 
         ∙ ap (λ (l : List A). getD l 0 d) (e .empty)
         ∙ getD-replicate (room - i) 0 none d (omega arith)
 
-    next-one : i < n → several one (n - i) (drop place bs) ≡ after (one (drop place bs)) (λ x rest. after (several one (n - (i + 1)) rest) (λ xs end. value (x ∷ xs) end))
+    next-one : i < n → several one (n - i) (drop place bs) ≡ after (one (drop place bs))
+        (λ x rest. after (several one (n - (i + 1)) rest) (λ xs end. value (x ∷ xs) end))
     unfolding several
     next-one h = let k : n - i ≡ suc (n - (i + 1)) = omega arith in rw k
 
@@ -77,12 +78,15 @@ module _ {A : Type 0} (one : List ℕ → Reading A) (room : ℕ) (none : A) (n 
           shorter : i < room → drop 1 (replicate (room - i) none) ≡ replicate (room - (i + 1)) none
           shorter g = let s : room - i ≡ suc (room - (i + 1)) = omega arith in rw s
 
-    pub stop : {number next : ℕ} {x : A} → i < n → Reads (one (drop place bs)) bs number next x → (number ≡ 0 → ⊥) → Reads (entries one room none n (drop at bs)) bs number place list
+    pub stop : {number next : ℕ} {x : A} → i < n → Reads (one (drop place bs)) bs number next x → (number ≡ 0 → ⊥)
+        → Reads (entries one room none n (drop at bs)) bs number place list
     unfolding entries onto
     stop {number} {next} {x} h r f =
         let here = stops (λ x rest. after (several one (n - (i + 1)) rest) (λ xs end. value (x ∷ xs) end)) [] [] r f ∙ sym (next-one h) in
-        let whole : reading number [] [] ≡ several one n (drop at bs) = carries (λ xs end. value (take i list ++ xs) end) number [] [] [] [] f ∙ ap (onto (take i list)) here ∙ sym (e .ends) in
-        record { stays = e .stays; says = carries _ number [] [] list (drop place bs) f ∙ ap (λ (s : Reading (List A)). after s (λ xs rest. value (filled room none xs) rest)) whole }
+        let whole : reading number [] [] ≡ several one n (drop at bs) = carries (λ xs end. value (take i list ++ xs) end) number [] [] [] [] f
+            ∙ ap (onto (take i list)) here ∙ sym (e .ends) in
+        record { stays = e .stays; says = carries _ number [] [] list (drop place bs) f
+            ∙ ap (λ (s : Reading (List A)). after s (λ xs rest. value (filled room none xs) rest)) whole }
 
     pub done : n ≤ i → n ≤ room → Reads (entries one room none n (drop at bs)) bs 0 place list
     unfolding entries onto several after filled
@@ -90,7 +94,8 @@ module _ {A : Type 0} (one : List ℕ → Reading A) (room : ℕ) (none : A) (n 
         let z : n - i ≡ 0 = omega arith in
         let l : length (take i list) ≡ i = length-take-le i list (omega (arith, e .long, e .within)) in
         let whole : several one n (drop at bs) ≡ value (take i list) (drop place bs) =
-        e .ends ∙ ap (λ (m : ℕ). onto (take i list) (several one m (drop place bs))) z ∙ ap (λ (xs : List A). value xs (drop place bs)) (append-nil (take i list)) in
+        e .ends ∙ ap (λ (m : ℕ). onto (take i list) (several one m (drop place bs))) z
+            ∙ ap (λ (xs : List A). value xs (drop place bs)) (append-nil (take i list)) in
         let full : list ≡ take i list ++ replicate (room - length (take i list)) none =
         sym (take-append-drop i list) ∙ ap (λ (xs : List A). take i list ++ xs) (e .empty ∙ ap (λ (m : ℕ). replicate (room - m) none) (sym l)) in
         record {

@@ -7,13 +7,15 @@ use native.Mathlib.Omega.{arith}
 use Rattle.area.specs.Pick.{pick}
 use Rattle.sia.specs.declared.Head.{Head}
 use Rattle.sia.specs.declared.Told.{Told}
-use Rattle.sia.specs.Decode.{Reading, value, fault, after, bytes, number, limited, flag, several, entries, operand, instruction, head, decode, answer, told}
+use Rattle.sia.specs.Decode.{Reading, value, fault, after, bytes, number, limited, flag, several, entries, operand, instruction, head}
+use Rattle.sia.specs.Decode.{decode, answer, told}
 
 unfoldable Honest : {A : Type 0} → Reading A → Type 0
 Honest (value x rest) = Unit
 Honest (fault n) = n ≡ 0 → ⊥
 
-after-honest : {A B : Type 0} (next : A → List ℕ → Reading B) (r : Reading A) → Honest r → ((x : A) (rest : List ℕ) → Honest (next x rest)) → Honest (after r next)
+after-honest : {A B : Type 0} (next : A → List ℕ → Reading B) (r : Reading A) → Honest r → ((x : A) (rest : List ℕ) → Honest (next x rest))
+    → Honest (after r next)
 unfolding after Honest
 after-honest next (value x rest) h k = k x rest
 after-honest next (fault n) h k = h

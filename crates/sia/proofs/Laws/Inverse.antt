@@ -35,7 +35,8 @@ pub as-read : {A : Type 0} (P : A → Type 0) (x : A) (end : List ℕ) {y : A} {
 as-read P x end e h = subst P (same-value e .0) h
 
 -- and so do the bytes that it stands for, in front of the rest
-pub in-front : {A : Type 0} (f : A → List ℕ) (x : A) (end : List ℕ) {bs : List ℕ} {y : A} {rest : List ℕ} → value x end ≡ value y rest → bs ≡ f x ++ end → bs ≡ f y ++ rest
+pub in-front : {A : Type 0} (f : A → List ℕ) (x : A) (end : List ℕ) {bs : List ℕ} {y : A} {rest : List ℕ} → value x end ≡ value y rest → bs
+    ≡ f x ++ end → bs ≡ f y ++ rest
 in-front f x end e p = let q = same-value e in p ∙ (λ i. f (q .0 i) ++ q .1 i)
 
 -- a count that was read is within its limit

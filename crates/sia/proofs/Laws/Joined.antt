@@ -71,7 +71,8 @@ pub lay-same : {e ys : List ℕ} (a : List ℕ) (at : ℕ) (xs : List ℕ) → e
 lay-same a at xs p q = p ∙ ap (put a at) q
 
 -- two pieces, and four, each laid behind the one before
-pub lay-two : {a₁ a₂ : List ℕ} {m : ℕ} (a : List ℕ) (at : ℕ) (w x : List ℕ) (k : ℕ) → a₁ ≡ put a at w → a₂ ≡ put a₁ k x → length w ≡ m → k ≡ at + m → a₂ ≡ put a at (w ++ x)
+pub lay-two : {a₁ a₂ : List ℕ} {m : ℕ} (a : List ℕ) (at : ℕ) (w x : List ℕ) (k : ℕ) → a₁ ≡ put a at w → a₂ ≡ put a₁ k x → length w ≡ m → k ≡ at + m
+    → a₂ ≡ put a at (w ++ x)
 lay-two a at w x k p q l e = q ∙ ap (λ (b : List ℕ). put b k x) p ∙ put-append a at w x k (e ∙ ap (λ (n : ℕ). at + n) (sym l))
 
 pub lay-four : {a₁ a₂ a₃ a₄ : List ℕ} {m n o : ℕ} (a : List ℕ) (at : ℕ) (w x y z : List ℕ) (k₂ k₃ k₄ : ℕ)
@@ -99,11 +100,13 @@ pub length-instruction : (x : Instruction) → length (x .name) ≡ 16 → lengt
 unfolding instructionBytes
 length-instruction x e f h =
     omega
-    (arith, length-four (x .name) (le8 (x .count)) (joined operandBytes (operandsIn x)) (flagByte (x .proof) ∷ []), length-bytes 8 (x .count), length-operands (operandsIn x), length-take-le (x .count) (x .operands) (omega arith))
+    (arith, length-four (x .name) (le8 (x .count)) (joined operandBytes (operandsIn x)) (flagByte (x .proof) ∷ []), length-bytes 8 (x .count),
+        length-operands (operandsIn x), length-take-le (x .count) (x .operands) (omega arith))
 
 -- the rest of a head
 pub length-head : (h : Head) → length (h .contract) ≡ 32 → length (encode h) ≡ 48 + length (joined instructionBytes (instructionsIn h))
 unfolding encode
 length-head h e =
     omega
-    (arith, length-four (h .contract) (le8 (h .count)) (joined instructionBytes (instructionsIn h)) (le8 (h .length)), length-bytes 8 (h .count), length-bytes 8 (h .length))
+    (arith, length-four (h .contract) (le8 (h .count)) (joined instructionBytes (instructionsIn h)) (le8 (h .length)), length-bytes 8 (h .count),
+        length-bytes 8 (h .length))

@@ -22,7 +22,8 @@ use Rattle.sia.proofs.Laws.Joined.{append-four}
 use Rattle.sia.proofs.Laws.Limits.{Within}
 
 -- the section behind one that is read
-follow : {A B : Type 0} (next : A → List ℕ → Reading B) {r : Reading A} {x : A} {rest : List ℕ} {s : Reading B} → r ≡ value x rest → next x rest ≡ s → after r next ≡ s
+follow : {A B : Type 0} (next : A → List ℕ → Reading B) {r : Reading A} {x : A} {rest : List ℕ} {s : Reading B} → r ≡ value x rest → next x rest ≡ s
+    → after r next ≡ s
 unfolding after
 follow next e q = ap (λ (t : Reading _). after t next) e ∙ q
 
@@ -91,9 +92,11 @@ instruction-there x h rest =
     ap instruction (append-four (x .name) (le8 (x .count)) (joined operandBytes (operandsIn x)) (flagByte (x .proof) ∷ []) rest)
     ∙ follow _ (bytes-there 16 (x .name) _ (h .0 .name))
     (follow _ (limited-there 4 (x .count) _ (omega arith) (h .1))
-    (follow _ (entries-there operand operandBytes (λ o. o) ProperOperand operand-there 4 noOperand (x .count) (operandsIn x) long (each-take ProperOperand (x .operands) (x .count) (h .0 .each)) _)
+    (follow _ (entries-there operand operandBytes (λ o. o) ProperOperand operand-there 4 noOperand (x .count) (operandsIn x) long
+        (each-take ProperOperand (x .operands) (x .count) (h .0 .each)) _)
     (follow _ (flag-there (x .proof) rest)
-    (ap (λ (os : List Operand). value (record { name = x .name; count = x .count; operands = filled 4 noOperand os; proof = x .proof }) rest) (map-same (operandsIn x))))))
+    (ap (λ (os : List Operand). value (record { name = x .name; count = x .count; operands = filled 4 noOperand os; proof = x .proof }) rest)
+        (map-same (operandsIn x))))))
 
 all-fit : (xs : List Instruction) → Each ProperInstruction xs → every fewOperands xs ≡ true → Each Fit xs
 unfolding Each every

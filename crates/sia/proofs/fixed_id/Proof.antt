@@ -9,4 +9,5 @@ returns : tie.Need-returns
 returns c = sym (same-eq _ _ (sym (c .before .is-read-only .ensures) ∙ c .if1 .taken))
 
 pub fixed-id-spec : {M : Type 1} → statement M
-fixed-id-spec = tie.close (tie.spec (λ c κs. search needs) returns (λ c. search needs))
+fixed-id-spec =
+    tie.close (tie.spec (λ c κs. search needs) returns (λ c. search needs))

@@ -25,4 +25,5 @@ returns-2 c =
     c .name .ensures ∙ sym (name-of-op _ _ (known _ (c .before .match .keys2)) (sym (asked .op-of .ensures)))
 
 pub fixed-name-spec : {M : Type 1} → statement M
-fixed-name-spec = tie.close (tie.spec (λ c κs. search needs) (λ c. search needs) (λ c. search needs) (λ c κs. search needs) returns-2)
+fixed-name-spec =
+    tie.close (tie.spec (λ c κs. search needs) (λ c. search needs) (λ c. search needs) (λ c κs. search needs) returns-2)

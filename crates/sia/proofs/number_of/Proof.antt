@@ -13,9 +13,6 @@ returns : tie.Need-returns
 unfolding number
 returns c = no _ _ _ (ne-eqb _ _ (c .if1 .taken)) refl
 
-load-requires : tie.Need-load-requires
-load-requires c κs = search needs
-
 returns-2 : tie.Need-returns-2
 unfolding number
 returns-2 c =
@@ -23,4 +20,5 @@ returns-2 c =
     yes _ _ _ (eq-eqb _ _ eight) (ap (decoded 0) (c .load .ensures ∙ ap valueOf (part-whole _ 8 (sym eight))))
 
 pub number-of-spec : {M : Type 1} → statement M
-number-of-spec = tie.close (tie.spec returns load-requires returns-2)
+number-of-spec =
+    tie.close (tie.spec returns (λ c κs. search needs) returns-2)

@@ -51,16 +51,10 @@ not-6 c = sym (c .before .is6 .ensures) ∙ c .if6 .left
 
 -- ---- the answers
 
-is-requires : tie.Need-is-requires
-is-requires c κs = search needs
-
 returns : tie.Need-returns
 unfolding opOf
 returns c =
     yes _ _ _ (sym (c .before .is .ensures) ∙ c .if1 .taken) refl
-
-is-requires-2 : tie.Need-is-requires-2
-is-requires-2 c κs = search needs
 
 returns-2 : tie.Need-returns-2
 unfolding opOf
@@ -68,9 +62,6 @@ returns-2 c =
     let one = c .before .before in
     no _ _ _ (not-1 one)
     (yes _ _ _ (sym (c .before .is2 .ensures) ∙ c .if2 .taken) refl)
-
-is-requires-3 : tie.Need-is-requires-3
-is-requires-3 c κs = search needs
 
 returns-3 : tie.Need-returns-3
 unfolding opOf
@@ -80,9 +71,6 @@ returns-3 c =
     no _ _ _ (not-1 one)
     (no _ _ _ (not-2 two)
     (yes _ _ _ (sym (c .before .is3 .ensures) ∙ c .if3 .taken) refl))
-
-is-requires-4 : tie.Need-is-requires-4
-is-requires-4 c κs = search needs
 
 returns-4 : tie.Need-returns-4
 unfolding opOf
@@ -94,9 +82,6 @@ returns-4 c =
     (no _ _ _ (not-2 two)
     (no _ _ _ (not-3 three)
     (yes _ _ _ (sym (c .before .is4 .ensures) ∙ c .if4 .taken) refl)))
-
-is-requires-5 : tie.Need-is-requires-5
-is-requires-5 c κs = search needs
 
 returns-5 : tie.Need-returns-5
 unfolding opOf
@@ -110,9 +95,6 @@ returns-5 c =
     (no _ _ _ (not-3 three)
     (no _ _ _ (not-4 four)
     (yes _ _ _ (sym (c .before .is5 .ensures) ∙ c .if5 .taken) refl))))
-
-is-requires-6 : tie.Need-is-requires-6
-is-requires-6 c κs = search needs
 
 returns-6 : tie.Need-returns-6
 unfolding opOf
@@ -147,18 +129,5 @@ returns-7 c =
 
 pub op-of-spec : {M : Type 1} → statement M
 op-of-spec =
-    tie.close
-    (tie.spec
-    is-requires
-    returns
-    is-requires-2
-    returns-2
-    is-requires-3
-    returns-3
-    is-requires-4
-    returns-4
-    is-requires-5
-    returns-5
-    is-requires-6
-    returns-6
-    returns-7)
+    tie.close (tie.spec (λ c κs. search needs) returns (λ c κs. search needs) returns-2 (λ c κs. search needs) returns-3
+        (λ c κs. search needs) returns-4 (λ c κs. search needs) returns-5 (λ c κs. search needs) returns-6 returns-7)

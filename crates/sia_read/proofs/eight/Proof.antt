@@ -10,20 +10,11 @@ use borrow.Author.Needs.{needs}
 use Rattle.sia_read.proofs.eight.Statement.{statement}
 use Rattle.sia_read.proofs.eight.Tie as tie
 
-sub-if1 : tie.Need-sub-if1
-sub-if1 c = search needs
-
 returns : tie.Need-returns
 unfolding number
 returns c =
     let a = c .before .before .args in
     record { stays = omega arith; says = short _ (a .bytes .now) (a .at) 8 _ _ (c .if1 .taken) }
-
-add-t3 : tie.Need-add-t3
-add-t3 c = search needs
-
-load-requires : tie.Need-load-requires
-load-requires c κs = search needs
 
 returns-2 : tie.Need-returns-2
 unfolding number reading pick
@@ -37,4 +28,5 @@ returns-2 c =
     }
 
 pub eight-spec : {M : Type 1} → statement M
-eight-spec = tie.close (tie.spec sub-if1 returns add-t3 load-requires returns-2)
+eight-spec =
+    tie.close (tie.spec (λ c. search needs) returns (λ c. search needs) (λ c κs. search needs) returns-2)

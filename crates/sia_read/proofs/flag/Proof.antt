@@ -16,17 +16,11 @@ use borrow.Author.Needs.{needs}
 use Rattle.sia_read.proofs.flag.Statement.{statement}
 use Rattle.sia_read.proofs.flag.Tie as tie
 
-sub-if1 : tie.Need-sub-if1
-sub-if1 c = search needs
-
 returns : tie.Need-returns
 unfolding flag
 returns c =
     let a = c .before .args in
     record { stays = search needs; says = short _ (a .bytes .now) (a .at) 1 _ _ (c .if1 .taken) }
-
-shared-slice-read-byte : tie.Need-shared-slice-read-byte
-shared-slice-read-byte c = search needs
 
 returns-2 : tie.Need-returns-2
 unfolding flag reading pick
@@ -37,9 +31,6 @@ returns-2 c =
       stays = search needs;
       says = long _ (a .bytes .now) (a .at) 1 (c .before .before .if1 .left) (yes _ _ _ (lt-ltb _ _ above) refl);
     }
-
-add-t4 : tie.Need-add-t4
-add-t4 c = search needs
 
 returns-3 : tie.Need-returns-3
 unfolding flag reading pick
@@ -55,4 +46,5 @@ returns-3 c =
     }
 
 pub flag-spec : {M : Type 1} → statement M
-flag-spec = tie.close (tie.spec sub-if1 returns shared-slice-read-byte returns-2 add-t4 returns-3)
+flag-spec =
+    tie.close (tie.spec (λ c. search needs) returns (λ c. search needs) returns-2 (λ c. search needs) returns-3)

@@ -37,21 +37,9 @@ identified c next q = long next (start c .args .bytes .now) 0 32 (omega (arith, 
 
 -- ---- the answers
 
-empty-requires : tie.Need-empty-requires
-empty-requires c κs = search needs
-
 returns : tie.Need-returns
 unfolding head
 returns c = record { stays = search needs; says = short _ (c .before .before .before .args .bytes .now) 0 32 _ _ (omega arith) }
-
-slice-aggregate-copy-between : tie.Need-slice-aggregate-copy-between
-slice-aggregate-copy-between c = search needs
-
-copy-between-requires : tie.Need-copy-between-requires
-copy-between-requires c κs = search needs
-
-limited-requires : tie.Need-limited-requires
-limited-requires c κs = search needs
 
 returns-2 : tie.Need-returns-2
 unfolding head
@@ -76,9 +64,6 @@ returns-3 c =
           (goes _ (count .limited .ensures) (list .before .if2 .left)
           (stops _ _ _ (list .instructions .ensures) (c .if3 .taken)));
     }
-
-limited-requires-2 : tie.Need-limited-requires-2
-limited-requires-2 c κs = search needs
 
 returns-4 : tie.Need-returns-4
 unfolding head
@@ -109,22 +94,11 @@ returns-5 c =
           (goes _ (count .limited .ensures) (list .before .if2 .left)
           (goes _ (list .instructions .ensures) (declared .before .if3 .left)
           (goes _ (declared .limited2 .ensures) (c .before .if4 .left)
-          (ap (λ (bs : List ℕ). value (record { contract = bs; count = count .limited .result .value; instructions = list .instructions .result .list; length = declared .limited2 .result .value }) (drop (declared .limited2 .result .next) bytes)) id))));
+          (ap (λ (bs : List ℕ). value (record { contract = bs; count = count .limited .result .value; instructions = list .instructions .result .list;
+              length = declared .limited2 .result .value }) (drop (declared .limited2 .result .next) bytes)) id))));
     }
 
 pub head-spec : {M : Type 1} → statement M
 head-spec =
-    tie.close
-    (tie.spec
-    empty-requires
-    returns
-    slice-aggregate-copy-between
-    copy-between-requires
-    (λ c κs. search needs)
-    limited-requires
-    returns-2
-    instructions-requires
-    returns-3
-    limited-requires-2
-    returns-4
-    returns-5)
+    tie.close (tie.spec (λ c κs. search needs) returns (λ c. search needs) (λ c κs. search needs) (λ c κs. search needs)
+        (λ c κs. search needs) returns-2 instructions-requires returns-3 (λ c κs. search needs) returns-4 returns-5)

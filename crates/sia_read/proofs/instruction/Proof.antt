@@ -37,28 +37,16 @@ named c next q = long next (start c .args .bytes .now) (start c .args .at) 16 (t
 
 -- ---- the answers
 
-sub-if1 : tie.Need-sub-if1
-sub-if1 c = search needs
-
 returns : tie.Need-returns
 unfolding instruction
 returns c =
     let a = c .before .before .args in
     record { stays = search needs; says = short _ (a .bytes .now) (a .at) 16 _ _ (c .if1 .taken) }
 
-slice-aggregate-copy-between : tie.Need-slice-aggregate-copy-between
-slice-aggregate-copy-between c = search needs
-
 copy-between-requires : tie.Need-copy-between-requires
 copy-between-requires c κs =
     let named = ap (λ (x : Instruction). length (x .name)) (c .before .before .before .before .pre .1) in
     (omega arith, omega arith)
-
-add-limited : tie.Need-add-limited
-add-limited c = search needs
-
-limited-requires : tie.Need-limited-requires
-limited-requires c κs = search needs
 
 returns-2 : tie.Need-returns-2
 unfolding instruction
@@ -84,9 +72,6 @@ returns-3 c =
           (goes _ (count .limited .ensures) (list .before .before .if2 .left)
           (stops _ _ _ (list .operands .ensures) (c .if3 .taken)));
     }
-
-flag-requires : tie.Need-flag-requires
-flag-requires c κs = search needs
 
 returns-4 : tie.Need-returns-4
 unfolding instruction
@@ -121,23 +106,11 @@ returns-5 c =
           (goes _ (count .limited .ensures) (list .before .before .if2 .left)
           (goes _ (list .operands .ensures) (proof .before .if3 .left)
           (goes _ (proof .flag .ensures) (c .before .if4 .left)
-          (ap (λ (bs : List ℕ). value (record { name = bs; count = count .limited .result .value; operands = list .operands .result .list; proof = proof .flag .result .value }) (drop (proof .flag .result .next) bytes)) name))));
+          (ap (λ (bs : List ℕ). value (record { name = bs; count = count .limited .result .value; operands = list .operands .result .list;
+              proof = proof .flag .result .value }) (drop (proof .flag .result .next) bytes)) name))));
     }
 
 pub instruction-spec : {M : Type 1} → statement M
 instruction-spec =
-    tie.close
-    (tie.spec
-    sub-if1
-    returns
-    slice-aggregate-copy-between
-    copy-between-requires
-    (λ c κs. search needs)
-    add-limited
-    limited-requires
-    returns-2
-    operands-requires
-    returns-3
-    flag-requires
-    returns-4
-    returns-5)
+    tie.close (tie.spec (λ c. search needs) returns (λ c. search needs) copy-between-requires (λ c κs. search needs) (λ c. search needs)
+        (λ c κs. search needs) returns-2 operands-requires returns-3 (λ c κs. search needs) returns-4 returns-5)

@@ -18,17 +18,8 @@ Inv-loop bytes at n list₀ place₀ i₀ list place i = Entered instruction 32 
 abbrev μ-loop : tie.MeasureT-loop
 μ-loop bytes at n list₀ place₀ i₀ list place i = n - i
 
-empty-requires : tie.Need-empty-requires Inv-loop μ-loop
-empty-requires c κs = search needs
-
 loop-holds : tie.Need-loop-holds Inv-loop μ-loop
 loop-holds c = begin _ _ _ _ _ _ (c .before .before .pre .0) (ap (λ (none : Instruction). replicate 32 none) (c .empty .ensures))
-
-mul-entry : tie.Need-mul-entry Inv-loop μ-loop
-mul-entry c = search needs
-
-array-copy-out-entry : tie.Need-array-copy-out-entry Inv-loop μ-loop
-array-copy-out-entry c = omega arith
 
 instruction-requires : tie.Need-instruction-requires Inv-loop μ-loop
 instruction-requires c κs = (c .before .before .loop .inv .stays, fresh _ _ _ _ _ _ (c .before .before .loop .inv) _ (omega arith))
@@ -38,42 +29,17 @@ returns c =
     let l = c .before .before .before .before .before .loop in
     stop _ _ _ _ _ _ (l .inv) (c .before .before .before .before .loop-test .taken) (c .before .before .instruction .ensures) (c .if1 .taken)
 
-mul-list : tie.Need-mul-list Inv-loop μ-loop
-mul-list c = search needs
-
-array-set-from-list : tie.Need-array-set-from-list Inv-loop μ-loop
-array-set-from-list c = omega arith
-
-add-i : tie.Need-add-i Inv-loop μ-loop
-add-i c = search needs
-
-loop-less : tie.Need-loop-less Inv-loop μ-loop
-loop-less c = omega arith
-
 loop-again : tie.Need-loop-again Inv-loop μ-loop
 loop-again c =
     let l = c .before .before .before .before .before .before .loop in
     let a = c .before .before .before .before .before .before .before .before .before in
-    further _ _ _ _ _ _ (l .inv) (c .before .before .before .before .before .loop-test .taken) (a .pre .1) (c .before .before .before .instruction .ensures) (c .before .if1 .left)
+    further _ _ _ _ _ _ (l .inv) (c .before .before .before .before .before .loop-test .taken) (a .pre .1)
+        (c .before .before .before .instruction .ensures) (c .before .if1 .left)
 
 returns-2 : tie.Need-returns-2 Inv-loop μ-loop
 returns-2 c = done _ _ _ _ _ _ (c .before .loop .inv) (c .loop-test .left) (c .before .before .before .before .pre .1)
 
 pub instructions-spec : {M : Type 1} → statement M
 instructions-spec =
-    tie.close
-    (tie.spec
-    Inv-loop
-    μ-loop
-    empty-requires
-    loop-holds
-    mul-entry
-    array-copy-out-entry
-    instruction-requires
-    returns
-    mul-list
-    array-set-from-list
-    add-i
-    loop-less
-    loop-again
-    returns-2)
+    tie.close (tie.spec Inv-loop μ-loop (λ c κs. search needs) loop-holds (λ c. search needs) (λ c. omega arith) instruction-requires
+        returns (λ c. search needs) (λ c. omega arith) (λ c. search needs) (λ c. omega arith) loop-again returns-2)

@@ -9,9 +9,6 @@ use borrow.Author.Needs.{needs}
 use Rattle.sia_read.proofs.limited.Statement.{statement}
 use Rattle.sia_read.proofs.limited.Tie as tie
 
-eight-requires : tie.Need-eight-requires
-eight-requires c κs = search needs
-
 returns : tie.Need-returns
 unfolding limited
 returns c =
@@ -32,4 +29,5 @@ returns-3 c =
     record { stays = read .stays; says = goes _ read zero (no _ _ _ (le-ltb _ _ (c .if2 .left)) (fine _ _ _ zero)) }
 
 pub limited-spec : {M : Type 1} → statement M
-limited-spec = tie.close (tie.spec eight-requires returns returns-2 returns-3)
+limited-spec =
+    tie.close (tie.spec (λ c κs. search needs) returns returns-2 returns-3)

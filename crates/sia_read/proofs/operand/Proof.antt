@@ -7,15 +7,9 @@ use borrow.Author.Needs.{needs}
 use Rattle.sia_read.proofs.operand.Statement.{statement}
 use Rattle.sia_read.proofs.operand.Tie as tie
 
-eight-requires : tie.Need-eight-requires
-eight-requires c κs = search needs
-
 returns : tie.Need-returns
 unfolding operand
 returns c = record { stays = search needs; says = stops _ _ _ (c .before .before .eight .ensures) (c .if1 .taken) }
-
-eight-requires-2 : tie.Need-eight-requires-2
-eight-requires-2 c κs = search needs
 
 returns-2 : tie.Need-returns-2
 unfolding operand
@@ -34,4 +28,5 @@ returns-3 c =
     record { stays = second .stays; says = goes _ first (c .before .before .before .if1 .left) (goes _ second (c .if2 .left) refl) }
 
 pub operand-spec : {M : Type 1} → statement M
-operand-spec = tie.close (tie.spec eight-requires returns eight-requires-2 returns-2 returns-3)
+operand-spec =
+    tie.close (tie.spec (λ c κs. search needs) returns (λ c κs. search needs) returns-2 returns-3)

@@ -26,39 +26,17 @@ returns c =
     let l = c .before .before .before .before .loop in
     stop _ _ _ _ _ _ (l .inv) (c .before .before .before .loop-test .taken) (c .before .before .operand .ensures) (c .if1 .taken)
 
-mul-list : tie.Need-mul-list Inv-loop μ-loop
-mul-list c = search needs
-
-array-set-from-list : tie.Need-array-set-from-list Inv-loop μ-loop
-array-set-from-list c = omega arith
-
-add-i : tie.Need-add-i Inv-loop μ-loop
-add-i c = search needs
-
-loop-less : tie.Need-loop-less Inv-loop μ-loop
-loop-less c = omega arith
-
 loop-again : tie.Need-loop-again Inv-loop μ-loop
 loop-again c =
     let l = c .before .before .before .before .before .loop in
     let a = c .before .before .before .before .before .before .before in
-    further _ _ _ _ _ _ (l .inv) (c .before .before .before .before .loop-test .taken) (a .pre .1 .0) (c .before .before .before .operand .ensures) (c .before .if1 .left)
+    further _ _ _ _ _ _ (l .inv) (c .before .before .before .before .loop-test .taken) (a .pre .1 .0) (c .before .before .before .operand .ensures)
+        (c .before .if1 .left)
 
 returns-2 : tie.Need-returns-2 Inv-loop μ-loop
 returns-2 c = done _ _ _ _ _ _ (c .before .loop .inv) (c .loop-test .left) (c .before .before .before .pre .1 .0)
 
 pub operands-spec : {M : Type 1} → statement M
 operands-spec =
-    tie.close
-    (tie.spec
-    Inv-loop
-    μ-loop
-    loop-holds
-    operand-requires
-    returns
-    mul-list
-    array-set-from-list
-    add-i
-    loop-less
-    loop-again
-    returns-2)
+    tie.close (tie.spec Inv-loop μ-loop loop-holds operand-requires returns (λ c. search needs) (λ c. omega arith) (λ c. search needs)
+        (λ c. omega arith) loop-again returns-2)

@@ -11,41 +11,7 @@ Inv-loop count list i₀ i = i ≤ 32
 abbrev μ-loop : tie.MeasureT-loop
 μ-loop count list i₀ i = 32 - i
 
-loop-holds : tie.Need-loop-holds Inv-loop μ-loop
-loop-holds c = omega arith
-
-mul-x : tie.Need-mul-x Inv-loop μ-loop
-mul-x c = search needs
-
-array-copy-out-x : tie.Need-array-copy-out-x Inv-loop μ-loop
-array-copy-out-x c = omega arith
-
-show-instruction-requires : tie.Need-show-instruction-requires Inv-loop μ-loop
-show-instruction-requires c κs = search needs
-
-add-i : tie.Need-add-i Inv-loop μ-loop
-add-i c = search needs
-
-loop-less : tie.Need-loop-less Inv-loop μ-loop
-loop-less c = omega arith
-
-loop-again : tie.Need-loop-again Inv-loop μ-loop
-loop-again c = omega arith
-
-returns : tie.Need-returns Inv-loop μ-loop
-returns c = search needs
-
 pub show-instructions-spec : {M : Type 1} → statement M
 show-instructions-spec =
-    tie.close
-    (tie.spec
-    Inv-loop
-    μ-loop
-    loop-holds
-    mul-x
-    array-copy-out-x
-    show-instruction-requires
-    add-i
-    loop-less
-    loop-again
-    returns)
+    tie.close (tie.spec Inv-loop μ-loop (λ c. omega arith) (λ c. search needs) (λ c. omega arith) (λ c κs. search needs) (λ c. search needs)
+        (λ c. omega arith) (λ c. omega arith) (λ c. search needs))

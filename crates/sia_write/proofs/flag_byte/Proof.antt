@@ -11,4 +11,5 @@ returns-2 : tie.Need-returns-2
 returns-2 c = sym (ap flagByte (c .if1 .left))
 
 pub flag-byte-spec : {M : Type 1} → statement M
-flag-byte-spec = tie.close (tie.spec returns returns-2)
+flag-byte-spec =
+    tie.close (tie.spec returns returns-2)

@@ -24,4 +24,5 @@ returns c =
     ap (λ (n : ℕ). 48 + n) (c .instructions-length .ensures .0) ∙ sym (length-head (s .args .head) (known-head (s .args .head) _ (s .good .0) .0))
 
 pub head-length-spec : {M : Type 1} → statement M
-head-length-spec = tie.close (tie.spec instructions-length-requires add-result returns)
+head-length-spec =
+    tie.close (tie.spec instructions-length-requires add-result returns)

@@ -7,16 +7,11 @@ use borrow.Author.Needs.{needs}
 use Rattle.sia_write.proofs.instruction_length.Statement.{statement}
 use Rattle.sia_write.proofs.instruction_length.Tie as tie
 
-mul-result : tie.Need-mul-result
-mul-result c = search needs
-
-add-result : tie.Need-add-result
-add-result c = search needs
-
 returns : tie.Need-returns
 returns c =
     let long = known-instruction (c .args .x) _ (c .good .0) in
     (sym (length-instruction (c .args .x) (long .0) (long .1) (c .pre)), omega arith)
 
 pub instruction-length-spec : {M : Type 1} → statement M
-instruction-length-spec = tie.close (tie.spec mul-result add-result returns)
+instruction-length-spec =
+    tie.close (tie.spec (λ c. search needs) (λ c. search needs) returns)

@@ -22,25 +22,10 @@ loop-holds : tie.Need-loop-holds Inv-loop μ-loop
 unfolding joined
 loop-holds c = (omega arith, refl, omega arith)
 
-mul-x : tie.Need-mul-x Inv-loop μ-loop
-mul-x c = search needs
-
-array-copy-out-x : tie.Need-array-copy-out-x Inv-loop μ-loop
-array-copy-out-x c = omega arith
-
 instruction-length-requires : tie.Need-instruction-length-requires Inv-loop μ-loop
 instruction-length-requires c κs =
     let s = c .before .before .before in
     leb-true _ _ (every-at fewOperands _ _ (c .before .before .loop .i) _ (s .pre .1) (c .before .loop-test .taken) (omega (arith, s .good .0 .1 .0 .1)))
-
-add-total : tie.Need-add-total Inv-loop μ-loop
-add-total c = omega arith
-
-add-i : tie.Need-add-i Inv-loop μ-loop
-add-i c = search needs
-
-loop-less : tie.Need-loop-less Inv-loop μ-loop
-loop-less c = omega arith
 
 loop-again : tie.Need-loop-again Inv-loop μ-loop
 loop-again c =
@@ -60,16 +45,5 @@ returns c =
 
 pub instructions-length-spec : {M : Type 1} → statement M
 instructions-length-spec =
-    tie.close
-    (tie.spec
-    Inv-loop
-    μ-loop
-    loop-holds
-    mul-x
-    array-copy-out-x
-    instruction-length-requires
-    add-total
-    add-i
-    loop-less
-    loop-again
-    returns)
+    tie.close (tie.spec Inv-loop μ-loop loop-holds (λ c. search needs) (λ c. omega arith) instruction-length-requires (λ c. omega arith)
+        (λ c. search needs) (λ c. omega arith) loop-again returns)

@@ -55,13 +55,12 @@ store-requires : tie.Need-store-requires
 store-requires c κs = let r = room (before-id (c .before .before .before)) in omega arith
 
 put-instructions-requires : tie.Need-put-instructions-requires
-put-instructions-requires c κs = let r = room (before-id (before-count (c .before .before .before .before))) in (r .limits .count, (r .limits .few, omega arith))
+put-instructions-requires c κs = let r = room (before-id (before-count (c .before .before .before .before))) in
+    (r .limits .count, (r .limits .few, omega arith))
 
 store-requires-2 : tie.Need-store-requires-2
-store-requires-2 c κs = let r = room (before-id (before-count (before-list (c .before .before .before)))) in omega (arith, c .before .before .before .put-instructions .ensures .0)
-
-same-length : tie.Need-same-length
-same-length c = search needs
+store-requires-2 c κs = let r = room (before-id (before-count (before-list (c .before .before .before)))) in
+    omega (arith, c .before .before .before .put-instructions .ensures .0)
 
 returns : tie.Need-returns
 unfolding encode
@@ -80,13 +79,5 @@ returns c =
 
 pub put-head-spec : {M : Type 1} → statement M
 put-head-spec =
-    tie.close
-    (tie.spec
-    (λ c κs. search needs)
-    (λ c. search needs)
-    copy-between-requires
-    store-requires
-    put-instructions-requires
-    store-requires-2
-    same-length
-    returns)
+    tie.close (tie.spec (λ c κs. search needs) (λ c. search needs) copy-between-requires store-requires put-instructions-requires
+        store-requires-2 (λ c. search needs) returns)

@@ -53,35 +53,14 @@ copy-between-requires c κs =
     let long = ap length (at-fixed .fixed-name .ensures) in
     (omega arith, omega arith)
 
-add-store : tie.Need-add-store
-add-store c = search needs
-
 store-requires : tie.Need-store-requires
 store-requires c κs = let r = room (before-name (c .before .before .before)) in omega arith
-
-add-put-operands : tie.Need-add-put-operands
-add-put-operands c = search needs
 
 put-operands-requires : tie.Need-put-operands-requires
 put-operands-requires c κs = let r = room (before-name (before-count (c .before .before .before .before))) in (r .few, omega arith)
 
-add-fill : tie.Need-add-fill
-add-fill c = search needs
-
-mul-fill : tie.Need-mul-fill
-mul-fill c = search needs
-
-add-fill-2 : tie.Need-add-fill-2
-add-fill-2 c = search needs
-
-flag-byte-requires : tie.Need-flag-byte-requires
-flag-byte-requires c κs = search needs
-
 fill-requires : tie.Need-fill-requires
 fill-requires c κs = let r = room (before-name (before-count (before-operands (c .before .before .before .before)))) in omega arith
-
-same-length : tie.Need-same-length
-same-length c = search needs
 
 returns : tie.Need-returns
 unfolding instructionBytes
@@ -102,19 +81,6 @@ returns c =
 
 pub put-instruction-spec : {M : Type 1} → statement M
 put-instruction-spec =
-    tie.close
-    (tie.spec
-    (λ c κs. search needs)
-    (λ c. search needs)
-    copy-between-requires
-    add-store
-    store-requires
-    add-put-operands
-    put-operands-requires
-    add-fill
-    mul-fill
-    add-fill-2
-    flag-byte-requires
-    fill-requires
-    same-length
-    returns)
+    tie.close (tie.spec (λ c κs. search needs) (λ c. search needs) copy-between-requires (λ c. search needs) store-requires
+        (λ c. search needs) put-operands-requires (λ c. search needs) (λ c. search needs) (λ c. search needs) (λ c κs. search needs)
+        fill-requires (λ c. search needs) returns)

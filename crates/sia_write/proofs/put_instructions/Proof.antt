@@ -36,12 +36,6 @@ loop-holds : tie.Need-loop-holds Inv-loop μ-loop
 unfolding joined
 loop-holds c = (omega arith, refl, omega arith, sym (put-nil _ _))
 
-mul-x : tie.Need-mul-x Inv-loop μ-loop
-mul-x c = search needs
-
-array-copy-out-x : tie.Need-array-copy-out-x Inv-loop μ-loop
-array-copy-out-x c = omega arith
-
 put-instruction-requires : tie.Need-put-instruction-requires Inv-loop μ-loop
 put-instruction-requires c κs =
     let l = c .before .before .before .loop in
@@ -56,7 +50,8 @@ put-instruction-requires c κs =
 instruction-length-requires : tie.Need-instruction-length-requires Inv-loop μ-loop
 instruction-length-requires c κs =
     let s = c .before .before .before .before .before .before .before .before in
-    leb-true _ _ (every-at fewOperands _ _ (c .before .before .before .before .before .before .loop .i) _ (s .pre .1 .0) (c .before .before .before .before .before .loop-test .taken) (omega (arith, s .good .0 .1 .0 .1)))
+    leb-true _ _ (every-at fewOperands _ _ (c .before .before .before .before .before .before .loop .i) _ (s .pre .1 .0)
+        (c .before .before .before .before .before .loop-test .taken) (omega (arith, s .good .0 .1 .0 .1)))
 
 add-place : tie.Need-add-place Inv-loop μ-loop
 add-place c =
@@ -64,13 +59,8 @@ add-place c =
     let s = c .before .before .before .before .before .before .before .before .before in
     let long : s .args .n ≤ length (s .args .t1) = omega (arith, s .good .0 .1 .0 .1) in
     let room : s .args .at + length (joined instructionBytes (take (s .args .n) (s .args .t1))) ≤ length (l .out) = omega (arith, s .pre .1 .1) in
-    omega (arith, c .instruction-length .ensures .0, room-next instructionBytes (s .args .t1) (l .i) (s .args .n) (s .args .at) past (c .before .before .before .before .before .before .loop-test .taken) long room (l .inv .2))
-
-add-i : tie.Need-add-i Inv-loop μ-loop
-add-i c = search needs
-
-loop-less : tie.Need-loop-less Inv-loop μ-loop
-loop-less c = omega arith
+    omega (arith, c .instruction-length .ensures .0, room-next instructionBytes (s .args .t1) (l .i) (s .args .n) (s .args .at) past
+        (c .before .before .before .before .before .before .loop-test .taken) long room (l .inv .2))
 
 loop-again : tie.Need-loop-again Inv-loop μ-loop
 loop-again c =
@@ -83,9 +73,6 @@ loop-again c =
       c .before .before .before .put-instruction .ensures ∙ lay-more instructionBytes _ _ (s .args .t1) (l .i) _ _ long (l .inv .2) (l .inv .3),
     )
 
-same-length : tie.Need-same-length Inv-loop μ-loop
-same-length c = search needs
-
 returns : tie.Need-returns Inv-loop μ-loop
 returns c =
     let l = c .before .loop in
@@ -97,18 +84,5 @@ returns c =
 
 pub put-instructions-spec : {M : Type 1} → statement M
 put-instructions-spec =
-    tie.close
-    (tie.spec
-    Inv-loop
-    μ-loop
-    loop-holds
-    mul-x
-    array-copy-out-x
-    put-instruction-requires
-    instruction-length-requires
-    add-place
-    add-i
-    loop-less
-    loop-again
-    same-length
-    returns)
+    tie.close (tie.spec Inv-loop μ-loop loop-holds (λ c. search needs) (λ c. omega arith) put-instruction-requires
+        instruction-length-requires add-place (λ c. search needs) (λ c. omega arith) loop-again (λ c. search needs) returns)

@@ -24,33 +24,6 @@ loop-holds : tie.Need-loop-holds Inv-loop μ-loop
 unfolding joined
 loop-holds c = (omega arith, refl, sym (put-nil _ _))
 
-mul-o : tie.Need-mul-o Inv-loop μ-loop
-mul-o c = search needs
-
-array-copy-out-o : tie.Need-array-copy-out-o Inv-loop μ-loop
-array-copy-out-o c = omega arith
-
-mul-place : tie.Need-mul-place Inv-loop μ-loop
-mul-place c = omega arith
-
-add-place : tie.Need-add-place Inv-loop μ-loop
-add-place c = omega arith
-
-store-requires : tie.Need-store-requires Inv-loop μ-loop
-store-requires c κs = omega arith
-
-add-store : tie.Need-add-store Inv-loop μ-loop
-add-store c = omega arith
-
-store-requires-2 : tie.Need-store-requires-2 Inv-loop μ-loop
-store-requires-2 c κs = search needs
-
-add-i : tie.Need-add-i Inv-loop μ-loop
-add-i c = search needs
-
-loop-less : tie.Need-loop-less Inv-loop μ-loop
-loop-less c = omega arith
-
 loop-again : tie.Need-loop-again Inv-loop μ-loop
 unfolding operandBytes
 loop-again c =
@@ -60,11 +33,9 @@ loop-again c =
     let four = s .good .0 .1 .0 .1 in
     let place : s .args .at + 16 * l .i ≡ s .args .at + length (joined operandBytes (take (l .i) list)) =
     omega (arith, length-operands (take (l .i) list), length-take-le (l .i) list (omega arith)) in
-    let two = lay-two _ _ _ _ _ (c .before .before .before .before .before .before .store .ensures) (c .before .before .store2 .ensures) (length-bytes 8 _) refl in
+    let two = lay-two _ _ _ _ _ (c .before .before .before .before .before .before .store .ensures) (c .before .before .store2 .ensures)
+        (length-bytes 8 _) refl in
     (omega arith, search needs, two ∙ lay-more operandBytes _ _ list (l .i) _ _ (omega arith) place (l .inv .2))
-
-same-length : tie.Need-same-length Inv-loop μ-loop
-same-length c = search needs
 
 returns : tie.Need-returns Inv-loop μ-loop
 returns c =
@@ -75,20 +46,6 @@ returns c =
 
 pub put-operands-spec : {M : Type 1} → statement M
 put-operands-spec =
-    tie.close
-    (tie.spec
-    Inv-loop
-    μ-loop
-    loop-holds
-    mul-o
-    array-copy-out-o
-    mul-place
-    add-place
-    store-requires
-    add-store
-    store-requires-2
-    add-i
-    loop-less
-    loop-again
-    same-length
-    returns)
+    tie.close (tie.spec Inv-loop μ-loop loop-holds (λ c. search needs) (λ c. omega arith) (λ c. omega arith) (λ c. omega arith)
+        (λ c κs. omega arith) (λ c. omega arith) (λ c κs. search needs) (λ c. search needs) (λ c. omega arith) loop-again
+        (λ c. search needs) returns)

@@ -11,9 +11,6 @@ use borrow.Author.Needs.{needs}
 use Rattle.sia_write.proofs.write_head.Statement.{statement}
 use Rattle.sia_write.proofs.write_head.Tie as tie
 
-within-requires : tie.Need-within-requires
-within-requires c κs = search needs
-
 returns : tie.Need-returns
 unfolding write
 returns c = yes _ _ _ (ap not (sym (c .before .within .ensures)) ∙ c .if1 .taken) refl
@@ -29,27 +26,20 @@ returns-2 c =
     no _ _ _ (ap not (sym (c .before .before .before .within .ensures)) ∙ c .before .before .if1 .left) (yes _ _ _ (lt-ltb _ _ short) refl)
 
 put-head-requires : tie.Need-put-head-requires
-put-head-requires c κs = (sym (c .before .before .before .before .within .ensures) ∙ not-false _ (c .before .before .before .if1 .left), omega (arith, c .before .before .head-length .ensures, c .before .if2 .left))
-
-same-length : tie.Need-same-length
-same-length c = search needs
+put-head-requires c κs = (sym (c .before .before .before .before .within .ensures) ∙ not-false _ (c .before .before .before .if1 .left),
+    omega (arith, c .before .before .head-length .ensures, c .before .if2 .left))
 
 returns-3 : tie.Need-returns-3
 unfolding write
 returns-3 c =
     let a = c .before .before .before .before .before .before .before .before .before .args in
-    let long : length (encode (a .head)) ≤ length (a .out .now) = omega (arith, c .before .before .before .before .before .head-length .ensures, c .before .before .before .before .if2 .left) in
-    no _ _ _ (ap not (sym (c .before .before .before .before .before .before .before .within .ensures)) ∙ c .before .before .before .before .before .before .if1 .left)
-    (no _ _ _ (le-ltb _ _ long) (λ i. left (record { number = 0; length = c .before .before .before .before .before .head-length .ensures i }) (c .before .before .put-head .ensures i)))
+    let long : length (encode (a .head)) ≤ length (a .out .now) =
+        omega (arith, c .before .before .before .before .before .head-length .ensures, c .before .before .before .before .if2 .left) in
+    no _ _ _ (ap not (sym (c .before .before .before .before .before .before .before .within .ensures))
+        ∙ c .before .before .before .before .before .before .if1 .left)
+    (no _ _ _ (le-ltb _ _ long) (λ i. left (record { number = 0; length = c .before .before .before .before .before .head-length .ensures i })
+        (c .before .before .put-head .ensures i)))
 
 pub write-head-spec : {M : Type 1} → statement M
 write-head-spec =
-    tie.close
-    (tie.spec
-    within-requires
-    returns
-    head-length-requires
-    returns-2
-    put-head-requires
-    same-length
-    returns-3)
+    tie.close (tie.spec (λ c κs. search needs) returns head-length-requires returns-2 put-head-requires (λ c. search needs) returns-3)

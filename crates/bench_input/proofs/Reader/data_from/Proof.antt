@@ -9,4 +9,5 @@ unfolding dataFrom
 returns c = refl
 
 pub data-from-spec : {M : Type 1} → statement M
-data-from-spec = tie.close (tie.spec returns)
+data-from-spec =
+    tie.close (tie.spec returns)

@@ -15,4 +15,5 @@ unfolding full
 returns-2 c = no _ _ _ (sym (c .before .in-data .ensures) ∙ c .if1 .left) refl
 
 pub full-spec : {M : Type 1} → statement M
-full-spec = tie.close (tie.spec (λ c κs. search needs) returns returns-2)
+full-spec =
+    tie.close (tie.spec (λ c κs. search needs) returns returns-2)

@@ -20,4 +20,5 @@ returns-2 c =
     no _ _ _ (ne-eqb _ 0 (c .before .if1 .left)) (ap (λ (m : ℕ). reader Head 0 (given .n) m (given .at)) (c .least .ensures))
 
 pub head-from-spec : {M : Type 1} → statement M
-head-from-spec = tie.close (tie.spec (λ c κs. search needs) returns (λ c κs. search needs) returns-2)
+head-from-spec =
+    tie.close (tie.spec (λ c κs. search needs) returns (λ c κs. search needs) returns-2)

@@ -15,4 +15,5 @@ unfolding held
 returns-2 c = no _ _ _ (sym (c .before .in-data .ensures) ∙ c .if1 .left) refl
 
 pub held-spec : {M : Type 1} → statement M
-held-spec = tie.close (tie.spec (λ c κs. search needs) returns returns-2)
+held-spec =
+    tie.close (tie.spec (λ c κs. search needs) returns returns-2)

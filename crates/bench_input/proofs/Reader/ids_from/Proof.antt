@@ -16,4 +16,5 @@ unfolding idsFrom
 returns-2 c = no _ _ _ (ne-eqb _ 0 (c .if1 .left)) refl
 
 pub ids-from-spec : {M : Type 1} → statement M
-ids-from-spec = tie.close (tie.spec returns (λ c. search needs) returns-2)
+ids-from-spec =
+    tie.close (tie.spec returns (λ c. search needs) returns-2)

@@ -9,4 +9,5 @@ unfolding fresh
 returns c = refl
 
 pub new-spec : {M : Type 1} → statement M
-new-spec = tie.close (tie.spec returns)
+new-spec =
+    tie.close (tie.spec returns)

@@ -31,21 +31,15 @@ mul-id-at c = omega (arith, div-add-mod' (length (c .before .before .before .arg
 id-at-requires : tie.Need-id-at-requires Inv-loop μ-loop
 id-at-requires c κs = omega (arith, div-add-mod' (length (c .before .before .before .args .ids .now)) 32)
 
-form-requires : tie.Need-form-requires Inv-loop μ-loop
-form-requires c κs = search needs
-
 returns : tie.Need-returns Inv-loop μ-loop
 unfolding idsIn
-returns c = turn-refused _ _ _ _ (c .before .before .before .before .loop-test .taken) (c .before .before .form .ensures ∙ ap (formed _) (c .before .before .before .id-at .ensures)) (c .if1 .taken) ∙ sym (c .before .before .before .before .before .loop .inv)
-
-add-i : tie.Need-add-i Inv-loop μ-loop
-add-i c = omega arith
-
-loop-less : tie.Need-loop-less Inv-loop μ-loop
-loop-less c = omega arith
+returns c = turn-refused _ _ _ _ (c .before .before .before .before .loop-test .taken) (c .before .before .form .ensures
+    ∙ ap (formed _) (c .before .before .before .id-at .ensures)) (c .if1 .taken) ∙ sym (c .before .before .before .before .before .loop .inv)
 
 loop-again : tie.Need-loop-again Inv-loop μ-loop
-loop-again c = c .before .before .before .before .before .before .loop .inv ∙ turn-formed _ _ _ _ (c .before .before .before .before .before .loop-test .taken) (c .before .before .before .form .ensures ∙ ap (formed _) (c .before .before .before .before .id-at .ensures)) (c .before .if1 .left)
+loop-again c = c .before .before .before .before .before .before .loop .inv
+    ∙ turn-formed _ _ _ _ (c .before .before .before .before .before .loop-test .taken) (c .before .before .before .form .ensures
+    ∙ ap (formed _) (c .before .before .before .before .id-at .ensures)) (c .before .if1 .left)
 
 returns-2 : tie.Need-returns-2 Inv-loop μ-loop
 unfolding idsIn
@@ -53,16 +47,5 @@ returns-2 c = turn-none _ _ _ _ (c .loop-test .left) ∙ sym (c .before .loop .i
 
 pub form-in-turn-spec : {M : Type 1} → statement M
 form-in-turn-spec =
-    tie.close
-    (tie.spec
-    Inv-loop
-    μ-loop
-    loop-holds
-    mul-id-at
-    id-at-requires
-    form-requires
-    returns
-    add-i
-    loop-less
-    loop-again
-    returns-2)
+    tie.close (tie.spec Inv-loop μ-loop loop-holds mul-id-at id-at-requires (λ c κs. search needs) returns (λ c. omega arith)
+        (λ c. omega arith) loop-again returns-2)

@@ -5,14 +5,9 @@ use borrow.Author.Needs.{needs}
 use Rattle.bench_program.proofs.contracts.id_at.Statement.{statement}
 use Rattle.bench_program.proofs.contracts.id_at.Tie as tie
 
-slice-aggregate-copy-between : tie.Need-slice-aggregate-copy-between
-slice-aggregate-copy-between c = search needs
-
-copy-between-requires : tie.Need-copy-between-requires
-copy-between-requires c κs = search needs
-
 returns : tie.Need-returns
 returns c = put-part _ _ _ 32 refl (c .before .before .before .before .pre) (c .before .copy-between .ensures)
 
 pub id-at-spec : {M : Type 1} → statement M
-id-at-spec = tie.close (tie.spec slice-aggregate-copy-between copy-between-requires returns)
+id-at-spec =
+    tie.close (tie.spec (λ c. search needs) (λ c κs. search needs) returns)

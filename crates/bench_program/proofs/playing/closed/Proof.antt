@@ -12,4 +12,5 @@ returns c =
     ap left (c .shown .ensures)
 
 pub closed-spec : {M : Type 1} → statement M
-closed-spec = tie.close (tie.spec (λ c κs. tt) returns)
+closed-spec =
+    tie.close (tie.spec (λ c κs. tt) returns)

@@ -4,17 +4,10 @@ use borrow.Author.Needs.{needs}
 use Rattle.bench_program.proofs.playing.finish.Statement.{statement}
 use Rattle.bench_program.proofs.playing.finish.Tie as tie
 
-reached-requires : tie.Need-reached-requires
-reached-requires c κs = search needs
-
-close-requires : tie.Need-close-requires
-close-requires c κs = search needs
-
-same-length : tie.Need-same-length
-same-length c = search needs
-
 returns : tie.Need-returns
-returns c = ended-is _ (c .before .before .before .before .before .before .before .before .before .before .before .before .args .host) _ (c .before .before .before .before .before .before .reached .ensures) (c .before .before .close .ensures)
+returns c = ended-is _ (c .before .before .before .before .before .before .before .before .before .before .before .before .args .host) _
+    (c .before .before .before .before .before .before .reached .ensures) (c .before .before .close .ensures)
 
 pub finish-spec : {M : Type 1} → statement M
-finish-spec = tie.close (tie.spec reached-requires close-requires same-length returns)
+finish-spec =
+    tie.close (tie.spec (λ c κs. search needs) (λ c κs. search needs) (λ c. search needs) returns)

@@ -15,4 +15,5 @@ unfolding shown
 returns-2 c = yes _ _ _ (eq-eqb _ 0 (c .if1 .left)) refl
 
 pub shown-spec : {M : Type 1} → statement M
-shown-spec = tie.close (tie.spec returns returns-2)
+shown-spec =
+    tie.close (tie.spec returns returns-2)

@@ -8,9 +8,6 @@ use borrow.Author.Needs.{needs}
 use Rattle.bench_program.proofs.reading.head_end.Statement.{statement}
 use Rattle.bench_program.proofs.reading.head_end.Tie as tie
 
-ids-end-requires : tie.Need-ids-end-requires
-ids-end-requires c κs = search needs
-
 load-requires : tie.Need-load-requires
 load-requires c κs = omega (arith, right _ (c .before .before .pre) .head, c .ids-end .ensures)
 
@@ -19,11 +16,14 @@ add-result c = omega (arith, right _ (c .before .before .before .pre) .head, c .
 
 add-result-2 : tie.Need-add-result-2
 unfolding numberAt
-add-result-2 c = let n = c .load .ensures ∙ ap (numberAt (c .before .before .before .args .all .now)) (c .before .ids-end .ensures) in omega (arith, right _ (c .before .before .before .pre) .head, c .before .ids-end .ensures, n)
+add-result-2 c = let n = c .load .ensures ∙ ap (numberAt (c .before .before .before .args .all .now)) (c .before .ids-end .ensures) in
+    omega (arith, right _ (c .before .before .before .pre) .head, c .before .ids-end .ensures, n)
 
 returns : tie.Need-returns
 unfolding headEnd numberAt
-returns c = ap₂ (λ (at n : ℕ). at + 8 + n) (c .before .ids-end .ensures) (c .load .ensures ∙ ap (numberAt (c .before .before .before .args .all .now)) (c .before .ids-end .ensures))
+returns c = ap₂ (λ (at n : ℕ). at + 8 + n) (c .before .ids-end .ensures) (c .load .ensures
+    ∙ ap (numberAt (c .before .before .before .args .all .now)) (c .before .ids-end .ensures))
 
 pub head-end-spec : {M : Type 1} → statement M
-head-end-spec = tie.close (tie.spec ids-end-requires load-requires add-result add-result-2 returns)
+head-end-spec =
+    tie.close (tie.spec (λ c κs. search needs) load-requires add-result add-result-2 returns)

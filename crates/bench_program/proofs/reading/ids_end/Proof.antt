@@ -23,4 +23,5 @@ unfolding numberAt idsEnd
 returns c = ap (λ (n : ℕ). 80 + n * 32) (c .load .ensures)
 
 pub ids-end-spec : {M : Type 1} → statement M
-ids-end-spec = tie.close (tie.spec load-requires mul-result add-result returns)
+ids-end-spec =
+    tie.close (tie.spec load-requires mul-result add-result returns)

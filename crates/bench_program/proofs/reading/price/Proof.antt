@@ -5,9 +5,6 @@ use borrow.Author.Needs.{needs}
 use Rattle.bench_program.proofs.reading.price.Statement.{statement}
 use Rattle.bench_program.proofs.reading.price.Tie as tie
 
-load-requires : tie.Need-load-requires
-load-requires c κs = search needs
-
 cast-result : tie.Need-cast-result
 unfolding numberAt
 cast-result c = omega (arith, c .before .before .pre .1, c .load .ensures)
@@ -17,4 +14,5 @@ unfolding numberAt
 returns c = c .load .ensures
 
 pub price-spec : {M : Type 1} → statement M
-price-spec = tie.close (tie.spec load-requires cast-result returns)
+price-spec =
+    tie.close (tie.spec (λ c κs. search needs) cast-result returns)

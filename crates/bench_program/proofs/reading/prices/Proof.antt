@@ -18,13 +18,16 @@ price-requires-4 : tie.Need-price-requires-4
 price-requires-4 c κs = let r = right _ (c .before .before .before .before .pre) in (omega (arith, r .front), price-within _ 3 (r .prices) (omega arith))
 
 price-requires-5 : tie.Need-price-requires-5
-price-requires-5 c κs = let r = right _ (c .before .before .before .before .before .pre) in (omega (arith, r .front), price-within _ 4 (r .prices) (omega arith))
+price-requires-5 c κs = let r = right _ (c .before .before .before .before .before .pre) in
+    (omega (arith, r .front), price-within _ 4 (r .prices) (omega arith))
 
 price-requires-6 : tie.Need-price-requires-6
-price-requires-6 c κs = let r = right _ (c .before .before .before .before .before .before .pre) in (omega (arith, r .front), price-within _ 5 (r .prices) (omega arith))
+price-requires-6 c κs = let r = right _ (c .before .before .before .before .before .before .pre) in
+    (omega (arith, r .front), price-within _ 5 (r .prices) (omega arith))
 
 price-requires-7 : tie.Need-price-requires-7
-price-requires-7 c κs = let r = right _ (c .before .before .before .before .before .before .before .pre) in (omega (arith, r .front), price-within _ 6 (r .prices) (omega arith))
+price-requires-7 c κs = let r = right _ (c .before .before .before .before .before .before .before .pre) in
+    (omega (arith, r .front), price-within _ 6 (r .prices) (omega arith))
 
 returns : tie.Need-returns
 unfolding pricesIn
@@ -40,13 +43,5 @@ returns c = λ i. record {
 
 pub prices-spec : {M : Type 1} → statement M
 prices-spec =
-    tie.close
-    (tie.spec
-    price-requires
-    price-requires-2
-    price-requires-3
-    price-requires-4
-    price-requires-5
-    price-requires-6
-    price-requires-7
-    returns)
+    tie.close (tie.spec price-requires price-requires-2 price-requires-3 price-requires-4 price-requires-5 price-requires-6 price-requires-7
+        returns)

@@ -22,44 +22,25 @@ loop-holds : tie.Need-loop-holds Inv-loop μ-loop
 unfolding pricesRight
 loop-holds c = refl
 
-mul-load : tie.Need-mul-load Inv-loop μ-loop
-mul-load c = omega arith
-
-add-load : tie.Need-add-load Inv-loop μ-loop
-add-load c = omega arith
-
 load-requires : tie.Need-load-requires Inv-loop μ-loop
 load-requires c κs = omega (arith, c .before .before .before .pre)
 
 returns : tie.Need-returns Inv-loop μ-loop
 unfolding numberAt
-returns c = tab-stops _ _ (c .before .before .before .loop .i) 7 (c .before .before .loop-test .taken) (lt-leb (numberAt (c .before .before .before .before .before .args .all .now) (8 + c .before .before .before .loop .i * 8)) 65535 (omega (arith, c .if1 .taken, c .before .load .ensures))) ∙ sym (c .before .before .before .loop .inv)
-
-add-i : tie.Need-add-i Inv-loop μ-loop
-add-i c = omega arith
-
-loop-less : tie.Need-loop-less Inv-loop μ-loop
-loop-less c = omega arith
+returns c = tab-stops _ _ (c .before .before .before .loop .i) 7 (c .before .before .loop-test .taken)
+    (lt-leb (numberAt (c .before .before .before .before .before .args .all .now) (8 + c .before .before .before .loop .i * 8)) 65535
+    (omega (arith, c .if1 .taken, c .before .load .ensures))) ∙ sym (c .before .before .before .loop .inv)
 
 loop-again : tie.Need-loop-again Inv-loop μ-loop
 unfolding numberAt
-loop-again c = c .before .before .before .loop .inv ∙ tab-further _ _ (c .before .before .before .loop .i) 7 (c .before .before .loop-test .taken) (le-leb (numberAt (c .before .before .before .before .before .args .all .now) (8 + c .before .before .before .loop .i * 8)) 65535 (omega (arith, c .if1 .left, c .before .load .ensures)))
+loop-again c = c .before .before .before .loop .inv ∙ tab-further _ _ (c .before .before .before .loop .i) 7 (c .before .before .loop-test .taken)
+    (le-leb (numberAt (c .before .before .before .before .before .args .all .now) (8 + c .before .before .before .loop .i * 8)) 65535
+    (omega (arith, c .if1 .left, c .before .load .ensures)))
 
 returns-2 : tie.Need-returns-2 Inv-loop μ-loop
 returns-2 c = tab-done _ _ (c .before .loop .i) 7 (omega arith) ∙ sym (c .before .loop .inv)
 
 pub prices-right-spec : {M : Type 1} → statement M
 prices-right-spec =
-    tie.close
-    (tie.spec
-    Inv-loop
-    μ-loop
-    loop-holds
-    mul-load
-    add-load
-    load-requires
-    returns
-    add-i
-    loop-less
-    loop-again
-    returns-2)
+    tie.close (tie.spec Inv-loop μ-loop loop-holds (λ c. omega arith) (λ c. omega arith) load-requires returns (λ c. omega arith)
+        (λ c. omega arith) loop-again returns-2)

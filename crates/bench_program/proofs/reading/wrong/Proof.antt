@@ -12,15 +12,9 @@ returns : tie.Need-returns
 unfolding wrong
 returns c = yes _ _ _ (lt-ltb _ 80 (c .if1 .taken)) refl
 
-load-requires : tie.Need-load-requires
-load-requires c κs = search needs
-
 returns-2 : tie.Need-returns-2
 unfolding wrong numberAt
 returns-2 c = no _ _ _ (le-ltb _ 80 (c .before .before .if1 .left)) (yes _ _ _ (ap not (ne-eqb _ 7 (λ q. c .if2 .taken (c .before .load .ensures ∙ q)))) refl)
-
-prices-right-requires : tie.Need-prices-right-requires
-prices-right-requires c κs = search needs
 
 returns-3 : tie.Need-returns-3
 unfolding wrong numberAt
@@ -28,9 +22,6 @@ returns-3 c =
     no _ _ _ (le-ltb _ 80 (c .before .before .before .before .if1 .left))
     (no _ _ _ (ap not (eq-eqb _ 7 (sym (c .before .before .before .load .ensures) ∙ c .before .before .if2 .left)))
     (yes _ _ _ (ap not (sym (c .before .prices-right .ensures)) ∙ c .if3 .taken) refl))
-
-cut-short-requires : tie.Need-cut-short-requires
-cut-short-requires c κs = search needs
 
 returns-4 : tie.Need-returns-4
 unfolding wrong numberAt
@@ -42,12 +33,4 @@ returns-4 c =
 
 pub wrong-spec : {M : Type 1} → statement M
 wrong-spec =
-    tie.close
-    (tie.spec
-    returns
-    load-requires
-    returns-2
-    prices-right-requires
-    returns-3
-    cut-short-requires
-    returns-4)
+    tie.close (tie.spec returns (λ c κs. search needs) returns-2 (λ c κs. search needs) returns-3 (λ c κs. search needs) returns-4)

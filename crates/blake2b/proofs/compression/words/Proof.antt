@@ -31,16 +31,5 @@ returns c = let l = c .before .loop in fill-all _ _ (l .i) _ (l .inv .1) (l .inv
 
 pub words-spec : {M : Type 1} → statement M
 words-spec =
-    tie.close
-    (tie.spec
-    Inv-loop
-    μ-loop
-    loop-holds
-    (λ c. omega arith)
-    (λ c κs. omega arith)
-    (λ c. omega arith)
-    (λ c. omega arith)
-    (λ c. omega arith)
-    (λ c. omega arith)
-    loop-again
-    returns)
+    tie.close (tie.spec Inv-loop μ-loop loop-holds (λ c. omega arith) (λ c κs. omega arith) (λ c. omega arith) (λ c. omega arith)
+        (λ c. omega arith) (λ c. omega arith) loop-again returns)

@@ -9,4 +9,5 @@ unfolding rotr
 returns c = search needs
 
 pub rotr-spec : {M : Type 1} → statement M
-rotr-spec = tie.close (tie.spec (λ c. search needs) (λ c. search needs) (λ c. search needs) (λ c. search needs) returns)
+rotr-spec =
+    tie.close (tie.spec (λ c. search needs) (λ c. search needs) (λ c. search needs) (λ c. search needs) returns)

@@ -10,13 +10,5 @@ returns c = cc
 
 pub sum3-spec : {M : Type 1} → statement M
 sum3-spec =
-    tie.close
-    (tie.spec
-    (λ c. search needs)
-    (λ c. search needs)
-    (λ c. search needs)
-    (λ c. search needs)
-    (λ c κs. search needs)
-    (λ c. search needs)
-    (λ c. search needs)
-    returns)
+    tie.close (tie.spec (λ c. search needs) (λ c. search needs) (λ c. search needs) (λ c. search needs) (λ c κs. search needs)
+        (λ c. search needs) (λ c. search needs) returns)

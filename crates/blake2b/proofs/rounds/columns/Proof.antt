@@ -3,8 +3,6 @@ use borrow.Author.Needs.{needs}
 use Rattle.blake2b.proofs.rounds.columns.Statement.{statement}
 use Rattle.blake2b.proofs.rounds.columns.Tie as tie
 
-returns : tie.Need-returns
-returns c = cc
-
 pub columns-spec : {M : Type 1} → statement M
-columns-spec = tie.close (tie.spec (λ c κs. search needs) (λ c κs. search needs) (λ c κs. search needs) (λ c κs. search needs) returns)
+columns-spec =
+    tie.close (tie.spec (λ c κs. search needs) (λ c κs. search needs) (λ c κs. search needs) (λ c κs. search needs) (λ c. cc))

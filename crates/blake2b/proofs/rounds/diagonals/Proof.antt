@@ -3,8 +3,6 @@ use borrow.Author.Needs.{needs}
 use Rattle.blake2b.proofs.rounds.diagonals.Statement.{statement}
 use Rattle.blake2b.proofs.rounds.diagonals.Tie as tie
 
-returns : tie.Need-returns
-returns c = cc
-
 pub diagonals-spec : {M : Type 1} → statement M
-diagonals-spec = tie.close (tie.spec (λ c κs. search needs) (λ c κs. search needs) (λ c κs. search needs) (λ c κs. search needs) returns)
+diagonals-spec =
+    tie.close (tie.spec (λ c κs. search needs) (λ c κs. search needs) (λ c κs. search needs) (λ c κs. search needs) (λ c. cc))

@@ -15,4 +15,5 @@ returns-3 : tie.Need-returns-3
 returns-3 c = yes _ _ _ (eq-eqb _ _ (c .before .if1 .left)) (yes _ _ _ (eq-eqb _ _ (c .if2 .left)) refl)
 
 pub applies-spec : {M : Type 1} → statement M
-applies-spec = tie.close (tie.spec returns returns-2 returns-3)
+applies-spec =
+    tie.close (tie.spec returns returns-2 returns-3)

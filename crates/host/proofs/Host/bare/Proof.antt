@@ -9,12 +9,6 @@ use borrow.Author.Needs.{needs}
 use Rattle.host.proofs.Host.bare.Statement.{statement}
 use Rattle.host.proofs.Host.bare.Tie as tie
 
-none-requires : tie.Need-none-requires
-none-requires c κs = search needs
-
-none-requires-2 : tie.Need-none-requires-2
-none-requires-2 c κs = search needs
-
 returns : tie.Need-returns
 unfolding bare
 returns c =
@@ -31,4 +25,5 @@ returns c =
     (c .before .none .ensures) (c .none2 .ensures)
 
 pub bare-spec : {M : Type 1} → statement M
-bare-spec = tie.close (tie.spec none-requires none-requires-2 returns)
+bare-spec =
+    tie.close (tie.spec (λ c κs. search needs) (λ c κs. search needs) returns)

@@ -9,4 +9,5 @@ unfolding noPlace
 returns c = refl
 
 pub none-spec : {M : Type 1} → statement M
-none-spec = tie.close (tie.spec returns)
+none-spec =
+    tie.close (tie.spec returns)

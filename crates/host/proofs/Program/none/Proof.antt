@@ -8,12 +8,6 @@ use borrow.Author.Needs.{needs}
 use Rattle.host.proofs.Program.none.Statement.{statement}
 use Rattle.host.proofs.Program.none.Tie as tie
 
-none-requires : tie.Need-none-requires
-none-requires c κs = search needs
-
-none-requires-2 : tie.Need-none-requires-2
-none-requires-2 c κs = search needs
-
 returns : tie.Need-returns
 unfolding noProgram
 returns c =
@@ -21,4 +15,5 @@ returns c =
     (c .before .none .ensures) (c .none2 .ensures)
 
 pub none-spec : {M : Type 1} → statement M
-none-spec = tie.close (tie.spec none-requires none-requires-2 returns)
+none-spec =
+    tie.close (tie.spec (λ c κs. search needs) (λ c κs. search needs) returns)

@@ -7,16 +7,11 @@ use borrow.Author.Needs.{needs}
 use Rattle.host.proofs.Terms.none.Statement.{statement}
 use Rattle.host.proofs.Terms.none.Tie as tie
 
-empty-requires : tie.Need-empty-requires
-empty-requires c κs = search needs
-
-none-requires : tie.Need-none-requires
-none-requires c κs = search needs
-
 returns : tie.Need-returns
 unfolding noTerms
 returns c =
     ap₂ (λ (head : Head) (prices : Prices). record { head = head; prices = prices; budget = 0; room = 0 }) (c .before .empty .ensures) (c .none .ensures)
 
 pub none-spec : {M : Type 1} → statement M
-none-spec = tie.close (tie.spec empty-requires none-requires returns)
+none-spec =
+    tie.close (tie.spec (λ c κs. search needs) (λ c κs. search needs) returns)

@@ -11,9 +11,6 @@ returns : tie.Need-returns
 unfolding hasId
 returns c = no _ _ _ (not-true _ (c .if1 .taken)) refl
 
-same-id-requires : tie.Need-same-id-requires
-same-id-requires c κs = search needs
-
 returns-2 : tie.Need-returns-2
 unfolding hasId
 returns-2 c =
@@ -21,4 +18,5 @@ returns-2 c =
     yes _ _ _ (not-false _ (at-if1 .if1 .left)) (c .same-id .ensures)
 
 pub has-id-spec : {M : Type 1} → statement M
-has-id-spec = tie.close (tie.spec returns same-id-requires returns-2)
+has-id-spec =
+    tie.close (tie.spec returns (λ c κs. search needs) returns-2)

@@ -12,9 +12,6 @@ returns : tie.Need-returns
 unfolding ownSize
 returns c = no _ _ _ (sym (no _ _ _ (not-true _ (c .if1 .taken)) refl)) refl
 
-same-id-requires : tie.Need-same-id-requires
-same-id-requires c κs = search needs
-
 returns-2 : tie.Need-returns-2
 unfolding ownSize
 returns-2 c =
@@ -28,4 +25,5 @@ returns-3 c =
     yes _ _ _ (sym (yes _ _ _ (not-false _ (at-if1 .if1 .left)) (sym (ap not (sym (c .before .same-id .ensures) ∙ c .if2 .left))))) refl
 
 pub own-size-spec : {M : Type 1} → statement M
-own-size-spec = tie.close (tie.spec returns same-id-requires returns-2 returns-3)
+own-size-spec =
+    tie.close (tie.spec returns (λ c κs. search needs) returns-2 returns-3)

@@ -20,35 +20,17 @@ abbrev μ-loop : tie.MeasureT-loop
 loop-holds : tie.Need-loop-holds Inv-loop μ-loop
 loop-holds c = ap (whose (c .args .id)) (sym (slice-all _ (c .good .0 .1 .0 .1)))
 
-mul-p : tie.Need-mul-p Inv-loop μ-loop
-mul-p c = search needs
-
-array-copy-out-p : tie.Need-array-copy-out-p Inv-loop μ-loop
-array-copy-out-p c = search needs
-
-has-id-requires : tie.Need-has-id-requires Inv-loop μ-loop
-has-id-requires c κs = tt
-
 returns : tie.Need-returns Inv-loop μ-loop
 returns c =
     let l = c .before .before .before .before .loop in
     let s = c .before .before .before .before .before in
     whose-here _ (s .args .t1) (l .i) 8 (s .good .0 .1 .0 .1) (omega arith) (sym (c .before .has-id .ensures) ∙ c .if1 .taken) ∙ sym (l .inv)
 
-add-i : tie.Need-add-i Inv-loop μ-loop
-add-i c = search needs
-
-loop-less : tie.Need-loop-less Inv-loop μ-loop
-loop-less c = search needs
-
 loop-again : tie.Need-loop-again Inv-loop μ-loop
 loop-again c =
     let l = c .before .before .before .before .loop in
     let s = c .before .before .before .before .before in
     l .inv ∙ whose-further _ (s .args .t1) (l .i) 8 (s .good .0 .1 .0 .1) (omega arith) (sym (c .before .has-id .ensures) ∙ c .if1 .left)
-
-none-requires : tie.Need-none-requires Inv-loop μ-loop
-none-requires c κs = tt
 
 returns-2 : tie.Need-returns-2 Inv-loop μ-loop
 returns-2 c =
@@ -58,17 +40,5 @@ returns-2 c =
 
 pub place-of-spec : {M : Type 1} → statement M
 place-of-spec =
-    tie.close
-    (tie.spec
-    Inv-loop
-    μ-loop
-    loop-holds
-    mul-p
-    array-copy-out-p
-    has-id-requires
-    returns
-    add-i
-    loop-less
-    loop-again
-    none-requires
-    returns-2)
+    tie.close (tie.spec Inv-loop μ-loop loop-holds (λ c. search needs) (λ c. search needs) (λ c κs. tt) returns (λ c. search needs)
+        (λ c. search needs) loop-again (λ c κs. tt) returns-2)

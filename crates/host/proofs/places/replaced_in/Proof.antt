@@ -24,27 +24,6 @@ abbrev μ-loop : tie.MeasureT-loop
 loop-holds : tie.Need-loop-holds Inv-loop μ-loop
 loop-holds c = (c .good .0 .1 .0 .1, each-none _ _)
 
-mul-q : tie.Need-mul-q Inv-loop μ-loop
-mul-q c = search needs
-
-array-copy-out-q : tie.Need-array-copy-out-q Inv-loop μ-loop
-array-copy-out-q c = search needs
-
-replacing-requires : tie.Need-replacing-requires Inv-loop μ-loop
-replacing-requires c κs = tt
-
-mul-ps : tie.Need-mul-ps Inv-loop μ-loop
-mul-ps c = search needs
-
-array-set-from-ps : tie.Need-array-set-from-ps Inv-loop μ-loop
-array-set-from-ps c = search needs
-
-add-i : tie.Need-add-i Inv-loop μ-loop
-add-i c = search needs
-
-loop-less : tie.Need-loop-less Inv-loop μ-loop
-loop-less c = search needs
-
 loop-again : tie.Need-loop-again Inv-loop μ-loop
 loop-again c =
     let l = c .before .before .before .loop in
@@ -58,21 +37,10 @@ returns : tie.Need-returns Inv-loop μ-loop
 unfolding replaced
 returns c =
     let s = c .before .before in
-    each-all (λ q. pick (hasId (s .args .id) q) (s .args .by) q) (s .args .t1) (c .before .loop .ps) (c .before .loop .i) (s .good .0 .1 .0 .1) (omega arith) (c .before .loop .inv .1)
+    each-all (λ q. pick (hasId (s .args .id) q) (s .args .by) q) (s .args .t1) (c .before .loop .ps) (c .before .loop .i) (s .good .0 .1 .0 .1)
+        (omega arith) (c .before .loop .inv .1)
 
 pub replaced-in-spec : {M : Type 1} → statement M
 replaced-in-spec =
-    tie.close
-    (tie.spec
-    Inv-loop
-    μ-loop
-    loop-holds
-    mul-q
-    array-copy-out-q
-    replacing-requires
-    mul-ps
-    array-set-from-ps
-    add-i
-    loop-less
-    loop-again
-    returns)
+    tie.close (tie.spec Inv-loop μ-loop loop-holds (λ c. search needs) (λ c. search needs) (λ c κs. tt) (λ c. search needs)
+        (λ c. search needs) (λ c. search needs) (λ c. search needs) loop-again returns)

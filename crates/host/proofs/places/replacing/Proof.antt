@@ -5,9 +5,6 @@ use borrow.Author.Needs.{needs}
 use Rattle.host.proofs.places.replacing.Statement.{statement}
 use Rattle.host.proofs.places.replacing.Tie as tie
 
-has-id-requires : tie.Need-has-id-requires
-has-id-requires c κs = search needs
-
 returns : tie.Need-returns
 returns c = yes _ _ _ (sym (c .before .has-id .ensures) ∙ c .if1 .taken) refl
 
@@ -15,4 +12,5 @@ returns-2 : tie.Need-returns-2
 returns-2 c = no _ _ _ (sym (c .before .has-id .ensures) ∙ c .if1 .left) refl
 
 pub replacing-spec : {M : Type 1} → statement M
-replacing-spec = tie.close (tie.spec has-id-requires returns returns-2)
+replacing-spec =
+    tie.close (tie.spec (λ c κs. search needs) returns returns-2)

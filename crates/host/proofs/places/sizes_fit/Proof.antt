@@ -24,26 +24,11 @@ returns c = above-first _ _ _ (c .if1 .taken)
 loop-holds : tie.Need-loop-holds Inv-loop μ-loop
 loop-holds c = fits-first (c .before .args .id) (c .before .args .t1) 8 (c .before .good .0 .1 .0 .1) _ _ (c .if1 .left)
 
-mul-p : tie.Need-mul-p Inv-loop μ-loop
-mul-p c = search needs
-
-array-copy-out-p : tie.Need-array-copy-out-p Inv-loop μ-loop
-array-copy-out-p c = search needs
-
-own-size-requires : tie.Need-own-size-requires Inv-loop μ-loop
-own-size-requires c κs = tt
-
 returns-2 : tie.Need-returns-2 Inv-loop μ-loop
 returns-2 c =
     let l = c .before .before .before .before .loop in
     let s = c .before .before .before .before .before .before in
     fits-none (s .args .id) (s .args .t1) (l .i) 8 (s .good .0 .1 .0 .1) blank _ _ (c .before .own-size .ensures) (omega arith) (c .if2 .taken) ∙ sym (l .inv)
-
-add-i : tie.Need-add-i Inv-loop μ-loop
-add-i c = search needs
-
-loop-less : tie.Need-loop-less Inv-loop μ-loop
-loop-less c = search needs
 
 loop-again : tie.Need-loop-again Inv-loop μ-loop
 loop-again c =
@@ -58,17 +43,5 @@ returns-3 c =
 
 pub sizes-fit-spec : {M : Type 1} → statement M
 sizes-fit-spec =
-    tie.close
-    (tie.spec
-    Inv-loop
-    μ-loop
-    returns
-    loop-holds
-    mul-p
-    array-copy-out-p
-    own-size-requires
-    returns-2
-    add-i
-    loop-less
-    loop-again
-    returns-3)
+    tie.close (tie.spec Inv-loop μ-loop returns loop-holds (λ c. search needs) (λ c. search needs) (λ c κs. tt) returns-2
+        (λ c. search needs) (λ c. search needs) loop-again returns-3)

@@ -14,9 +14,6 @@ Inv-loop z d₀ at₀ d at = (d ≤ 11) × (at ≡ 4096 * 2 ^ d) × (doubled 11 
 abbrev μ-loop : tie.MeasureT-loop
 μ-loop z d₀ at₀ d at = d
 
-loop-holds : tie.Need-loop-holds Inv-loop μ-loop
-loop-holds c = (omega arith, refl, refl)
-
 returns : tie.Need-returns Inv-loop μ-loop
 unfolding isSize
 returns c =
@@ -37,5 +34,5 @@ returns-2 c = sym (c .before .loop .inv .2 ∙ none _ _ (omega (arith, c .loop-t
 
 pub is-size-spec : {M : Type 1} → statement M
 is-size-spec =
-    tie.close
-    (tie.spec Inv-loop μ-loop (λ c. omega arith) loop-holds (λ c. omega arith) returns (λ c. omega arith) loop-again returns-2)
+    tie.close (tie.spec Inv-loop μ-loop (λ c. omega arith) (λ c. (omega arith, refl, refl)) (λ c. omega arith) returns (λ c. omega arith)
+        loop-again returns-2)

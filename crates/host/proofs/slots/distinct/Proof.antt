@@ -18,35 +18,15 @@ Inv-loop end items i₀ i = apart eqb (take end items) ≡ apart eqb (slice i en
 abbrev μ-loop : tie.MeasureT-loop
 μ-loop end items i₀ i = end - i
 
-loop-holds : tie.Need-loop-holds Inv-loop μ-loop
-loop-holds c = refl
-
-array-read-wide : tie.Need-array-read-wide Inv-loop μ-loop
-array-read-wide c = search needs
-
-wide-requires : tie.Need-wide-requires Inv-loop μ-loop
-wide-requires c κs = tt
-
-add-again : tie.Need-add-again Inv-loop μ-loop
-add-again c = search needs
-
-again-requires : tie.Need-again-requires Inv-loop μ-loop
-again-requires c κs = search needs
-
 returns : tie.Need-returns Inv-loop μ-loop
 returns c =
     let at-wide = c .before .before in
     let l = at-wide .before .before .loop in
     let s = at-wide .before .before .before in
     apart-stops _ (s .args .t1) (l .i) (s .args .end) 0 (s .good .0 .1 .0 .1) (omega arith) (omega arith)
-    (ap (λ (x : ℕ). some (eqb x) (slice (l .i + 1) (s .args .end) (s .args .t1))) (sym (at-wide .wide .ensures)) ∙ sym (c .before .again .ensures) ∙ c .if1 .taken)
+    (ap (λ (x : ℕ). some (eqb x) (slice (l .i + 1) (s .args .end) (s .args .t1))) (sym (at-wide .wide .ensures)) ∙ sym (c .before .again .ensures)
+        ∙ c .if1 .taken)
     ∙ sym (l .inv)
-
-add-i : tie.Need-add-i Inv-loop μ-loop
-add-i c = search needs
-
-loop-less : tie.Need-loop-less Inv-loop μ-loop
-loop-less c = search needs
 
 loop-again : tie.Need-loop-again Inv-loop μ-loop
 loop-again c =
@@ -55,7 +35,8 @@ loop-again c =
     let s = at-wide .before .before .before in
     l .inv
     ∙ apart-further _ (s .args .t1) (l .i) (s .args .end) 0 (s .good .0 .1 .0 .1) (omega arith) (omega arith)
-    (ap (λ (x : ℕ). some (eqb x) (slice (l .i + 1) (s .args .end) (s .args .t1))) (sym (at-wide .wide .ensures)) ∙ sym (c .before .again .ensures) ∙ c .if1 .left)
+    (ap (λ (x : ℕ). some (eqb x) (slice (l .i + 1) (s .args .end) (s .args .t1))) (sym (at-wide .wide .ensures)) ∙ sym (c .before .again .ensures)
+        ∙ c .if1 .left)
 
 returns-2 : tie.Need-returns-2 Inv-loop μ-loop
 returns-2 c =
@@ -64,17 +45,5 @@ returns-2 c =
 
 pub distinct-spec : {M : Type 1} → statement M
 distinct-spec =
-    tie.close
-    (tie.spec
-    Inv-loop
-    μ-loop
-    loop-holds
-    array-read-wide
-    wide-requires
-    add-again
-    again-requires
-    returns
-    add-i
-    loop-less
-    loop-again
-    returns-2)
+    tie.close (tie.spec Inv-loop μ-loop (λ c. refl) (λ c. search needs) (λ c κs. tt) (λ c. search needs) (λ c κs. search needs) returns
+        (λ c. search needs) (λ c. search needs) loop-again returns-2)

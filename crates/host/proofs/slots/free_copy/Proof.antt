@@ -21,9 +21,6 @@ abbrev μ-loop : tie.MeasureT-loop
 loop-holds : tie.Need-loop-holds Inv-loop μ-loop
 loop-holds c = (omega arith, ap (lowest _ 0) (sym (sub-zero _)))
 
-staged-in-requires : tie.Need-staged-in-requires Inv-loop μ-loop
-staged-in-requires c κs = tt
-
 returns : tie.Need-returns Inv-loop μ-loop
 unfolding freeCopy
 returns c =
@@ -32,18 +29,13 @@ returns c =
     lowest-here (unused (s .args .staged)) (l .i) (s .args .stage) (omega arith) (ap not (sym (c .before .staged-in .ensures)) ∙ c .if1 .taken)
     ∙ sym (l .inv .1)
 
-add-i : tie.Need-add-i Inv-loop μ-loop
-add-i c = search needs
-
-loop-less : tie.Need-loop-less Inv-loop μ-loop
-loop-less c = search needs
-
 loop-again : tie.Need-loop-again Inv-loop μ-loop
 loop-again c =
     let l = c .before .before .before .loop in
     let s = c .before .before .before .before in (
       omega arith,
-      l .inv .1 ∙ sym (lowest-further (unused (s .args .staged)) (l .i) (s .args .stage) (omega arith) (ap not (sym (c .before .staged-in .ensures)) ∙ c .if1 .left)),
+      l .inv .1 ∙ sym (lowest-further (unused (s .args .staged)) (l .i) (s .args .stage) (omega arith)
+          (ap not (sym (c .before .staged-in .ensures)) ∙ c .if1 .left)),
     )
 
 returns-2 : tie.Need-returns-2 Inv-loop μ-loop
@@ -54,14 +46,4 @@ returns-2 c =
 
 pub free-copy-spec : {M : Type 1} → statement M
 free-copy-spec =
-    tie.close
-    (tie.spec
-    Inv-loop
-    μ-loop
-    loop-holds
-    staged-in-requires
-    returns
-    add-i
-    loop-less
-    loop-again
-    returns-2)
+    tie.close (tie.spec Inv-loop μ-loop loop-holds (λ c κs. tt) returns (λ c. search needs) (λ c. search needs) loop-again returns-2)

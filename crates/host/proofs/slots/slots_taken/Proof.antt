@@ -51,16 +51,5 @@ returns c =
 
 pub slots-taken-spec : {M : Type 1} → statement M
 slots-taken-spec =
-    tie.close
-    (tie.spec
-    Inv-loop
-    μ-loop
-    loop-holds
-    (λ c. search needs)
-    (λ c. search needs)
-    slice-aggregate-with-slots
-    with-slots-requires
-    (λ c. search needs)
-    (λ c. search needs)
-    loop-again
-    returns)
+    tie.close (tie.spec Inv-loop μ-loop loop-holds (λ c. search needs) (λ c. search needs) slice-aggregate-with-slots with-slots-requires
+        (λ c. search needs) (λ c. search needs) loop-again returns)

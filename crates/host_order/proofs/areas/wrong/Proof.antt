@@ -12,4 +12,5 @@ returns-2 : tie.Need-returns-2
 returns-2 c = yes _ _ _ (not-false _ (c .if1 .left)) refl
 
 pub wrong-spec : {M : Type 1} → statement M
-wrong-spec = tie.close (tie.spec returns returns-2)
+wrong-spec =
+    tie.close (tie.spec returns returns-2)

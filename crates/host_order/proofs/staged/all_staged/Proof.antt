@@ -20,29 +20,19 @@ Inv-loop from end staged i₀ i = every (λ n. not (eqb n none)) (slice from end
 abbrev μ-loop : tie.MeasureT-loop
 μ-loop from end staged i₀ i = end - i
 
-loop-holds : tie.Need-loop-holds Inv-loop μ-loop
-loop-holds c = refl
-
-array-read-if1 : tie.Need-array-read-if1 Inv-loop μ-loop
-array-read-if1 c = search needs
-
 returns : tie.Need-returns Inv-loop μ-loop
 returns c =
     let l = c .before .before .loop in
     let s = c .before .before .before in
-    every-stops (λ n. not (eqb n none)) (s .args .t1) (l .i) (s .args .end) 0 (s .good .0 .1 .0 .1) (omega arith) (omega arith) (ap not (eq-eqb _ none (c .if1 .taken))) ∙ sym (l .inv)
-
-add-i : tie.Need-add-i Inv-loop μ-loop
-add-i c = search needs
-
-loop-less : tie.Need-loop-less Inv-loop μ-loop
-loop-less c = search needs
+    every-stops (λ n. not (eqb n none)) (s .args .t1) (l .i) (s .args .end) 0 (s .good .0 .1 .0 .1) (omega arith) (omega arith)
+        (ap not (eq-eqb _ none (c .if1 .taken))) ∙ sym (l .inv)
 
 loop-again : tie.Need-loop-again Inv-loop μ-loop
 loop-again c =
     let l = c .before .before .loop in
     let s = c .before .before .before in
-    l .inv ∙ every-further (λ n. not (eqb n none)) (s .args .t1) (l .i) (s .args .end) 0 (s .good .0 .1 .0 .1) (omega arith) (omega arith) (ap not (ne-eqb _ none (c .if1 .left)))
+    l .inv ∙ every-further (λ n. not (eqb n none)) (s .args .t1) (l .i) (s .args .end) 0 (s .good .0 .1 .0 .1) (omega arith) (omega arith)
+        (ap not (ne-eqb _ none (c .if1 .left)))
 
 returns-2 : tie.Need-returns-2 Inv-loop μ-loop
 returns-2 c =
@@ -51,14 +41,5 @@ returns-2 c =
 
 pub all-staged-spec : {M : Type 1} → statement M
 all-staged-spec =
-    tie.close
-    (tie.spec
-    Inv-loop
-    μ-loop
-    loop-holds
-    array-read-if1
-    returns
-    add-i
-    loop-less
-    loop-again
-    returns-2)
+    tie.close (tie.spec Inv-loop μ-loop (λ c. refl) (λ c. search needs) returns (λ c. search needs) (λ c. search needs) loop-again
+        returns-2)

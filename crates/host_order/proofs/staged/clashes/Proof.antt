@@ -23,4 +23,5 @@ returns-3 c =
     yes _ _ _ (ap not (ne-eqb _ none (c .before .if1 .left))) (yes _ _ _ (ap not (ne-eqb _ none (c .if2 .left))) refl)
 
 pub clashes-spec : {M : Type 1} → statement M
-clashes-spec = tie.close (tie.spec returns returns-2 returns-3)
+clashes-spec =
+    tie.close (tie.spec returns returns-2 returns-3)

@@ -17,32 +17,19 @@ Inv-loop from x staged i₀ i = some (clash x) (slice from 64 staged) ≡ some (
 abbrev μ-loop : tie.MeasureT-loop
 μ-loop from x staged i₀ i = 64 - i
 
-loop-holds : tie.Need-loop-holds Inv-loop μ-loop
-loop-holds c = refl
-
-array-read-clashes : tie.Need-array-read-clashes Inv-loop μ-loop
-array-read-clashes c = search needs
-
-clashes-requires : tie.Need-clashes-requires Inv-loop μ-loop
-clashes-requires c κs = tt
-
 returns : tie.Need-returns Inv-loop μ-loop
 returns c =
     let l = c .before .before .before .loop in
     let s = c .before .before .before .before in
-    some-here (clash _) (s .args .t1) (l .i) 64 0 (s .good .0 .1 .0 .1) (omega arith) (omega arith) (sym (c .before .clashes .ensures) ∙ c .if1 .taken) ∙ sym (l .inv)
-
-add-i : tie.Need-add-i Inv-loop μ-loop
-add-i c = search needs
-
-loop-less : tie.Need-loop-less Inv-loop μ-loop
-loop-less c = search needs
+    some-here (clash _) (s .args .t1) (l .i) 64 0 (s .good .0 .1 .0 .1) (omega arith) (omega arith)
+        (sym (c .before .clashes .ensures) ∙ c .if1 .taken) ∙ sym (l .inv)
 
 loop-again : tie.Need-loop-again Inv-loop μ-loop
 loop-again c =
     let l = c .before .before .before .loop in
     let s = c .before .before .before .before in
-    l .inv ∙ some-further (clash _) (s .args .t1) (l .i) 64 0 (s .good .0 .1 .0 .1) (omega arith) (omega arith) (sym (c .before .clashes .ensures) ∙ c .if1 .left)
+    l .inv ∙ some-further (clash _) (s .args .t1) (l .i) 64 0 (s .good .0 .1 .0 .1) (omega arith) (omega arith)
+        (sym (c .before .clashes .ensures) ∙ c .if1 .left)
 
 returns-2 : tie.Need-returns-2 Inv-loop μ-loop
 returns-2 c =
@@ -51,15 +38,5 @@ returns-2 c =
 
 pub has-clash-spec : {M : Type 1} → statement M
 has-clash-spec =
-    tie.close
-    (tie.spec
-    Inv-loop
-    μ-loop
-    loop-holds
-    array-read-clashes
-    clashes-requires
-    returns
-    add-i
-    loop-less
-    loop-again
-    returns-2)
+    tie.close (tie.spec Inv-loop μ-loop (λ c. refl) (λ c. search needs) (λ c κs. tt) returns (λ c. search needs) (λ c. search needs)
+        loop-again returns-2)

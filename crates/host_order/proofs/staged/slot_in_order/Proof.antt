@@ -14,9 +14,6 @@ returns : tie.Need-returns
 unfolding slotInOrder
 returns c = yes _ _ _ (eq-eqb _ none (c .if1 .taken)) refl
 
-wide-requires : tie.Need-wide-requires
-wide-requires c κs = search needs
-
 returns-2 : tie.Need-returns-2
 unfolding slotInOrder
 returns-2 c =
@@ -24,4 +21,5 @@ returns-2 c =
     no _ _ _ (ne-eqb _ none (c .before .if1 .left)) (ap (λ (n : ℕ). ltb n (s .args .stage)) (c .wide .ensures))
 
 pub slot-in-order-spec : {M : Type 1} → statement M
-slot-in-order-spec = tie.close (tie.spec returns wide-requires returns-2)
+slot-in-order-spec =
+    tie.close (tie.spec returns (λ c κs. search needs) returns-2)

@@ -21,29 +21,19 @@ abbrev μ-loop : tie.MeasureT-loop
 loop-holds : tie.Need-loop-holds Inv-loop μ-loop
 loop-holds c = ap (every (slotInOrder (c .args .stage))) (sym (slice-all (c .args .t1) (c .good .0 .1 .0 .1)))
 
-array-read-slot-in-order : tie.Need-array-read-slot-in-order Inv-loop μ-loop
-array-read-slot-in-order c = search needs
-
-slot-in-order-requires : tie.Need-slot-in-order-requires Inv-loop μ-loop
-slot-in-order-requires c κs = tt
-
 returns : tie.Need-returns Inv-loop μ-loop
 returns c =
     let l = c .before .before .before .loop in
     let s = c .before .before .before .before in
-    every-stops (slotInOrder (s .args .stage)) (s .args .t1) (l .i) 64 0 (s .good .0 .1 .0 .1) (omega arith) (omega arith) (sym (c .before .slot-in-order .ensures) ∙ not-true _ (c .if1 .taken)) ∙ sym (l .inv)
-
-add-i : tie.Need-add-i Inv-loop μ-loop
-add-i c = search needs
-
-loop-less : tie.Need-loop-less Inv-loop μ-loop
-loop-less c = search needs
+    every-stops (slotInOrder (s .args .stage)) (s .args .t1) (l .i) 64 0 (s .good .0 .1 .0 .1) (omega arith) (omega arith)
+        (sym (c .before .slot-in-order .ensures) ∙ not-true _ (c .if1 .taken)) ∙ sym (l .inv)
 
 loop-again : tie.Need-loop-again Inv-loop μ-loop
 loop-again c =
     let l = c .before .before .before .loop in
     let s = c .before .before .before .before in
-    l .inv ∙ every-further (slotInOrder (s .args .stage)) (s .args .t1) (l .i) 64 0 (s .good .0 .1 .0 .1) (omega arith) (omega arith) (sym (c .before .slot-in-order .ensures) ∙ not-false _ (c .if1 .left))
+    l .inv ∙ every-further (slotInOrder (s .args .stage)) (s .args .t1) (l .i) 64 0 (s .good .0 .1 .0 .1) (omega arith) (omega arith)
+        (sym (c .before .slot-in-order .ensures) ∙ not-false _ (c .if1 .left))
 
 returns-2 : tie.Need-returns-2 Inv-loop μ-loop
 returns-2 c =
@@ -52,15 +42,5 @@ returns-2 c =
 
 pub slots-in-order-spec : {M : Type 1} → statement M
 slots-in-order-spec =
-    tie.close
-    (tie.spec
-    Inv-loop
-    μ-loop
-    loop-holds
-    array-read-slot-in-order
-    slot-in-order-requires
-    returns
-    add-i
-    loop-less
-    loop-again
-    returns-2)
+    tie.close (tie.spec Inv-loop μ-loop loop-holds (λ c. search needs) (λ c κs. tt) returns (λ c. search needs) (λ c. search needs)
+        loop-again returns-2)

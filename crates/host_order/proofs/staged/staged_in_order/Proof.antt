@@ -8,15 +8,9 @@ use borrow.Author.Needs.{needs}
 use Rattle.host_order.proofs.staged.staged_in_order.Statement.{statement}
 use Rattle.host_order.proofs.staged.staged_in_order.Tie as tie
 
-slots-in-order-requires : tie.Need-slots-in-order-requires
-slots-in-order-requires c κs = search needs
-
 returns : tie.Need-returns
 unfolding stagedInOrder
 returns c = no _ _ _ (sym (c .before .slots-in-order .ensures) ∙ not-true _ (c .if1 .taken)) refl
-
-no-clash-requires : tie.Need-no-clash-requires
-no-clash-requires c κs = search needs
 
 returns-2 : tie.Need-returns-2
 unfolding stagedInOrder
@@ -25,12 +19,6 @@ returns-2 c =
     let at-slots-in-order = at-if1 .before in
     yes _ _ _ (sym (at-slots-in-order .slots-in-order .ensures) ∙ not-false _ (at-if1 .if1 .left))
     (no _ _ _ (sym (c .before .no-clash .ensures) ∙ not-true _ (c .if2 .taken)) refl)
-
-sectors-requires : tie.Need-sectors-requires
-sectors-requires c κs = search needs
-
-none-from-requires : tie.Need-none-from-requires
-none-from-requires c κs = search needs
 
 returns-3 : tie.Need-returns-3
 unfolding stagedInOrder
@@ -43,7 +31,8 @@ returns-3 c =
     let s = at-slots-in-order .before in
     yes _ _ _ (sym (at-slots-in-order .slots-in-order .ensures) ∙ not-false _ (at-if1 .if1 .left))
     (yes _ _ _ (sym (at-no-clash .no-clash .ensures) ∙ not-false _ (at-if2 .if2 .left))
-    (no _ _ _ (sym (every-behind _ (s .args .staged) _ 64 _ (s .good .1 .1 .1 .1 .0 .1 .0 .1) (at-sectors .sectors .ensures .0)) ∙ sym (c .before .none-from .ensures) ∙ not-true _ (c .if3 .taken)) refl))
+    (no _ _ _ (sym (every-behind _ (s .args .staged) _ 64 _ (s .good .1 .1 .1 .1 .0 .1 .0 .1) (at-sectors .sectors .ensures .0))
+        ∙ sym (c .before .none-from .ensures) ∙ not-true _ (c .if3 .taken)) refl))
 
 all-staged-requires : tie.Need-all-staged-requires
 all-staged-requires c κs =
@@ -62,19 +51,11 @@ returns-4 c =
     let s = at-slots-in-order .before in
     yes _ _ _ (sym (at-slots-in-order .slots-in-order .ensures) ∙ not-false _ (at-if1 .if1 .left))
     (yes _ _ _ (sym (at-no-clash .no-clash .ensures) ∙ not-false _ (at-if2 .if2 .left))
-    (yes _ _ _ (sym (every-behind _ (s .args .staged) _ 64 _ (s .good .1 .1 .1 .1 .0 .1 .0 .1) (at-sectors .sectors .ensures .0)) ∙ sym (at-none-from .none-from .ensures) ∙ not-false _ (c .before .if3 .left))
+    (yes _ _ _ (sym (every-behind _ (s .args .staged) _ 64 _ (s .good .1 .1 .1 .1 .0 .1 .0 .1) (at-sectors .sectors .ensures .0))
+        ∙ sym (at-none-from .none-from .ensures) ∙ not-false _ (c .before .if3 .left))
     (c .all-staged .ensures ∙ every-between _ (s .args .staged) _ 64 _ (s .good .1 .1 .1 .1 .0 .1 .0 .1) (at-sectors .sectors .ensures .0) (s .args .start))))
 
 pub staged-in-order-spec : {M : Type 1} → statement M
 staged-in-order-spec =
-    tie.close
-    (tie.spec
-    slots-in-order-requires
-    returns
-    no-clash-requires
-    returns-2
-    sectors-requires
-    none-from-requires
-    returns-3
-    all-staged-requires
-    returns-4)
+    tie.close (tie.spec (λ c κs. search needs) returns (λ c κs. search needs) returns-2 (λ c κs. search needs) (λ c κs. search needs)
+        returns-3 all-staged-requires returns-4)

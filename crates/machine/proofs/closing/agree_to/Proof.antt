@@ -24,7 +24,8 @@ tested is its e p q = sym (e ∙ ap₂ samePair p q)
 abbrev start : tie.After-starting-pair → tie.Start
 start c = c .before .before .before
 
-started : (c : tie.After-starting-pair) → let a = start c .args in c .starting-pair .result ≡ startingPair (a .host .sector) (settingOf (a .host) (a .disk .now))
+started : (c : tie.After-starting-pair) → let a = start c .args in c .starting-pair .result
+    ≡ startingPair (a .host .sector) (settingOf (a .host) (a .disk .now))
 started c = let a = start c .args in c .starting-pair .ensures ∙ starting-any (a .host) (a .disk .now)
 
 reached : (c : tie.After-running-pair) → let a = start (c .before) .args in let s = settingOf (a .host) (a .disk .now) in
@@ -40,12 +41,6 @@ starting-pair-requires c κs = c .before .before .pre .order
 running-pair-requires : tie.Need-running-pair-requires
 running-pair-requires c κs = let asked = c .before .before .before .pre in (asked .order, asked .live)
 
-same-pair-requires : tie.Need-same-pair-requires
-same-pair-requires c κs = search needs
-
-give-up-requires : tie.Need-give-up-requires
-give-up-requires c κs = search needs
-
 returns : tie.Need-returns
 unfolding agreedBy givenUp
 returns c =
@@ -54,12 +49,6 @@ returns c =
     let disk = start (pairs .before) .args .disk .now in
     ap (λ (r : Closing). closeLeaves r disk) (c .give-up .ensures)
     ∙ yes _ _ _ (tested _ _ (then .same-pair .ensures) (reached pairs) (started (pairs .before)) ∙ c .before .if1 .taken) refl
-
-same-pair-requires-2 : tie.Need-same-pair-requires-2
-same-pair-requires-2 c κs = search needs
-
-give-up-requires-2 : tie.Need-give-up-requires-2
-give-up-requires-2 c κs = search needs
 
 returns-2 : tie.Need-returns-2
 unfolding agreedBy givenUp
@@ -71,12 +60,6 @@ returns-2 c =
     ap (λ (r : Closing). closeLeaves r disk) (c .give-up2 .ensures)
     ∙ no _ _ _ (tested _ _ (then .same-pair .ensures) (reached pairs) (started (pairs .before)) ∙ else .before .before .if1 .left)
     (no _ _ _ (tested _ _ (else .before .same-pair2 .ensures) refl (reached pairs) ∙ not-true _ (else .if2 .taken)) refl)
-
-commit-requires : tie.Need-commit-requires
-commit-requires c κs = search needs
-
-same-length : tie.Need-same-length
-same-length c = search needs
 
 returns-3 : tie.Need-returns-3
 unfolding agreedBy givenUp
@@ -91,16 +74,5 @@ returns-3 c =
 
 pub agree-to-spec : {M : Type 1} → statement M
 agree-to-spec =
-    tie.close
-    (tie.spec
-    starting-pair-requires
-    running-pair-requires
-    same-pair-requires
-    give-up-requires
-    returns
-    same-pair-requires-2
-    give-up-requires-2
-    returns-2
-    commit-requires
-    same-length
-    returns-3)
+    tie.close (tie.spec starting-pair-requires running-pair-requires (λ c κs. search needs) (λ c κs. search needs) returns
+        (λ c κs. search needs) (λ c κs. search needs) returns-2 (λ c κs. search needs) (λ c. search needs) returns-3)

@@ -13,12 +13,6 @@ use borrow.Author.Needs.{needs}
 use Rattle.machine.proofs.closing.close.Statement.{statement}
 use Rattle.machine.proofs.closing.close.Tie as tie
 
-in-order-requires : tie.Need-in-order-requires
-in-order-requires c κs = search needs
-
-refused-requires : tie.Need-refused-requires
-refused-requires c κs = search needs
-
 returns : tie.Need-returns
 unfolding closeBy areasRight diskRight givenUp
 returns c =
@@ -30,12 +24,6 @@ areas-right-requires c κs =
     let o = order-facts _ (sym (c .before .before .in-order .ensures) ∙ not-false _ (c .before .if1 .left)) in
     (o .size, (o .diskMost, omega (arith, o .stageMost)))
 
-refused-requires-2 : tie.Need-refused-requires-2
-refused-requires-2 c κs = search needs
-
-same-length : tie.Need-same-length
-same-length c = search needs
-
 returns-2 : tie.Need-returns-2
 unfolding closeBy areasRight diskRight givenUp
 returns-2 c =
@@ -43,66 +31,58 @@ returns-2 c =
     (yes _ _ _ (ap not (sym (c .before .before .areas-right .ensures)) ∙ c .before .if2 .taken)
     (ap (λ (r : Closing). closeLeaves r (c .before .before .before .before .before .before .before .before .args .disk .now)) (c .refused2 .ensures)))
 
-refused-requires-3 : tie.Need-refused-requires-3
-refused-requires-3 c κs = search needs
-
-same-length-2 : tie.Need-same-length-2
-same-length-2 c = search needs
-
 returns-3 : tie.Need-returns-3
 unfolding closeBy areasRight diskRight givenUp
 returns-3 c =
-    no _ _ _ (ap not (sym (c .before .before .before .before .before .before .before .before .in-order .ensures)) ∙ c .before .before .before .before .before .before .before .if1 .left)
+    no _ _ _ (ap not (sym (c .before .before .before .before .before .before .before .before .in-order .ensures))
+        ∙ c .before .before .before .before .before .before .before .if1 .left)
     (no _ _ _ (ap not (sym (c .before .before .before .before .before .areas-right .ensures)) ∙ c .before .before .before .before .if2 .left)
     (yes _ _ _ (c .before .if3 .taken)
-    (ap (λ (r : Closing). closeLeaves r (c .before .before .before .before .before .before .before .before .before .before .before .args .disk .now)) (c .refused3 .ensures))))
-
-give-up-requires : tie.Need-give-up-requires
-give-up-requires c κs = search needs
-
-same-length-3 : tie.Need-same-length-3
-same-length-3 c = search needs
+    (ap (λ (r : Closing). closeLeaves r (c .before .before .before .before .before .before .before .before .before .before .before .args .disk .now))
+        (c .refused3 .ensures))))
 
 returns-4 : tie.Need-returns-4
 unfolding closeBy areasRight diskRight givenUp
 returns-4 c =
-    no _ _ _ (ap not (sym (c .before .before .before .before .before .before .before .before .before .in-order .ensures)) ∙ c .before .before .before .before .before .before .before .before .if1 .left)
+    no _ _ _ (ap not (sym (c .before .before .before .before .before .before .before .before .before .in-order .ensures))
+        ∙ c .before .before .before .before .before .before .before .before .if1 .left)
     (no _ _ _ (ap not (sym (c .before .before .before .before .before .before .areas-right .ensures)) ∙ c .before .before .before .before .before .if2 .left)
     (no _ _ _ (c .before .before .if3 .left)
     (yes _ _ _ (c .before .if4 .taken)
-    (ap (λ (r : Closing). closeLeaves r (c .before .before .before .before .before .before .before .before .before .before .before .before .args .disk .now)) (c .give-up .ensures)))))
-
-unfinished-requires : tie.Need-unfinished-requires
-unfinished-requires c κs = search needs
-
-refused-requires-4 : tie.Need-refused-requires-4
-refused-requires-4 c κs = search needs
-
-same-length-4 : tie.Need-same-length-4
-same-length-4 c = search needs
+    (ap (λ (r : Closing). closeLeaves r
+        (c .before .before .before .before .before .before .before .before .before .before .before .before .args .disk .now)) (c .give-up .ensures)))))
 
 returns-5 : tie.Need-returns-5
 unfolding closeBy areasRight diskRight givenUp
 returns-5 c =
-    no _ _ _ (ap not (sym (c .before .before .before .before .before .before .before .before .before .before .before .in-order .ensures)) ∙ c .before .before .before .before .before .before .before .before .before .before .if1 .left)
-    (no _ _ _ (ap not (sym (c .before .before .before .before .before .before .before .before .areas-right .ensures)) ∙ c .before .before .before .before .before .before .before .if2 .left)
+    no _ _ _ (ap not (sym (c .before .before .before .before .before .before .before .before .before .before .before .in-order .ensures))
+        ∙ c .before .before .before .before .before .before .before .before .before .before .if1 .left)
+    (no _ _ _ (ap not (sym (c .before .before .before .before .before .before .before .before .areas-right .ensures))
+        ∙ c .before .before .before .before .before .before .before .if2 .left)
     (no _ _ _ (c .before .before .before .before .if3 .left)
     (no _ _ _ (c .before .before .before .if4 .left)
     (yes _ _ _ (sym (c .before .before .unfinished .ensures) ∙ c .before .if5 .taken)
-    (ap (λ (r : Closing). closeLeaves r (c .before .before .before .before .before .before .before .before .before .before .before .before .before .before .args .disk .now)) (c .refused4 .ensures))))))
+    (ap (λ (r : Closing). closeLeaves r
+        (c .before .before .before .before .before .before .before .before .before .before .before .before .before .before .args .disk .now))
+        (c .refused4 .ensures))))))
 
 agree-to-requires : tie.Need-agree-to-requires
 unfolding areasRight diskRight
-agree-to-requires c κs = record { order = sym (c .before .before .before .before .before .before .before .before .before .before .before .in-order .ensures) ∙ not-false _ (c .before .before .before .before .before .before .before .before .before .before .if1 .left); areas = sym (c .before .before .before .before .before .before .before .before .areas-right .ensures) ∙ not-false _ (c .before .before .before .before .before .before .before .if2 .left); live = not-false _ (c .before .before .before .before .if3 .left) }
-
-same-length-5 : tie.Need-same-length-5
-same-length-5 c = search needs
+agree-to-requires c κs =
+    record { order = sym (c .before .before .before .before .before .before .before .before .before .before .before .in-order .ensures)
+    ∙ not-false _ (c .before .before .before .before .before .before .before .before .before .before .if1 .left); areas =
+    sym (c .before .before .before .before .before .before .before .before .areas-right .ensures)
+    ∙ not-false _ (c .before .before .before .before .before .before .before .if2 .left); live =
+    not-false _ (c .before .before .before .before .if3 .left) }
 
 returns-6 : tie.Need-returns-6
 unfolding closeBy areasRight diskRight givenUp
 returns-6 c =
-    no _ _ _ (ap not (sym (c .before .before .before .before .before .before .before .before .before .before .before .before .before .before .in-order .ensures)) ∙ c .before .before .before .before .before .before .before .before .before .before .before .before .before .if1 .left)
-    (no _ _ _ (ap not (sym (c .before .before .before .before .before .before .before .before .before .before .before .areas-right .ensures)) ∙ c .before .before .before .before .before .before .before .before .before .before .if2 .left)
+    no _ _ _ (ap not (sym
+        (c .before .before .before .before .before .before .before .before .before .before .before .before .before .before .in-order .ensures))
+        ∙ c .before .before .before .before .before .before .before .before .before .before .before .before .before .if1 .left)
+    (no _ _ _ (ap not (sym (c .before .before .before .before .before .before .before .before .before .before .before .areas-right .ensures))
+        ∙ c .before .before .before .before .before .before .before .before .before .before .if2 .left)
     (no _ _ _ (c .before .before .before .before .before .before .before .if3 .left)
     (no _ _ _ (c .before .before .before .before .before .before .if4 .left)
     (no _ _ _ (sym (c .before .before .before .before .before .unfinished .ensures) ∙ c .before .before .before .before .if5 .left)
@@ -110,25 +90,7 @@ returns-6 c =
 
 pub close-spec : {M : Type 1} → statement M
 close-spec =
-    tie.close
-    (tie.spec
-    in-order-requires
-    refused-requires
-    returns
-    areas-right-requires
-    refused-requires-2
-    same-length
-    returns-2
-    refused-requires-3
-    same-length-2
-    returns-3
-    give-up-requires
-    same-length-3
-    returns-4
-    unfinished-requires
-    refused-requires-4
-    same-length-4
-    returns-5
-    agree-to-requires
-    same-length-5
-    returns-6)
+    tie.close (tie.spec (λ c κs. search needs) (λ c κs. search needs) returns areas-right-requires (λ c κs. search needs)
+        (λ c. search needs) returns-2 (λ c κs. search needs) (λ c. search needs) returns-3 (λ c κs. search needs) (λ c. search needs)
+        returns-4 (λ c κs. search needs) (λ c κs. search needs) (λ c. search needs) returns-5 agree-to-requires (λ c. search needs)
+        returns-6)

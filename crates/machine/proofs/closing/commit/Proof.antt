@@ -59,10 +59,12 @@ copy-back-requires c κs =
     backs _ (host at) _ (declared at) (r .order) (r .areas) (r .live) (at .place-of .ensures) (slots .final-slots .ensures)
 
 slice-aggregate-copy-back : tie.Need-slice-aggregate-copy-back
-slice-aggregate-copy-back c = let at = c .before .before .before .before .before .before .before .before .before .before .before in sym (stage-rooted (host at) _ (start at .good .0))
+slice-aggregate-copy-back c = let at = c .before .before .before .before .before .before .before .before .before .before .before in
+    sym (stage-rooted (host at) _ (start at .good .0))
 
 slice-aggregate-copy-back-2 : tie.Need-slice-aggregate-copy-back-2
-slice-aggregate-copy-back-2 c = let at = c .before .before .before .before .before .before .before .before .before .before .before .before in sym (disk-rooted (host at) _ (start at .good .0))
+slice-aggregate-copy-back-2 c = let at = c .before .before .before .before .before .before .before .before .before .before .before .before in
+    sym (disk-rooted (host at) _ (start at .good .0))
 
 copy-back-requires-2 : tie.Need-copy-back-requires-2
 copy-back-requires-2 c κs =
@@ -93,18 +95,6 @@ returns c =
 
 pub commit-spec : {M : Type 1} → statement M
 commit-spec =
-    tie.close
-    (tie.spec
-    (λ c κs. search needs)
-    final-slots-requires
-    (λ c κs. search needs)
-    (λ c κs. search needs)
-    growth-requires
-    div-count
-    copy-back-requires
-    slice-aggregate-copy-back
-    slice-aggregate-copy-back-2
-    copy-back-requires-2
-    (λ c κs. search needs)
-    (λ c. search needs)
-    returns)
+    tie.close (tie.spec (λ c κs. search needs) final-slots-requires (λ c κs. search needs) (λ c κs. search needs) growth-requires div-count
+        copy-back-requires slice-aggregate-copy-back slice-aggregate-copy-back-2 copy-back-requires-2 (λ c κs. search needs)
+        (λ c. search needs) returns)

@@ -8,15 +8,14 @@ use borrow.Author.Needs.{needs}
 use Rattle.machine.proofs.closing.give_up.Statement.{statement}
 use Rattle.machine.proofs.closing.give_up.Tie as tie
 
-none-requires : tie.Need-none-requires
-none-requires c κs = search needs
-
 returns : tie.Need-returns
 unfolding withProgram
 returns c =
     let a = c .before .before .before .args in
-    let made : Program → Closing = λ g. record { number = a .number; tally = a .host .program .progress .tally; growth = pos 0; host = withProgram (a .host) g } in
+    let made : Program → Closing = λ g. record { number = a .number; tally = a .host .program .progress .tally; growth = pos 0;
+        host = withProgram (a .host) g } in
     ap made (c .none .ensures)
 
 pub give-up-spec : {M : Type 1} → statement M
-give-up-spec = tie.close (tie.spec none-requires returns)
+give-up-spec =
+    tie.close (tie.spec (λ c κs. search needs) returns)

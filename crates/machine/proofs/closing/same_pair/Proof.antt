@@ -11,15 +11,6 @@ returns : tie.Need-returns
 unfolding samePair
 returns c = no _ _ _ (ne-eqb _ _ (c .if1 .taken)) refl
 
-slice-aggregate-same : tie.Need-slice-aggregate-same
-slice-aggregate-same c = search needs
-
-slice-aggregate-same-2 : tie.Need-slice-aggregate-same-2
-slice-aggregate-same-2 c = search needs
-
-same-requires : tie.Need-same-requires
-same-requires c κs = search needs
-
 returns-2 : tie.Need-returns-2
 unfolding samePair
 returns-2 c =
@@ -28,5 +19,4 @@ returns-2 c =
 
 pub same-pair-spec : {M : Type 1} → statement M
 same-pair-spec =
-    tie.close
-    (tie.spec returns slice-aggregate-same slice-aggregate-same-2 same-requires returns-2)
+    tie.close (tie.spec returns (λ c. search needs) (λ c. search needs) (λ c κs. search needs) returns-2)

@@ -10,12 +10,10 @@ returns : tie.Need-returns
 unfolding unfinished
 returns c = yes _ _ _ (c .if1 .taken) refl
 
-going-requires : tie.Need-going-requires
-going-requires c κs = search needs
-
 returns-2 : tie.Need-returns-2
 unfolding unfinished
 returns-2 c = no _ _ _ (c .before .if1 .left) (c .going .ensures)
 
 pub unfinished-spec : {M : Type 1} → statement M
-unfinished-spec = tie.close (tie.spec returns going-requires returns-2)
+unfinished-spec =
+    tie.close (tie.spec returns (λ c κs. search needs) returns-2)

@@ -22,24 +22,12 @@ loop-holds c =
     let s = c .before .before in
     (omega arith, refl, ap (λ (m : ℕ). copiedBack (s .args .z) (s .args .stage .now) (s .args .t3) (s .args .t4) 0 m (s .args .disk .now)) (sym (sub-zero _)))
 
-array-read-one-back : tie.Need-array-read-one-back Inv-loop μ-loop
-array-read-one-back c = omega arith
-
-array-read-one-back-2 : tie.Need-array-read-one-back-2 Inv-loop μ-loop
-array-read-one-back-2 c = omega arith
-
 one-back-requires : tie.Need-one-back-requires Inv-loop μ-loop
 one-back-requires c κs =
     let l = c .before .before .loop in
     let s = c .before .before .before .before .before in
     next-lies (s .args .z) (s .args .stage .now) (s .args .t3) (s .args .t4) (s .args .n) (l .i)
     (s .good .1 .1 .0 .1 .0 .1) (s .pre .few) _ _ (omega arith) (s .pre) (l .inv .1)
-
-add-i : tie.Need-add-i Inv-loop μ-loop
-add-i c = omega arith
-
-loop-less : tie.Need-loop-less Inv-loop μ-loop
-loop-less c = omega arith
 
 loop-again : tie.Need-loop-again Inv-loop μ-loop
 loop-again c =
@@ -52,9 +40,6 @@ loop-again c =
           (omega arith) (c .before .before .one-back .ensures),
     )
 
-same-length : tie.Need-same-length Inv-loop μ-loop
-same-length c = search needs
-
 returns : tie.Need-returns Inv-loop μ-loop
 returns c =
     let l = c .before .loop in
@@ -62,16 +47,5 @@ returns c =
 
 pub copy-back-spec : {M : Type 1} → statement M
 copy-back-spec =
-    tie.close
-    (tie.spec
-    Inv-loop
-    μ-loop
-    loop-holds
-    array-read-one-back
-    array-read-one-back-2
-    one-back-requires
-    add-i
-    loop-less
-    loop-again
-    same-length
-    returns)
+    tie.close (tie.spec Inv-loop μ-loop loop-holds (λ c. omega arith) (λ c. omega arith) one-back-requires (λ c. omega arith)
+        (λ c. omega arith) loop-again (λ c. search needs) returns)

@@ -25,4 +25,5 @@ returns-3 c =
     (omega (arith, n), omega arith)
 
 pub count-spec : {M : Type 1} → statement M
-count-spec = tie.close (tie.spec returns (λ c. search needs) returns-2 returns-3)
+count-spec =
+    tie.close (tie.spec returns (λ c. search needs) returns-2 returns-3)

@@ -20,4 +20,5 @@ returns-2 c =
     let e : s .args .size ≡ min (s .args .place .size) (s .args .size) = omega arith in ap (withSize (s .args .place)) e
 
 pub cut-spec : {M : Type 1} → statement M
-cut-spec = tie.close (tie.spec returns returns-2)
+cut-spec =
+    tie.close (tie.spec returns returns-2)

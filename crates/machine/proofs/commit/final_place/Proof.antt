@@ -9,4 +9,5 @@ unfolding withSlots withSize
 returns c = refl
 
 pub final-place-spec : {M : Type 1} → statement M
-final-place-spec = tie.close (tie.spec returns)
+final-place-spec =
+    tie.close (tie.spec returns)

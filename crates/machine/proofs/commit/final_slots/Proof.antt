@@ -6,26 +6,11 @@ use Rattle.machine.proofs.Laws.Filled.{final-made}
 use Rattle.machine.proofs.commit.final_slots.Statement.{statement}
 use Rattle.machine.proofs.commit.final_slots.Tie as tie
 
-cut-requires : tie.Need-cut-requires
-cut-requires c κs = tt
-
-replaced-in-requires : tie.Need-replaced-in-requires
-replaced-in-requires c κs = tt
-
-slots-taken-requires : tie.Need-slots-taken-requires
-slots-taken-requires c κs = search needs
-
 marked-requires : tie.Need-marked-requires
 marked-requires c κs = c .slots-taken .ensures .1
 
-count-requires : tie.Need-count-requires
-count-requires c κs = search needs
-
 first-requires : tie.Need-first-requires
 first-requires c κs = c .before .count .ensures .1
-
-new-slots-requires : tie.Need-new-slots-requires
-new-slots-requires c κs = search needs
 
 returns : tie.Need-returns
 returns c =
@@ -41,14 +26,5 @@ returns c =
 
 pub final-slots-spec : {M : Type 1} → statement M
 final-slots-spec =
-    tie.close
-    (tie.spec
-    cut-requires
-    replaced-in-requires
-    slots-taken-requires
-    marked-requires
-    count-requires
-    first-requires
-    (λ c. search needs)
-    new-slots-requires
-    returns)
+    tie.close (tie.spec (λ c κs. tt) (λ c κs. tt) (λ c κs. search needs) marked-requires (λ c κs. search needs) first-requires
+        (λ c. search needs) (λ c κs. search needs) returns)

@@ -8,12 +8,6 @@ use Rattle.machine.proofs.Laws.Growth.{difference, differs}
 use Rattle.machine.proofs.commit.growth.Statement.{statement}
 use Rattle.machine.proofs.commit.growth.Tie as tie
 
-cast-result : tie.Need-cast-result
-cast-result c = search needs
-
-cast-result-2 : tie.Need-cast-result-2
-cast-result-2 c = search needs
-
 sub-result : tie.Need-sub-result
 sub-result c =
     let a : c .args .last < 2 ^ 63 = omega arith in
@@ -27,4 +21,5 @@ returns c =
     rw (toZ-pos w64 a, toZ-pos w64 b) (toZ-ofZ (difference (c .args .last) (c .args .first) a b))
 
 pub growth-spec : {M : Type 1} → statement M
-growth-spec = tie.close (tie.spec cast-result cast-result-2 sub-result returns)
+growth-spec =
+    tie.close (tie.spec (λ c. search needs) (λ c. search needs) sub-result returns)

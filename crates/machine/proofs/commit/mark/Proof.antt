@@ -9,11 +9,6 @@ use Rattle.machine.proofs.commit.mark.Tie as tie
 returns : tie.Need-returns
 returns c = sym (set-out _ _ _ (omega (arith, c .before .good .0 .1 .0 .1)))
 
-array-write-after : tie.Need-array-write-after
-array-write-after c = search needs
-
-returns-2 : tie.Need-returns-2
-returns-2 c = search needs
-
 pub mark-spec : {M : Type 1} → statement M
-mark-spec = tie.close (tie.spec returns array-write-after returns-2)
+mark-spec =
+    tie.close (tie.spec returns (λ c. search needs) (λ c. search needs))

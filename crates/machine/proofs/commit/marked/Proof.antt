@@ -17,24 +17,6 @@ Inv-loop items count flags₀ i₀ flags i = (i ≤ count) × (marks flags₀ (t
 abbrev μ-loop : tie.MeasureT-loop
 μ-loop items count flags₀ i₀ flags i = count - i
 
-loop-holds : tie.Need-loop-holds Inv-loop μ-loop
-loop-holds c = (omega arith, refl)
-
-array-read-mark : tie.Need-array-read-mark Inv-loop μ-loop
-array-read-mark c = omega arith
-
-cast-mark : tie.Need-cast-mark Inv-loop μ-loop
-cast-mark c = search needs
-
-mark-requires : tie.Need-mark-requires Inv-loop μ-loop
-mark-requires c κs = tt
-
-add-i : tie.Need-add-i Inv-loop μ-loop
-add-i c = omega arith
-
-loop-less : tie.Need-loop-less Inv-loop μ-loop
-loop-less c = omega arith
-
 loop-again : tie.Need-loop-again Inv-loop μ-loop
 loop-again c =
     let l = c .before .before .loop in
@@ -50,15 +32,5 @@ returns c =
 
 pub marked-spec : {M : Type 1} → statement M
 marked-spec =
-    tie.close
-    (tie.spec
-    Inv-loop
-    μ-loop
-    loop-holds
-    array-read-mark
-    cast-mark
-    mark-requires
-    add-i
-    loop-less
-    loop-again
-    returns)
+    tie.close (tie.spec Inv-loop μ-loop (λ c. (omega arith, refl)) (λ c. omega arith) (λ c. search needs) (λ c κs. tt) (λ c. omega arith)
+        (λ c. omega arith) loop-again returns)

@@ -14,26 +14,11 @@ Inv-loop disk from end used₀ after₀ i₀ used after i = put after₀ from (n
 abbrev μ-loop : tie.MeasureT-loop
 μ-loop disk from end used₀ after₀ i₀ used after i = end - i
 
-loop-holds : tie.Need-loop-holds Inv-loop μ-loop
-loop-holds c = refl
-
 lowest-free-requires : tie.Need-lowest-free-requires Inv-loop μ-loop
 lowest-free-requires c κs = c .before .before .pre .0
 
-mark-requires : tie.Need-mark-requires Inv-loop μ-loop
-mark-requires c κs = tt
-
 cast-after : tie.Need-cast-after Inv-loop μ-loop
 cast-after c = omega (arith, c .before .lowest-free .ensures .1)
-
-array-write-after : tie.Need-array-write-after Inv-loop μ-loop
-array-write-after c = omega arith
-
-add-i : tie.Need-add-i Inv-loop μ-loop
-add-i c = omega arith
-
-loop-less : tie.Need-loop-less Inv-loop μ-loop
-loop-less c = omega arith
 
 loop-again : tie.Need-loop-again Inv-loop μ-loop
 loop-again c =
@@ -47,16 +32,5 @@ returns c =
 
 pub new-slots-spec : {M : Type 1} → statement M
 new-slots-spec =
-    tie.close
-    (tie.spec
-    Inv-loop
-    μ-loop
-    loop-holds
-    lowest-free-requires
-    mark-requires
-    cast-after
-    array-write-after
-    add-i
-    loop-less
-    loop-again
-    returns)
+    tie.close (tie.spec Inv-loop μ-loop (λ c. refl) lowest-free-requires (λ c κs. tt) cast-after (λ c. omega arith) (λ c. omega arith)
+        (λ c. omega arith) loop-again returns)

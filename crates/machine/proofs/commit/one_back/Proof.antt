@@ -22,19 +22,9 @@ copy-between-requires c κs =
     let e = ne-eqb (s .args .from) 255 (c .before .if1 .left) in
     (s .pre .source e, s .pre .target e)
 
-same-length : tie.Need-same-length
-same-length c = search needs
-
 returns-2 : tie.Need-returns-2
 returns-2 c = laid-some _ _ _ _ _ (ne-eqb _ _ (c .before .before .before .before .if1 .left)) (c .before .before .copy-between .ensures)
 
 pub one-back-spec : {M : Type 1} → statement M
 one-back-spec =
-    tie.close
-    (tie.spec
-    returns
-    mul-copy-between
-    mul-copy-between-2
-    copy-between-requires
-    same-length
-    returns-2)
+    tie.close (tie.spec returns mul-copy-between mul-copy-between-2 copy-between-requires (λ c. search needs) returns-2)

@@ -18,21 +18,12 @@ use borrow.Author.Needs.{needs}
 use Rattle.machine.proofs.interrupting.stop.Statement.{statement}
 use Rattle.machine.proofs.interrupting.stop.Tie as tie
 
-parent-requires : tie.Need-parent-requires
-parent-requires c κs = search needs
-
-slice-aggregate-fail : tie.Need-slice-aggregate-fail
-slice-aggregate-fail c = search needs
-
 fail-requires : tie.Need-fail-requires
 fail-requires c κs =
     let found = c .before .before .before .before in
     let s = found .before .before .before in
     let h = s .args .host in
     (stands h _ (disk-rooted h _ (s .good .0)) (found .parent .ensures) (s .pre .order), room-left h (s .pre))
-
-same-length : tie.Need-same-length
-same-length c = search needs
 
 returns : tie.Need-returns
 unfolding stoppedBy failing failureBytes startingPair parent settingBy turnOf withRun withStageRoots withProgram withProgress withCame rootOf rootBy
@@ -47,4 +38,5 @@ returns c =
     ap₂ left (e .0) (e .1 ∙ ap out (found .parent .ensures))
 
 pub stop-spec : {M : Type 1} → statement M
-stop-spec = tie.close (tie.spec parent-requires slice-aggregate-fail fail-requires same-length returns)
+stop-spec =
+    tie.close (tie.spec (λ c κs. search needs) (λ c. search needs) fail-requires (λ c. search needs) returns)

@@ -14,4 +14,5 @@ unfolding isStaged
 returns-2 c = sym (ap isStaged (c .enum-told2 .given .1))
 
 pub is-staged-spec : {M : Type 1} → statement M
-is-staged-spec = tie.close (tie.spec (λ c. search needs) (λ c. search needs) returns returns-2)
+is-staged-spec =
+    tie.close (tie.spec (λ c. search needs) (λ c. search needs) returns returns-2)

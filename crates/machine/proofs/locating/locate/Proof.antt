@@ -29,5 +29,4 @@ returns-2 c =
 
 pub locate-spec : {M : Type 1} → statement M
 locate-spec =
-    tie.close
-    (tie.spec (λ c κs. tt) (λ c κs. search needs) returns sought-requires (λ c κs. search needs) returns-2)
+    tie.close (tie.spec (λ c κs. tt) (λ c κs. search needs) returns sought-requires (λ c κs. search needs) returns-2)

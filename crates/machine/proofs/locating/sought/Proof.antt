@@ -1,6 +1,5 @@
 -- `sought` meets its contract: of an open program what it looks through, else all committed sectors. Assumes nothing.
-use mathlib.Core.Path.{_≡_, ap, _∙_}
-use mathlib.Core.Bool.{true, false}
+use mathlib.Core.Path.{ap, _∙_}
 use borrow.Author.Needs.{needs}
 use borrow.Author.Tests.{not-true, not-false}
 use Rattle.host.proofs.Laws.Lengths.{hosted, disk-rooted, stage-rooted}
@@ -53,13 +52,5 @@ returns-2 c =
 
 pub sought-spec : {M : Type 1} → statement M
 sought-spec =
-    tie.close
-    (tie.spec
-    (λ c. search needs)
-    (λ c. search needs)
-    find-in-all-requires
-    returns
-    (λ c. search needs)
-    (λ c. search needs)
-    find-for-requires
-    returns-2)
+    tie.close (tie.spec (λ c. search needs) (λ c. search needs) find-in-all-requires returns (λ c. search needs) (λ c. search needs)
+        find-for-requires returns-2)

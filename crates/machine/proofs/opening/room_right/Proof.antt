@@ -15,4 +15,5 @@ unfolding roomRight
 returns-2 c = yes _ _ _ (le-leb _ _ (c .if1 .left)) refl
 
 pub room-right-spec : {M : Type 1} → statement M
-room-right-spec = tie.close (tie.spec returns returns-2)
+room-right-spec =
+    tie.close (tie.spec returns returns-2)

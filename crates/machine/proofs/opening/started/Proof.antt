@@ -9,4 +9,5 @@ unfolding started
 returns c = refl
 
 pub started-spec : {M : Type 1} → statement M
-started-spec = tie.close (tie.spec returns)
+started-spec =
+    tie.close (tie.spec returns)

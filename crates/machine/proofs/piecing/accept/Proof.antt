@@ -15,16 +15,22 @@ use Rattle.machine.proofs.piecing.accept.Statement.{statement}
 use Rattle.machine.proofs.piecing.accept.Tie as tie
 
 copy-between-requires : tie.Need-copy-between-requires
-copy-between-requires c κs = let start = c .before .before .before .before .before .before .before .before .before .before in (omega arith, omega (arith, start .pre .fits, input-long (start .args .host) _ (start .pre .inputs)))
+copy-between-requires c κs = let start = c .before .before .before .before .before .before .before .before .before .before in
+    (omega arith, omega (arith, start .pre .fits, input-long (start .args .host) _ (start .pre .inputs)))
 
 add-k : tie.Need-add-k
-add-k c = let start = c .before .before .before .before .before .before .before .before .before .before .before .before .before in omega (arith, start .pre .fits, declared-most (start .args .host) (start .pre .ready .order) (start .pre .ready .live))
+add-k c = let start = c .before .before .before .before .before .before .before .before .before .before .before .before .before in
+    omega (arith, start .pre .fits, declared-most (start .args .host) (start .pre .ready .order) (start .pre .ready .live))
 
 slice-aggregate-run : tie.Need-slice-aggregate-run
-slice-aggregate-run c = let s = c .before .before .before .before .before .before .before .before .before .before .before .before .before .before .before .before in sym (disk-rooted (s .args .host) _ (s .good .0))
+slice-aggregate-run c = let s =
+    c .before .before .before .before .before .before .before .before .before .before .before .before .before .before .before .before in
+    sym (disk-rooted (s .args .host) _ (s .good .0))
 
 slice-aggregate-run-2 : tie.Need-slice-aggregate-run-2
-slice-aggregate-run-2 c = let s = c .before .before .before .before .before .before .before .before .before .before .before .before .before .before .before .before .before .before in sym (stage-rooted (s .args .host) _ (s .good .0))
+slice-aggregate-run-2 c = let s =
+    c .before .before .before .before .before .before .before .before .before .before .before .before .before .before .before .before .before .before
+    in sym (stage-rooted (s .args .host) _ (s .good .0))
 
 run-requires : tie.Need-run-requires
 unfolding settingBy turnOf
@@ -34,15 +40,6 @@ run-requires c κs =
     let h = s .args .host in
     turns-right h _ _ _ _ (hosted h _ (s .good .0)) (disk-rooted h _ (s .good .0)) (stage-rooted h _ (s .good .0)) (s .pre .ready)
     (ap length (came .copy-between .ensures) ∙ length-put _ _ _ ∙ input-long h _ (s .pre .inputs)) (s .pre .outputs)
-
-same-length : tie.Need-same-length
-same-length c = search needs
-
-same-length-2 : tie.Need-same-length-2
-same-length-2 c = search needs
-
-same-length-3 : tie.Need-same-length-3
-same-length-3 c = search needs
 
 returns : tie.Need-returns
 unfolding settingBy turnOf withRun withStageRoots withProgram withProgress withCame
@@ -54,14 +51,5 @@ returns c =
 
 pub accept-spec : {M : Type 1} → statement M
 accept-spec =
-    tie.close
-    (tie.spec
-    copy-between-requires
-    add-k
-    slice-aggregate-run
-    slice-aggregate-run-2
-    run-requires
-    same-length
-    same-length-2
-    same-length-3
-    returns)
+    tie.close (tie.spec copy-between-requires add-k slice-aggregate-run slice-aggregate-run-2 run-requires (λ c. search needs)
+        (λ c. search needs) (λ c. search needs) returns)

@@ -5,17 +5,12 @@ use borrow.Author.Needs.{needs}
 use Rattle.machine.proofs.piecing.either_wrong.Statement.{statement}
 use Rattle.machine.proofs.piecing.either_wrong.Tie as tie
 
-wrong-requires : tie.Need-wrong-requires
-wrong-requires c κs = search needs
-
 returns : tie.Need-returns
 returns c = wrong-first _ _ _ (sym (c .before .wrong .ensures) ∙ c .if1 .taken)
-
-wrong-requires-2 : tie.Need-wrong-requires-2
-wrong-requires-2 c κs = search needs
 
 returns-2 : tie.Need-returns-2
 returns-2 c = c .wrong2 .ensures ∙ wrong-second _ _ _ (sym (c .before .before .wrong .ensures) ∙ c .before .if1 .left)
 
 pub either-wrong-spec : {M : Type 1} → statement M
-either-wrong-spec = tie.close (tie.spec wrong-requires returns wrong-requires-2 returns-2)
+either-wrong-spec =
+    tie.close (tie.spec (λ c κs. search needs) returns (λ c κs. search needs) returns-2)

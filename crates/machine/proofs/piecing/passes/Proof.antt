@@ -4,11 +4,9 @@ use borrow.Author.Needs.{needs}
 use Rattle.machine.proofs.piecing.passes.Statement.{statement}
 use Rattle.machine.proofs.piecing.passes.Tie as tie
 
-sub-result : tie.Need-sub-result
-sub-result c = search needs
-
 returns : tie.Need-returns
 returns c = rest-less _ _ _ (c .pre)
 
 pub passes-spec : {M : Type 1} → statement M
-passes-spec = tie.close (tie.spec sub-result returns)
+passes-spec =
+    tie.close (tie.spec (λ c. search needs) returns)

@@ -14,166 +14,103 @@ use borrow.Author.Needs.{needs}
 use Rattle.machine.proofs.piecing.piece.Statement.{statement}
 use Rattle.machine.proofs.piecing.piece.Tie as tie
 
-in-order-requires : tie.Need-in-order-requires
-in-order-requires c κs = search needs
-
-refused-requires : tie.Need-refused-requires
-refused-requires c κs = search needs
-
 returns : tie.Need-returns
 unfolding pieceBy areasRight diskRight inputRight outputRight
 returns c =
     yes _ _ _ (ap not (sym (c .before .before .in-order .ensures)) ∙ c .before .if1 .taken)
-    (ap (λ (r : Answer). pieceLeaves r (c .before .before .before .before .before .before .before .before .args .stage .now) (c .before .before .before .before .before .before .before .before .args .input .now) (c .before .before .before .before .before .before .before .before .args .output .now)) (c .refused .ensures))
+    (ap (λ (r : Answer). pieceLeaves r (c .before .before .before .before .before .before .before .before .args .stage .now)
+        (c .before .before .before .before .before .before .before .before .args .input .now)
+        (c .before .before .before .before .before .before .before .before .args .output .now)) (c .refused .ensures))
 
 areas-right-requires : tie.Need-areas-right-requires
 areas-right-requires c κs =
     let o = order-facts _ (sym (c .before .before .in-order .ensures) ∙ not-false _ (c .before .if1 .left)) in
     (o .size, (o .diskMost, omega (arith, o .stageMost)))
 
-refused-requires-2 : tie.Need-refused-requires-2
-refused-requires-2 c κs = search needs
-
-same-length : tie.Need-same-length
-same-length c = search needs
-
 returns-2 : tie.Need-returns-2
 unfolding pieceBy areasRight diskRight inputRight outputRight
 returns-2 c =
     no _ _ _ (ap not (sym (c .before .before .before .before .before .in-order .ensures)) ∙ c .before .before .before .before .if1 .left)
     (yes _ _ _ (ap not (sym (c .before .before .areas-right .ensures)) ∙ c .before .if2 .taken)
-    (ap (λ (r : Answer). pieceLeaves r (c .before .before .before .before .before .before .before .before .before .before .before .args .stage .now) (c .before .before .before .before .before .before .before .before .before .before .before .args .input .now) (c .before .before .before .before .before .before .before .before .before .before .before .args .output .now)) (c .refused2 .ensures)))
-
-either-wrong-requires : tie.Need-either-wrong-requires
-either-wrong-requires c κs = search needs
-
-refused-requires-3 : tie.Need-refused-requires-3
-refused-requires-3 c κs = search needs
-
-same-length-2 : tie.Need-same-length-2
-same-length-2 c = search needs
-
-same-length-3 : tie.Need-same-length-3
-same-length-3 c = search needs
-
-same-length-4 : tie.Need-same-length-4
-same-length-4 c = search needs
+    (ap (λ (r : Answer). pieceLeaves r (c .before .before .before .before .before .before .before .before .before .before .before .args .stage .now)
+        (c .before .before .before .before .before .before .before .before .before .before .before .args .input .now)
+        (c .before .before .before .before .before .before .before .before .before .before .before .args .output .now)) (c .refused2 .ensures)))
 
 returns-3 : tie.Need-returns-3
 unfolding pieceBy areasRight diskRight inputRight outputRight
 returns-3 c =
-    no _ _ _ (ap not (sym (c .before .before .before .before .before .before .before .before .before .before .before .before .in-order .ensures)) ∙ c .before .before .before .before .before .before .before .before .before .before .before .if1 .left)
-    (no _ _ _ (ap not (sym (c .before .before .before .before .before .before .before .before .before .areas-right .ensures)) ∙ c .before .before .before .before .before .before .before .before .if2 .left)
+    no _ _ _ (ap not (sym (c .before .before .before .before .before .before .before .before .before .before .before .before .in-order .ensures))
+        ∙ c .before .before .before .before .before .before .before .before .before .before .before .if1 .left)
+    (no _ _ _ (ap not (sym (c .before .before .before .before .before .before .before .before .before .areas-right .ensures))
+        ∙ c .before .before .before .before .before .before .before .before .if2 .left)
     (yes _ _ _ (sym (c .before .before .either-wrong .ensures) ∙ c .before .if3 .taken)
-    (ap (λ (r : Answer). pieceLeaves r (c .before .before .before .before .before .before .before .before .before .before .before .before .before .before .before .before .before .before .args .stage .now) (c .before .before .before .before .before .before .before .before .before .before .before .before .before .before .before .before .before .before .args .input .now) (c .before .before .before .before .before .before .before .before .before .before .before .before .before .before .before .before .before .before .args .output .now)) (c .refused3 .ensures))))
-
-refused-requires-4 : tie.Need-refused-requires-4
-refused-requires-4 c κs = search needs
-
-same-length-5 : tie.Need-same-length-5
-same-length-5 c = search needs
-
-same-length-6 : tie.Need-same-length-6
-same-length-6 c = search needs
-
-same-length-7 : tie.Need-same-length-7
-same-length-7 c = search needs
+    (ap (λ (r : Answer). pieceLeaves r
+        (c .before .before .before .before .before .before .before .before .before .before .before .before .before .before .before .before .before .before .args .stage .now) (c .before .before .before .before .before .before .before .before .before .before .before .before .before .before .before .before .before .before .args .input .now) (c .before .before .before .before .before .before .before .before .before .before .before .before .before .before .before .before .before .before .args .output .now)) (c .refused3 .ensures))))
 
 returns-4 : tie.Need-returns-4
 unfolding pieceBy areasRight diskRight inputRight outputRight
 returns-4 c =
-    no _ _ _ (ap not (sym (c .before .before .before .before .before .before .before .before .before .before .before .before .before .before .in-order .ensures)) ∙ c .before .before .before .before .before .before .before .before .before .before .before .before .before .if1 .left)
-    (no _ _ _ (ap not (sym (c .before .before .before .before .before .before .before .before .before .before .before .areas-right .ensures)) ∙ c .before .before .before .before .before .before .before .before .before .before .if2 .left)
+    no _ _ _ (ap not (sym
+        (c .before .before .before .before .before .before .before .before .before .before .before .before .before .before .in-order .ensures))
+        ∙ c .before .before .before .before .before .before .before .before .before .before .before .before .before .if1 .left)
+    (no _ _ _ (ap not (sym (c .before .before .before .before .before .before .before .before .before .before .before .areas-right .ensures))
+        ∙ c .before .before .before .before .before .before .before .before .before .before .if2 .left)
     (no _ _ _ (sym (c .before .before .before .before .either-wrong .ensures) ∙ c .before .before .before .if3 .left)
     (yes _ _ _ (c .before .if4 .taken)
-    (ap (λ (r : Answer). pieceLeaves r (c .before .before .before .before .before .before .before .before .before .before .before .before .before .before .before .before .before .before .before .before .args .stage .now) (c .before .before .before .before .before .before .before .before .before .before .before .before .before .before .before .before .before .before .before .before .args .input .now) (c .before .before .before .before .before .before .before .before .before .before .before .before .before .before .before .before .before .before .before .before .args .output .now)) (c .refused4 .ensures)))))
+    (ap (λ (r : Answer). pieceLeaves r
+        (c .before .before .before .before .before .before .before .before .before .before .before .before .before .before .before .before .before .before .before .before .args .stage .now) (c .before .before .before .before .before .before .before .before .before .before .before .before .before .before .before .before .before .before .before .before .args .input .now) (c .before .before .before .before .before .before .before .before .before .before .before .before .before .before .before .before .before .before .before .before .args .output .now)) (c .refused4 .ensures)))))
 
 passes-requires : tie.Need-passes-requires
-passes-requires c κs = came-within _ (sym (c .before .before .before .before .before .before .before .before .before .before .before .before .before .in-order .ensures) ∙ not-false _ (c .before .before .before .before .before .before .before .before .before .before .before .before .if1 .left)) (not-false _ (c .if4 .left))
-
-refused-requires-5 : tie.Need-refused-requires-5
-refused-requires-5 c κs = search needs
-
-same-length-8 : tie.Need-same-length-8
-same-length-8 c = search needs
-
-same-length-9 : tie.Need-same-length-9
-same-length-9 c = search needs
-
-same-length-10 : tie.Need-same-length-10
-same-length-10 c = search needs
+passes-requires c κs =
+    came-within _ (sym (c .before .before .before .before .before .before .before .before .before .before .before .before .before .in-order .ensures)
+    ∙ not-false _ (c .before .before .before .before .before .before .before .before .before .before .before .before .if1 .left))
+    (not-false _ (c .if4 .left))
 
 returns-5 : tie.Need-returns-5
 unfolding pieceBy areasRight diskRight inputRight outputRight
 returns-5 c =
-    no _ _ _ (ap not (sym (c .before .before .before .before .before .before .before .before .before .before .before .before .before .before .before .before .in-order .ensures)) ∙ c .before .before .before .before .before .before .before .before .before .before .before .before .before .before .before .if1 .left)
-    (no _ _ _ (ap not (sym (c .before .before .before .before .before .before .before .before .before .before .before .before .before .areas-right .ensures)) ∙ c .before .before .before .before .before .before .before .before .before .before .before .before .if2 .left)
+    no _ _ _ (ap not (sym
+        (c .before .before .before .before .before .before .before .before .before .before .before .before .before .before .before .before .in-order .ensures)) ∙ c .before .before .before .before .before .before .before .before .before .before .before .before .before .before .before .if1 .left)
+    (no _ _ _ (ap not (sym
+        (c .before .before .before .before .before .before .before .before .before .before .before .before .before .areas-right .ensures))
+        ∙ c .before .before .before .before .before .before .before .before .before .before .before .before .if2 .left)
     (no _ _ _ (sym (c .before .before .before .before .before .before .either-wrong .ensures) ∙ c .before .before .before .before .before .if3 .left)
     (no _ _ _ (c .before .before .before .if4 .left)
     (yes _ _ _ (sym (c .before .before .passes .ensures) ∙ c .before .if5 .taken)
-    (ap (λ (r : Answer). pieceLeaves r (c .before .before .before .before .before .before .before .before .before .before .before .before .before .before .before .before .before .before .before .before .before .before .args .stage .now) (c .before .before .before .before .before .before .before .before .before .before .before .before .before .before .before .before .before .before .before .before .before .before .args .input .now) (c .before .before .before .before .before .before .before .before .before .before .before .before .before .before .before .before .before .before .before .before .before .before .args .output .now)) (c .refused5 .ensures))))))
+    (ap (λ (r : Answer). pieceLeaves r
+        (c .before .before .before .before .before .before .before .before .before .before .before .before .before .before .before .before .before .before .before .before .before .before .args .stage .now) (c .before .before .before .before .before .before .before .before .before .before .before .before .before .before .before .before .before .before .before .before .before .before .args .input .now) (c .before .before .before .before .before .before .before .before .before .before .before .before .before .before .before .before .before .before .before .before .before .before .args .output .now)) (c .refused5 .ensures))))))
 
 accept-requires : tie.Need-accept-requires
 unfolding areasRight diskRight inputRight outputRight
 accept-requires c κs =
     let live = not-false _ (c .before .before .before .before .before .if4 .left) in
-    let right = right-if _ _ live (sym (c .before .before .before .before .before .before .before .before .either-wrong .ensures) ∙ c .before .before .before .before .before .before .before .if3 .left) in
+    let right = right-if _ _ live (sym (c .before .before .before .before .before .before .before .before .either-wrong .ensures)
+        ∙ c .before .before .before .before .before .before .before .if3 .left) in
     record {
-      ready = record { order = sym (c .before .before .before .before .before .before .before .before .before .before .before .before .before .before .before .before .before .before .in-order .ensures) ∙ not-false _ (c .before .before .before .before .before .before .before .before .before .before .before .before .before .before .before .before .before .if1 .left); areas = sym (c .before .before .before .before .before .before .before .before .before .before .before .before .before .before .before .areas-right .ensures) ∙ not-false _ (c .before .before .before .before .before .before .before .before .before .before .before .before .before .before .if2 .left); live = live };
+      ready = record { order = sym
+          (c .before .before .before .before .before .before .before .before .before .before .before .before .before .before .before .before .before .before .in-order .ensures) ∙ not-false _ (c .before .before .before .before .before .before .before .before .before .before .before .before .before .before .before .before .before .if1 .left); areas = sym (c .before .before .before .before .before .before .before .before .before .before .before .before .before .before .before .areas-right .ensures) ∙ not-false _ (c .before .before .before .before .before .before .before .before .before .before .before .before .before .before .if2 .left); live = live };
       inputs = both-left _ _ right;
       outputs = both-right _ _ right;
       fits = ltb-false _ _ (sym (c .before .before .before .before .passes .ensures) ∙ c .before .before .before .if5 .left);
     }
 
-same-length-11 : tie.Need-same-length-11
-same-length-11 c = search needs
-
-same-length-12 : tie.Need-same-length-12
-same-length-12 c = search needs
-
-same-length-13 : tie.Need-same-length-13
-same-length-13 c = search needs
-
 returns-6 : tie.Need-returns-6
 unfolding pieceBy areasRight diskRight inputRight outputRight
 returns-6 c =
-    no _ _ _ (ap not (sym (c .before .before .before .before .before .before .before .before .before .before .before .before .before .before .before .before .before .before .before .before .before .before .before .before .before .in-order .ensures)) ∙ c .before .before .before .before .before .before .before .before .before .before .before .before .before .before .before .before .before .before .before .before .before .before .before .before .if1 .left)
-    (no _ _ _ (ap not (sym (c .before .before .before .before .before .before .before .before .before .before .before .before .before .before .before .before .before .before .before .before .before .before .areas-right .ensures)) ∙ c .before .before .before .before .before .before .before .before .before .before .before .before .before .before .before .before .before .before .before .before .before .if2 .left)
+    no _ _ _ (ap not (sym
+        (c .before .before .before .before .before .before .before .before .before .before .before .before .before .before .before .before .before .before .before .before .before .before .before .before .before .in-order .ensures)) ∙ c .before .before .before .before .before .before .before .before .before .before .before .before .before .before .before .before .before .before .before .before .before .before .before .before .if1 .left)
+    (no _ _ _ (ap not (sym
+        (c .before .before .before .before .before .before .before .before .before .before .before .before .before .before .before .before .before .before .before .before .before .before .areas-right .ensures)) ∙ c .before .before .before .before .before .before .before .before .before .before .before .before .before .before .before .before .before .before .before .before .before .if2 .left)
     (no _ _ _ (sym (c .before .before .before .before .before .before .before .before .before .before .before .before .before .before .before .either-wrong .ensures) ∙ c .before .before .before .before .before .before .before .before .before .before .before .before .before .before .if3 .left)
     (no _ _ _ (c .before .before .before .before .before .before .before .before .before .before .before .before .if4 .left)
-    (no _ _ _ (sym (c .before .before .before .before .before .before .before .before .before .before .before .passes .ensures) ∙ c .before .before .before .before .before .before .before .before .before .before .if5 .left)
+    (no _ _ _ (sym (c .before .before .before .before .before .before .before .before .before .before .before .passes .ensures)
+        ∙ c .before .before .before .before .before .before .before .before .before .before .if5 .left)
     (c .before .before .before .before .before .before .accept .ensures)))))
 
 pub piece-spec : {M : Type 1} → statement M
 piece-spec =
-    tie.close
-    (tie.spec
-    in-order-requires
-    refused-requires
-    returns
-    areas-right-requires
-    refused-requires-2
-    same-length
-    returns-2
-    either-wrong-requires
-    refused-requires-3
-    same-length-2
-    same-length-3
-    same-length-4
-    returns-3
-    refused-requires-4
-    same-length-5
-    same-length-6
-    same-length-7
-    returns-4
-    passes-requires
-    refused-requires-5
-    same-length-8
-    same-length-9
-    same-length-10
-    returns-5
-    accept-requires
-    same-length-11
-    same-length-12
-    same-length-13
-    returns-6)
+    tie.close (tie.spec (λ c κs. search needs) (λ c κs. search needs) returns areas-right-requires (λ c κs. search needs)
+        (λ c. search needs) returns-2 (λ c κs. search needs) (λ c κs. search needs) (λ c. search needs) (λ c. search needs)
+        (λ c. search needs) returns-3 (λ c κs. search needs) (λ c. search needs) (λ c. search needs) (λ c. search needs) returns-4
+        passes-requires (λ c κs. search needs) (λ c. search needs) (λ c. search needs) (λ c. search needs) returns-5 accept-requires
+        (λ c. search needs) (λ c. search needs) (λ c. search needs) returns-6)

@@ -4,7 +4,6 @@ use mathlib.Core.List.{[]}
 use Rattle.area.proofs.Laws.Pick.{yes, no}
 use Rattle.machine_rules.specs.Calls.{reachedAt, reachedPairBy}
 use Rattle.machine_step.proofs.Laws.Hosts.{running-any}
-use borrow.Author.Needs.{needs}
 use Rattle.machine.proofs.reaching.reach.Statement.{statement}
 use Rattle.machine.proofs.reaching.reach.Tie as tie
 
@@ -26,5 +25,4 @@ returns-2 c =
 
 pub reach-spec : {M : Type 1} → statement M
 reach-spec =
-    tie.close
-    (tie.spec starting-pair-requires returns running-pair-requires returns-2)
+    tie.close (tie.spec starting-pair-requires returns running-pair-requires returns-2)

@@ -12,12 +12,6 @@ use borrow.Author.Needs.{needs}
 use Rattle.machine.proofs.reaching.reached.Statement.{statement}
 use Rattle.machine.proofs.reaching.reached.Tie as tie
 
-in-order-requires : tie.Need-in-order-requires
-in-order-requires c κs = search needs
-
-unreached-requires : tie.Need-unreached-requires
-unreached-requires c κs = search needs
-
 returns : tie.Need-returns
 unfolding reachedBy areasRight diskRight
 returns c =
@@ -29,9 +23,6 @@ areas-right-requires c κs =
     let o = order-facts _ (sym (c .before .in-order .ensures) ∙ not-false _ (c .if1 .left)) in
     (o .size, (o .diskMost, omega (arith, o .stageMost)))
 
-unreached-requires-2 : tie.Need-unreached-requires-2
-unreached-requires-2 c κs = search needs
-
 returns-2 : tie.Need-returns-2
 unfolding reachedBy areasRight diskRight
 returns-2 c =
@@ -39,39 +30,31 @@ returns-2 c =
     (yes _ _ _ (ap not (sym (c .before .before .areas-right .ensures)) ∙ c .before .if2 .taken)
     (c .unreached2 .ensures))
 
-unreached-requires-3 : tie.Need-unreached-requires-3
-unreached-requires-3 c κs = search needs
-
 returns-3 : tie.Need-returns-3
 unfolding reachedBy areasRight diskRight
 returns-3 c =
-    no _ _ _ (ap not (sym (c .before .before .before .before .before .before .before .in-order .ensures)) ∙ c .before .before .before .before .before .before .if1 .left)
+    no _ _ _ (ap not (sym (c .before .before .before .before .before .before .before .in-order .ensures))
+        ∙ c .before .before .before .before .before .before .if1 .left)
     (no _ _ _ (ap not (sym (c .before .before .before .before .before .areas-right .ensures)) ∙ c .before .before .before .before .if2 .left)
     (yes _ _ _ (c .before .if3 .taken)
     (c .unreached3 .ensures)))
 
 reach-requires : tie.Need-reach-requires
-reach-requires c κs = (sym (c .before .before .before .before .before .before .in-order .ensures) ∙ not-false _ (c .before .before .before .before .before .if1 .left), not-false _ (c .if3 .left))
+reach-requires c κs = (sym (c .before .before .before .before .before .before .in-order .ensures)
+    ∙ not-false _ (c .before .before .before .before .before .if1 .left), not-false _ (c .if3 .left))
 
 returns-4 : tie.Need-returns-4
 unfolding reachedBy areasRight diskRight
 returns-4 c =
-    no _ _ _ (ap not (sym (c .before .before .before .before .before .before .before .in-order .ensures)) ∙ c .before .before .before .before .before .before .if1 .left)
+    no _ _ _ (ap not (sym (c .before .before .before .before .before .before .before .in-order .ensures))
+        ∙ c .before .before .before .before .before .before .if1 .left)
     (no _ _ _ (ap not (sym (c .before .before .before .before .before .areas-right .ensures)) ∙ c .before .before .before .before .if2 .left)
     (no _ _ _ (c .before .if3 .left)
-    (c .reach .ensures ∙ ap (reachedAt 0) (reached-any (c .before .before .before .before .before .before .before .before .before .before .args .host) (c .before .before .before .before .before .before .before .before .before .before .args .disk .now) (c .before .before .before .before .before .before .before .before .before .before .args .stage .now)))))
+    (c .reach .ensures ∙ ap (reachedAt 0) (reached-any (c .before .before .before .before .before .before .before .before .before .before .args .host)
+        (c .before .before .before .before .before .before .before .before .before .before .args .disk .now)
+        (c .before .before .before .before .before .before .before .before .before .before .args .stage .now)))))
 
 pub reached-spec : {M : Type 1} → statement M
 reached-spec =
-    tie.close
-    (tie.spec
-    in-order-requires
-    unreached-requires
-    returns
-    areas-right-requires
-    unreached-requires-2
-    returns-2
-    unreached-requires-3
-    returns-3
-    reach-requires
-    returns-4)
+    tie.close (tie.spec (λ c κs. search needs) (λ c κs. search needs) returns areas-right-requires (λ c κs. search needs) returns-2
+        (λ c κs. search needs) returns-3 reach-requires returns-4)

@@ -9,4 +9,5 @@ unfolding noPair
 returns c = refl
 
 pub unreached-spec : {M : Type 1} → statement M
-unreached-spec = tie.close (tie.spec returns)
+unreached-spec =
+    tie.close (tie.spec returns)

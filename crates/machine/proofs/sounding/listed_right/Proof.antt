@@ -23,4 +23,5 @@ returns : tie.Need-returns
 returns c = c .all-right .ensures
 
 pub listed-right-spec : {M : Type 1} → statement M
-listed-right-spec = tie.close (tie.spec array-share-prefix-items slice-aggregate-all-right all-right-requires returns)
+listed-right-spec =
+    tie.close (tie.spec array-share-prefix-items slice-aggregate-all-right all-right-requires returns)

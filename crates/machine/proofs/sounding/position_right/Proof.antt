@@ -18,4 +18,5 @@ returns-2 : tie.Need-returns-2
 returns-2 c = no _ _ _ (ne-eqb _ _ (c .before .if1 .left)) (c .slot-right .ensures)
 
 pub position-right-spec : {M : Type 1} → statement M
-position-right-spec = tie.close (tie.spec returns slot-right-requires returns-2)
+position-right-spec =
+    tie.close (tie.spec returns slot-right-requires returns-2)

@@ -88,14 +88,5 @@ returns-3 c =
 
 pub roots-right-spec : {M : Type 1} → statement M
 roots-right-spec =
-    tie.close
-    (tie.spec
-    slots-taken-requires
-    slice-aggregate-listed-right
-    listed-right-requires
-    returns
-    returns-2
-    slice-aggregate-all-right
-    slice-aggregate-all-right-2
-    all-right-requires
-    returns-3)
+    tie.close (tie.spec slots-taken-requires slice-aggregate-listed-right listed-right-requires returns returns-2 slice-aggregate-all-right
+        slice-aggregate-all-right-2 all-right-requires returns-3)

@@ -20,4 +20,5 @@ returns c =
     c .same .ensures ∙ right-is _ _ _ _ (kept .kept-root .ensures .0) (kept .before .sector-root .ensures)
 
 pub slot-right-spec : {M : Type 1} → statement M
-slot-right-spec = tie.close (tie.spec sector-root-requires kept-root-requires (λ c. search needs) (λ c κs. search needs) returns)
+slot-right-spec =
+    tie.close (tie.spec sector-root-requires kept-root-requires (λ c. search needs) (λ c κs. search needs) returns)

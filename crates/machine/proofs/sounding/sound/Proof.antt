@@ -48,4 +48,5 @@ returns-3 c =
     (no _ _ _ (ap not (areas (at-if2 .before)) ∙ at-if2 .if2 .left) (ap (soundedAt 0) (c .roots-right .ensures)))
 
 pub sound-spec : {M : Type 1} → statement M
-sound-spec = tie.close (tie.spec (λ c κs. tt) returns areas-right-requires returns-2 roots-right-requires returns-3)
+sound-spec =
+    tie.close (tie.spec (λ c κs. tt) returns areas-right-requires returns-2 roots-right-requires returns-3)

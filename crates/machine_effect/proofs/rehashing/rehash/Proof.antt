@@ -61,16 +61,7 @@ returns-7 c = arm _ _ _ _ _ (c .enum-told7 .given .1) refl
 
 pub rehash-spec : {M : Type 1} → statement M
 rehash-spec =
-    tie.close
-    (tie.spec
-    (λ c. search needs) (λ c. search needs) (λ c. search needs) (λ c. search needs) rehash-one-requires
-    (λ c. search needs) (λ c. search needs) rehash-one-requires-2
-    (λ c. search needs) (λ c. search needs) (λ c. search needs) rehash-two-requires
-    (λ c. search needs) rehash-new-requires
-    (λ c. search needs) returns
-    returns-2
-    (λ c. search needs) returns-3
-    (λ c. search needs) returns-4
-    (λ c. search needs) returns-5
-    (λ c. search needs) returns-6
-    returns-7)
+    tie.close (tie.spec (λ c. search needs) (λ c. search needs) (λ c. search needs) (λ c. search needs) rehash-one-requires
+        (λ c. search needs) (λ c. search needs) rehash-one-requires-2 (λ c. search needs) (λ c. search needs) (λ c. search needs)
+        rehash-two-requires (λ c. search needs) rehash-new-requires (λ c. search needs) returns returns-2 (λ c. search needs) returns-3
+        (λ c. search needs) returns-4 (λ c. search needs) returns-5 (λ c. search needs) returns-6 returns-7)

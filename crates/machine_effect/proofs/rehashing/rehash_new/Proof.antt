@@ -40,10 +40,5 @@ returns-2 c =
 
 pub rehash-new-spec : {M : Type 1} → statement M
 rehash-new-spec =
-    tie.close
-    (tie.spec
-    returns
-    (λ c. search needs) slot-of-requires
-    (λ c κs. search needs) (λ c. search needs) mul-copy-between
-    copy-between-requires
-    (λ c. search needs) returns-2)
+    tie.close (tie.spec returns (λ c. search needs) slot-of-requires (λ c κs. search needs) (λ c. search needs) mul-copy-between
+        copy-between-requires (λ c. search needs) returns-2)

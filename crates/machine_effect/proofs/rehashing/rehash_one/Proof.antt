@@ -36,10 +36,5 @@ returns c =
 
 pub rehash-one-spec : {M : Type 1} → statement M
 rehash-one-spec =
-    tie.close
-    (tie.spec
-    (λ c κs. search needs) mul-from
-    add-root
-    (λ c. search needs) (λ c. search needs) part-root-end
-    (λ c κs. search needs) (λ c. search needs) (λ c. search needs) copy-between-requires
-    (λ c. search needs) returns)
+    tie.close (tie.spec (λ c κs. search needs) mul-from add-root (λ c. search needs) (λ c. search needs) part-root-end
+        (λ c κs. search needs) (λ c. search needs) (λ c. search needs) copy-between-requires (λ c. search needs) returns)

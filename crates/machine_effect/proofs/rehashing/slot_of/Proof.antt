@@ -9,4 +9,5 @@ returns : tie.Need-returns
 returns c = any-default (c .args .t1) (c .args .at) 0 255 (omega (arith, c .good .0 .1 .0 .1))
 
 pub slot-of-spec : {M : Type 1} → statement M
-slot-of-spec = tie.close (tie.spec (λ c. search needs) (λ c. search needs) returns)
+slot-of-spec =
+    tie.close (tie.spec (λ c. search needs) (λ c. search needs) returns)

@@ -6,9 +6,6 @@ use Rattle.machine_effect.proofs.Laws.Copies.{laid-zeros}
 use Rattle.machine_effect.proofs.resizing.new_zeros.Statement.{statement}
 use Rattle.machine_effect.proofs.resizing.new_zeros.Tie as tie
 
-free-copy-requires : tie.Need-free-copy-requires
-free-copy-requires c κs = tt
-
 mul-fill : tie.Need-mul-fill
 mul-fill c =
     let s = c .before .before .before in
@@ -27,23 +24,9 @@ cast-after c =
     let new = new-slot _ _ _ _ (s .pre .0) (s .pre .1 .0) (c .before .before .before .before .free-copy .ensures) in
     omega (arith, new .small)
 
-array-write-after : tie.Need-array-write-after
-array-write-after c = search needs
-
-same-length : tie.Need-same-length
-same-length c = search needs
-
 returns : tie.Need-returns
 returns c = laid-zeros _ _ _ _ (c .before .before .before .before .free-copy .ensures) (c .before .before .fill .ensures)
 
 pub new-zeros-spec : {M : Type 1} → statement M
 new-zeros-spec =
-    tie.close
-    (tie.spec
-    free-copy-requires
-    mul-fill
-    fill-requires
-    cast-after
-    array-write-after
-    same-length
-    returns)
+    tie.close (tie.spec (λ c κs. tt) mul-fill fill-requires cast-after (λ c. search needs) (λ c. search needs) returns)

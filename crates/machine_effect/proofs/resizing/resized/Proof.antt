@@ -8,23 +8,14 @@ use Rattle.machine_effect.specs.Parts.{grown}
 use Rattle.machine_effect.proofs.resizing.resized.Statement.{statement}
 use Rattle.machine_effect.proofs.resizing.resized.Tie as tie
 
-div-new-zeros : tie.Need-div-new-zeros
-div-new-zeros c = search needs
-
 new-zeros-requires : tie.Need-new-zeros-requires
 new-zeros-requires c κs =
     let s = c .before .before .before in
     (s .pre .0, (s .pre .1 .free (c .before .if1 .taken), s .pre .1 .more (c .before .if1 .taken)))
 
-same-length : tie.Need-same-length
-same-length c = search needs
-
 returns : tie.Need-returns
 unfolding resized grown
 returns c = yes _ _ _ (lt-ltb _ _ (c .before .before .before .before .if1 .taken)) (c .before .before .new-zeros .ensures)
-
-div-after : tie.Need-div-after
-div-after c = search needs
 
 array-write-after : tie.Need-array-write-after
 array-write-after c = c .before .before .before .pre .1 .less (c .if2 .taken)
@@ -39,5 +30,5 @@ returns-3 c = no _ _ _ (le-ltb _ _ (c .before .if1 .left)) (no _ _ _ (le-ltb _ _
 
 pub resized-spec : {M : Type 1} → statement M
 resized-spec =
-    tie.close
-    (tie.spec div-new-zeros new-zeros-requires same-length returns div-after array-write-after returns-2 returns-3)
+    tie.close (tie.spec (λ c. search needs) new-zeros-requires (λ c. search needs) returns (λ c. search needs) array-write-after returns-2
+        returns-3)

@@ -8,24 +8,6 @@ use Rattle.machine_effect.proofs.Laws.Spans.{written-fits, moved-fits, 
 use Rattle.machine_effect.proofs.spans.copy.Statement.{statement}
 use Rattle.machine_effect.proofs.spans.copy.Tie as tie
 
-div-copied : tie.Need-div-copied
-div-copied c = search needs
-
-copied-requires : tie.Need-copied-requires
-copied-requires c κs = search needs
-
-place-requires : tie.Need-place-requires
-place-requires c κs = search needs
-
-div-is-bare : tie.Need-div-is-bare
-div-is-bare c = search needs
-
-is-bare-requires : tie.Need-is-bare-requires
-is-bare-requires c κs = search needs
-
-place-requires-2 : tie.Need-place-requires-2
-place-requires-2 c κs = search needs
-
 copy-between-requires : tie.Need-copy-between-requires
 unfolding bare
 copy-between-requires c κs =
@@ -35,9 +17,6 @@ copy-between-requires c κs =
     let fits = written-fits _ _ _ _ _ made _ (s .pre .0) (s .pre .1 .0) (s .good .1 .1 .1 .1 .0 .1 .0 .1) in
     let other = fetched-fits _ _ _ _ _ made _ (s .pre .0) (s .pre .1 .0) (s .good .1 .1 .1 .1 .0 .1 .0 .1) _ (s .pre .1 .1) (s .good .1 .1 .0 .1 .0 .1) none in
     (omega (arith, other, c .before .place2 .ensures), omega (arith, fits, c .before .before .before .before .place .ensures))
-
-place-requires-3 : tie.Need-place-requires-3
-place-requires-3 c κs = search needs
 
 move-within-requires : tie.Need-move-within-requires
 unfolding bare
@@ -49,9 +28,6 @@ move-within-requires c κs =
     let other = moved-fits _ _ _ _ _ made _ (s .pre .0) (s .pre .1 .0) (s .good .1 .1 .1 .1 .0 .1 .0 .1) _ (s .pre .1 .1) some in
     (omega (arith, other, c .place3 .ensures), omega (arith, fits, c .before .before .before .before .place .ensures))
 
-same-length : tie.Need-same-length
-same-length c = search needs
-
 returns : tie.Need-returns
 unfolding bare
 returns c =
@@ -62,9 +38,6 @@ returns c =
     let target = at-if1 .before .before .place .ensures in
     fetched _ _ _ _ _ (at-copied .copied .ensures) _ (s .pre .0) (s .pre .1 .0) (s .good .1 .1 .1 .1 .0 .1 .0 .1) _ (s .pre .1 .1)
     (s .good .1 .1 .0 .1 .0 .1) none target (c .before .before .before .before .place2 .ensures) (c .before .before .copy-between .ensures)
-
-same-length-2 : tie.Need-same-length-2
-same-length-2 c = search needs
 
 returns-2 : tie.Need-returns-2
 unfolding bare
@@ -79,18 +52,6 @@ returns-2 c =
 
 pub copy-spec : {M : Type 1} → statement M
 copy-spec =
-    tie.close
-    (tie.spec
-    div-copied
-    copied-requires
-    place-requires
-    div-is-bare
-    is-bare-requires
-    place-requires-2
-    copy-between-requires
-    place-requires-3
-    move-within-requires
-    same-length
-    returns
-    same-length-2
-    returns-2)
+    tie.close (tie.spec (λ c. search needs) (λ c κs. search needs) (λ c κs. search needs) (λ c. search needs) (λ c κs. search needs)
+        (λ c κs. search needs) copy-between-requires (λ c κs. search needs) move-within-requires (λ c. search needs) returns
+        (λ c. search needs) returns-2)

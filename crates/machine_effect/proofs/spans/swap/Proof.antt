@@ -8,16 +8,10 @@ use Rattle.machine_effect.proofs.Laws.Spans.{lent-made, over-first, one
 use Rattle.machine_effect.proofs.spans.swap.Statement.{statement}
 use Rattle.machine_effect.proofs.spans.swap.Tie as tie
 
-div-copied : tie.Need-div-copied
-div-copied c = search needs
-
 copied-requires : tie.Need-copied-requires
 copied-requires c κs =
     let s = c .before .before .before in
     (s .pre .0, s .pre .1 .second .room)
-
-div-copied-2 : tie.Need-div-copied-2
-div-copied-2 c = search needs
 
 copied-requires-2 : tie.Need-copied-requires-2
 copied-requires-2 c κs =
@@ -46,9 +40,6 @@ swap-within-requires c κs =
     let two = two-fits _ e _ _ _ _ _ _ first second (s .pre .0) (s .pre .1) (s .good .1 .1 .1 .1 .0 .1 .0 .1) in
     (omega (arith, one, c .before .place .ensures), omega (arith, two, c .place2 .ensures))
 
-same-length : tie.Need-same-length
-same-length c = search needs
-
 returns : tie.Need-returns
 returns c =
     let at-second = c .before .before .before .before .before .before .before .before in
@@ -60,14 +51,5 @@ returns c =
 
 pub swap-spec : {M : Type 1} → statement M
 swap-spec =
-    tie.close
-    (tie.spec
-    div-copied
-    copied-requires
-    div-copied-2
-    copied-requires-2
-    place-requires
-    place-requires-2
-    swap-within-requires
-    same-length
-    returns)
+    tie.close (tie.spec (λ c. search needs) copied-requires (λ c. search needs) copied-requires-2 place-requires place-requires-2
+        swap-within-requires (λ c. search needs) returns)

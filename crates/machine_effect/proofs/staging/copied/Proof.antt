@@ -9,21 +9,9 @@ use Rattle.machine_effect.proofs.Laws.Copies.{copied-old, laid-copy}
 use Rattle.machine_effect.proofs.staging.copied.Statement.{statement}
 use Rattle.machine_effect.proofs.staging.copied.Tie as tie
 
-is-bare-requires : tie.Need-is-bare-requires
-is-bare-requires c κs = search needs
-
 returns : tie.Need-returns
 unfolding bare
 returns c = sym (copied-old _ _ _ _ (sym (c .before .is-bare .ensures) ∙ not-true _ (c .if1 .taken)))
-
-free-copy-requires : tie.Need-free-copy-requires
-free-copy-requires c κs = tt
-
-array-read-copy-between : tie.Need-array-read-copy-between
-array-read-copy-between c = search needs
-
-cast-copy-between : tie.Need-cast-copy-between
-cast-copy-between c = search needs
 
 mul-copy-between : tie.Need-mul-copy-between
 unfolding bare
@@ -55,12 +43,6 @@ cast-after c =
     let new = new-slot _ _ _ _ (s .pre .0) free (c .before .before .before .before .free-copy .ensures) in
     omega (arith, new .small)
 
-array-write-after : tie.Need-array-write-after
-array-write-after c = search needs
-
-same-length : tie.Need-same-length
-same-length c = search needs
-
 returns-2 : tie.Need-returns-2
 unfolding bare
 returns-2 c =
@@ -70,17 +52,5 @@ returns-2 c =
 
 pub copied-spec : {M : Type 1} → statement M
 copied-spec =
-    tie.close
-    (tie.spec
-    is-bare-requires
-    returns
-    free-copy-requires
-    array-read-copy-between
-    cast-copy-between
-    mul-copy-between
-    mul-copy-between-2
-    copy-between-requires
-    cast-after
-    array-write-after
-    same-length
-    returns-2)
+    tie.close (tie.spec (λ c κs. search needs) returns (λ c κs. tt) (λ c. search needs) (λ c. search needs) mul-copy-between
+        mul-copy-between-2 copy-between-requires cast-after (λ c. search needs) (λ c. search needs) returns-2)

@@ -8,11 +8,9 @@ use Rattle.machine_effect.proofs.Laws.Slots.{any-default}
 use Rattle.machine_effect.proofs.staging.is_bare.Statement.{statement}
 use Rattle.machine_effect.proofs.staging.is_bare.Tie as tie
 
-array-read-result : tie.Need-array-read-result
-array-read-result c = search needs
-
 returns : tie.Need-returns
 returns c = ap (λ (n : ℕ). eqb n 255) (any-default (c .args .t1) (c .args .at) 0 255 (omega (arith, c .good .0 .1 .0 .1)))
 
 pub is-bare-spec : {M : Type 1} → statement M
-is-bare-spec = tie.close (tie.spec array-read-result returns)
+is-bare-spec =
+    tie.close (tie.spec (λ c. search needs) returns)

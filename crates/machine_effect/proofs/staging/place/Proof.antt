@@ -6,20 +6,8 @@ use Rattle.machine_effect.proofs.Laws.Slots.{place-is}
 use Rattle.machine_effect.proofs.staging.place.Statement.{statement}
 use Rattle.machine_effect.proofs.staging.place.Tie as tie
 
-div-wide : tie.Need-div-wide
-div-wide c = search needs
-
-array-read-wide : tie.Need-array-read-wide
-array-read-wide c = search needs
-
-wide-requires : tie.Need-wide-requires
-wide-requires c κs = tt
-
 mul-result : tie.Need-mul-result
 mul-result c = omega (arith, slot-near _ (c .before .pre .0) (c .wide .result) (omega arith))
-
-rem-result : tie.Need-rem-result
-rem-result c = search needs
 
 add-result : tie.Need-add-result
 add-result c = omega (arith, slot-near _ (c .before .pre .0) (c .wide .result) (omega arith), offset-less _ (c .before .pre .0) (c .before .args .at))
@@ -28,4 +16,5 @@ returns : tie.Need-returns
 returns c = place-is (c .before .args .z) (c .before .args .t2) (c .before .args .at) (c .before .good .1 .0 .1 .0 .1) (c .before .pre .1) (c .wide .ensures .0)
 
 pub place-spec : {M : Type 1} → statement M
-place-spec = tie.close (tie.spec div-wide array-read-wide wide-requires mul-result rem-result add-result returns)
+place-spec =
+    tie.close (tie.spec (λ c. search needs) (λ c. search needs) (λ c κs. tt) mul-result (λ c. search needs) add-result returns)

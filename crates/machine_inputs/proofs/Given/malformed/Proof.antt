@@ -8,12 +8,10 @@ use borrow.Author.Needs.{needs}
 use Rattle.machine_inputs.proofs.Given.malformed.Statement.{statement}
 use Rattle.machine_inputs.proofs.Given.malformed.Tie as tie
 
-none-requires : tie.Need-none-requires
-none-requires c κs = search needs
-
 returns : tie.Need-returns
 unfolding malformed
 returns c = ap (λ (a : Args). record { told = false; args = a }) (c .none .ensures)
 
 pub malformed-spec : {M : Type 1} → statement M
-malformed-spec = tie.close (tie.spec none-requires returns)
+malformed-spec =
+    tie.close (tie.spec (λ c κs. search needs) returns)

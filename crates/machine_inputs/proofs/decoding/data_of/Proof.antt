@@ -13,12 +13,6 @@ returns : tie.Need-returns
 unfolding dataOf isData
 returns c = no _ _ _ (both-not-left _ _ (lt-leb _ _ (c .if1 .taken))) refl
 
-sub-rest : tie.Need-sub-rest
-sub-rest c = search needs
-
-load-requires : tie.Need-load-requires
-load-requires c κs = search needs
-
 returns-2 : tie.Need-returns-2
 returns-2 c =
     let at-if1 = c .before .before in
@@ -32,4 +26,5 @@ returns-3 c =
     data-right (s .args .part .now) _ (at-if1 .if1 .left) (c .before .load .ensures) (c .if2 .left)
 
 pub data-of-spec : {M : Type 1} → statement M
-data-of-spec = tie.close (tie.spec returns sub-rest load-requires returns-2 returns-3)
+data-of-spec =
+    tie.close (tie.spec returns (λ c. search needs) (λ c κs. search needs) returns-2 returns-3)

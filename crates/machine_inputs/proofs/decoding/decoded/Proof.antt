@@ -22,17 +22,11 @@ read-args-requires c κs =
     let s = c .before .before .before .before in
     within-count _ (s .args .i) 3 (count-right (s .args .i) _ (s .pre .0) (s .pre .1 .0) ∙ ap operandsOf (c .enum-told .given .1)) (s .pre .1 .1)
 
-enum-told-2 : tie.Need-enum-told-2
-enum-told-2 c = search needs
-
 read-args-requires-2 : tie.Need-read-args-requires-2
 unfolding operandsOf
 read-args-requires-2 c κs =
     let s = c .before .before .before .before in
     within-count _ (s .args .i) 3 (count-right (s .args .i) _ (s .pre .0) (s .pre .1 .0) ∙ ap operandsOf (c .enum-told2 .given .1)) (s .pre .1 .1)
-
-enum-told-3 : tie.Need-enum-told-3
-enum-told-3 c = search needs
 
 write-args-requires : tie.Need-write-args-requires
 unfolding operandsOf
@@ -40,17 +34,11 @@ write-args-requires c κs =
     let s = c .before .before .before .before in
     within-count _ (s .args .i) 2 (count-right (s .args .i) _ (s .pre .0) (s .pre .1 .0) ∙ ap operandsOf (c .enum-told3 .given .1)) (s .pre .1 .1)
 
-enum-told-4 : tie.Need-enum-told-4
-enum-told-4 c = search needs
-
 span-args-requires : tie.Need-span-args-requires
 unfolding operandsOf
 span-args-requires c κs =
     let s = c .before .before .before .before in
     within-count _ (s .args .i) 3 (count-right (s .args .i) _ (s .pre .0) (s .pre .1 .0) ∙ ap operandsOf (c .enum-told4 .given .1)) (s .pre .1 .1)
-
-enum-told-5 : tie.Need-enum-told-5
-enum-told-5 c = search needs
 
 span-args-requires-2 : tie.Need-span-args-requires-2
 unfolding operandsOf
@@ -58,20 +46,11 @@ span-args-requires-2 c κs =
     let s = c .before .before .before .before in
     within-count _ (s .args .i) 3 (count-right (s .args .i) _ (s .pre .0) (s .pre .1 .0) ∙ ap operandsOf (c .enum-told5 .given .1)) (s .pre .1 .1)
 
-enum-told-6 : tie.Need-enum-told-6
-enum-told-6 c = search needs
-
 size-args-requires : tie.Need-size-args-requires
 unfolding operandsOf
 size-args-requires c κs =
     let s = c .before .before .before .before in
     within-count _ (s .args .i) 1 (count-right (s .args .i) _ (s .pre .0) (s .pre .1 .0) ∙ ap operandsOf (c .enum-told6 .given .1)) (s .pre .1 .1)
-
-enum-told-7 : tie.Need-enum-told-7
-enum-told-7 c = search needs
-
-malformed-requires : tie.Need-malformed-requires
-malformed-requires c κs = search needs
 
 returns : tie.Need-returns
 unfolding operandsOf fromOf
@@ -136,26 +115,6 @@ returns-7 c =
 
 pub decoded-spec : {M : Type 1} → statement M
 decoded-spec =
-    tie.close
-    (tie.spec
-    enum-told
-    read-args-requires
-    enum-told-2
-    read-args-requires-2
-    enum-told-3
-    write-args-requires
-    enum-told-4
-    span-args-requires
-    enum-told-5
-    span-args-requires-2
-    enum-told-6
-    size-args-requires
-    enum-told-7
-    malformed-requires
-    returns
-    returns-2
-    returns-3
-    returns-4
-    returns-5
-    returns-6
-    returns-7)
+    tie.close (tie.spec enum-told read-args-requires (λ c. search needs) read-args-requires-2 (λ c. search needs) write-args-requires
+        (λ c. search needs) span-args-requires (λ c. search needs) span-args-requires-2 (λ c. search needs) size-args-requires
+        (λ c. search needs) (λ c κs. search needs) returns returns-2 returns-3 returns-4 returns-5 returns-6 returns-7)

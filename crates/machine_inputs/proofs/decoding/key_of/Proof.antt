@@ -18,12 +18,6 @@ returns : tie.Need-returns
 unfolding keyOf isKey
 returns c = no _ _ _ (ne-eqb _ _ (c .if1 .taken)) refl
 
-slice-aggregate-copy-between : tie.Need-slice-aggregate-copy-between
-slice-aggregate-copy-between c = search needs
-
-copy-between-requires : tie.Need-copy-between-requires
-copy-between-requires c κs = search needs
-
 returns-2 : tie.Need-returns-2
 unfolding keyOf isKey
 returns-2 c =
@@ -34,4 +28,4 @@ returns-2 c =
 
 pub key-of-spec : {M : Type 1} → statement M
 key-of-spec =
-    tie.close (tie.spec returns slice-aggregate-copy-between copy-between-requires returns-2)
+    tie.close (tie.spec returns (λ c. search needs) (λ c κs. search needs) returns-2)

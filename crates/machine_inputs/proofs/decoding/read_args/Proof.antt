@@ -12,22 +12,10 @@ use borrow.Author.Needs.{needs}
 use Rattle.machine_inputs.proofs.decoding.read_args.Statement.{statement}
 use Rattle.machine_inputs.proofs.decoding.read_args.Tie as tie
 
-array-copy-out-one : tie.Need-array-copy-out-one
-array-copy-out-one c = search needs
-
-array-copy-out-two : tie.Need-array-copy-out-two
-array-copy-out-two c = search needs
-
-array-copy-out-three : tie.Need-array-copy-out-three
-array-copy-out-three c = search needs
-
 key-at-requires : tie.Need-key-at-requires
 key-at-requires c κs =
     let s = c .before .before .before .before in
     ends-within _ (s .args .t2) 3 0 (s .good .1 .0 .1 .0 .1) (s .pre) (omega arith) (omega arith)
-
-malformed-requires : tie.Need-malformed-requires
-malformed-requires c κs = search needs
 
 returns : tie.Need-returns
 unfolding wellFormed three
@@ -42,14 +30,8 @@ number-at-requires c κs =
     let s = c .before .before .before .before .before .before .before in
     ends-within _ (s .args .t2) 3 1 (s .good .1 .0 .1 .0 .1) (s .pre) (omega arith) (omega arith)
 
-enum-known-first : tie.Need-enum-known-first
-enum-known-first c = search needs
-
 enum-told : tie.Need-enum-told
 enum-told c = search needs
-
-malformed-requires-2 : tie.Need-malformed-requires-2
-malformed-requires-2 c κs = search needs
 
 returns-2 : tie.Need-returns-2
 unfolding wellFormed three
@@ -64,15 +46,6 @@ number-at-requires-2 : tie.Need-number-at-requires-2
 number-at-requires-2 c κs =
     let s = c .before .before .before .before .before .before .before .before .before .before .before in
     ends-within _ (s .args .t2) 3 2 (s .good .1 .0 .1 .0 .1) (s .pre) (omega arith) (omega arith)
-
-enum-known-len : tie.Need-enum-known-len
-enum-known-len c = search needs
-
-enum-told-2 : tie.Need-enum-told-2
-enum-told-2 c = search needs
-
-malformed-requires-3 : tie.Need-malformed-requires-3
-malformed-requires-3 c κs = search needs
 
 returns-3 : tie.Need-returns-3
 unfolding wellFormed three
@@ -98,22 +71,6 @@ returns-4 c =
 
 pub read-args-spec : {M : Type 1} → statement M
 read-args-spec =
-    tie.close
-    (tie.spec
-    array-copy-out-one
-    array-copy-out-two
-    array-copy-out-three
-    key-at-requires
-    malformed-requires
-    returns
-    number-at-requires
-    enum-known-first
-    enum-told
-    malformed-requires-2
-    returns-2
-    number-at-requires-2
-    enum-known-len
-    enum-told-2
-    malformed-requires-3
-    returns-3
-    returns-4)
+    tie.close (tie.spec (λ c. search needs) (λ c. search needs) (λ c. search needs) key-at-requires (λ c κs. search needs) returns
+        number-at-requires (λ c. search needs) enum-told (λ c κs. search needs) returns-2 number-at-requires-2 (λ c. search needs)
+        (λ c. search needs) (λ c κs. search needs) returns-3 returns-4)

@@ -10,22 +10,13 @@ use borrow.Author.Needs.{needs}
 use Rattle.machine_inputs.proofs.decoding.size_args.Statement.{statement}
 use Rattle.machine_inputs.proofs.decoding.size_args.Tie as tie
 
-array-copy-out-one : tie.Need-array-copy-out-one
-array-copy-out-one c = search needs
-
 number-at-requires : tie.Need-number-at-requires
 number-at-requires c κs =
     let s = c .before .before in
     ends-within _ (s .args .t2) 1 0 (s .good .1 .0 .1 .0 .1) (s .pre) (omega arith) (omega arith)
 
-enum-known-first : tie.Need-enum-known-first
-enum-known-first c = search needs
-
 enum-told : tie.Need-enum-told
 enum-told c = search needs
-
-malformed-requires : tie.Need-malformed-requires
-malformed-requires c κs = search needs
 
 returns : tie.Need-returns
 unfolding wellFormed one
@@ -43,12 +34,4 @@ returns-2 c =
 
 pub size-args-spec : {M : Type 1} → statement M
 size-args-spec =
-    tie.close
-    (tie.spec
-    array-copy-out-one
-    number-at-requires
-    enum-known-first
-    enum-told
-    malformed-requires
-    returns
-    returns-2)
+    tie.close (tie.spec (λ c. search needs) number-at-requires (λ c. search needs) enum-told (λ c κs. search needs) returns returns-2)

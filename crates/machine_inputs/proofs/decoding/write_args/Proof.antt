@@ -14,25 +14,13 @@ use borrow.Author.Needs.{needs}
 use Rattle.machine_inputs.proofs.decoding.write_args.Statement.{statement}
 use Rattle.machine_inputs.proofs.decoding.write_args.Tie as tie
 
-array-copy-out-one : tie.Need-array-copy-out-one
-array-copy-out-one c = search needs
-
-array-copy-out-two : tie.Need-array-copy-out-two
-array-copy-out-two c = search needs
-
 number-at-requires : tie.Need-number-at-requires
 number-at-requires c κs =
     let s = c .before .before .before in
     ends-within _ (s .args .t2) 2 0 (s .good .1 .0 .1 .0 .1) (s .pre) (omega arith) (omega arith)
 
-enum-known-first : tie.Need-enum-known-first
-enum-known-first c = search needs
-
 enum-told : tie.Need-enum-told
 enum-told c = search needs
-
-malformed-requires : tie.Need-malformed-requires
-malformed-requires c κs = search needs
 
 returns : tie.Need-returns
 unfolding wellFormed two
@@ -47,15 +35,6 @@ data-at-requires : tie.Need-data-at-requires
 data-at-requires c κs =
     let s = c .before .before .before .before .before .before .before in
     ends-within _ (s .args .t2) 2 1 (s .good .1 .0 .1 .0 .1) (s .pre) (omega arith) (omega arith)
-
-enum-known-len : tie.Need-enum-known-len
-enum-known-len c = search needs
-
-enum-told-2 : tie.Need-enum-told-2
-enum-told-2 c = search needs
-
-malformed-requires-2 : tie.Need-malformed-requires-2
-malformed-requires-2 c κs = search needs
 
 returns-2 : tie.Need-returns-2
 unfolding wellFormed two
@@ -95,19 +74,5 @@ returns-3 c =
 
 pub write-args-spec : {M : Type 1} → statement M
 write-args-spec =
-    tie.close
-    (tie.spec
-    array-copy-out-one
-    array-copy-out-two
-    number-at-requires
-    enum-known-first
-    enum-told
-    malformed-requires
-    returns
-    data-at-requires
-    enum-known-len
-    enum-told-2
-    malformed-requires-2
-    returns-2
-    add-from
-    returns-3)
+    tie.close (tie.spec (λ c. search needs) (λ c. search needs) number-at-requires (λ c. search needs) enum-told (λ c κs. search needs)
+        returns data-at-requires (λ c. search needs) (λ c. search needs) (λ c κs. search needs) returns-2 add-from returns-3)

@@ -9,11 +9,9 @@ use Rattle.machine_inputs.proofs.operands.end_of.Tie as tie
 returns : tie.Need-returns
 returns c = yes _ _ _ (eq-eqb _ _ (c .if1 .taken)) refl
 
-add-result : tie.Need-add-result
-add-result c = search needs
-
 returns-2 : tie.Need-returns-2
 returns-2 c = no _ _ _ (ne-eqb _ _ (c .before .if1 .left)) refl
 
 pub end-of-spec : {M : Type 1} → statement M
-end-of-spec = tie.close (tie.spec returns add-result returns-2)
+end-of-spec =
+    tie.close (tie.spec returns (λ c. search needs) returns-2)

@@ -10,20 +10,11 @@ use borrow.Author.Needs.{needs}
 use Rattle.machine_inputs.proofs.operands.ill_formed.Statement.{statement}
 use Rattle.machine_inputs.proofs.operands.ill_formed.Tie as tie
 
-op-of-requires : tie.Need-op-of-requires
-op-of-requires c κs = search needs
-
-known-requires : tie.Need-known-requires
-known-requires c κs = search needs
-
 returns : tie.Need-returns
 unfolding illFormed
 returns c =
     let at-op-of = c .before .before in
     yes _ _ _ (ap (λ (o : Op). not (known o)) (sym (at-op-of .op-of .ensures)) ∙ ap not (sym (c .before .known .ensures)) ∙ c .if1 .taken) refl
-
-operands-of-requires : tie.Need-operands-of-requires
-operands-of-requires c κs = search needs
 
 returns-2 : tie.Need-returns-2
 unfolding illFormed
@@ -37,4 +28,4 @@ returns-2 c =
 
 pub ill-formed-spec : {M : Type 1} → statement M
 ill-formed-spec =
-    tie.close (tie.spec op-of-requires known-requires returns operands-of-requires returns-2)
+    tie.close (tie.spec (λ c κs. search needs) (λ c κs. search needs) returns (λ c κs. search needs) returns-2)

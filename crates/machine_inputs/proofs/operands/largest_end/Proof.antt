@@ -24,12 +24,6 @@ abbrev μ-loop : tie.MeasureT-loop
 loop-holds : tie.Need-loop-holds Inv-loop μ-loop
 loop-holds c = (omega arith, c .pre .1, largest-first (c .args .t2) (c .args .n))
 
-mul-o : tie.Need-mul-o Inv-loop μ-loop
-mul-o c = search needs
-
-array-copy-out-o : tie.Need-array-copy-out-o Inv-loop μ-loop
-array-copy-out-o c = omega arith
-
 end-of-requires : tie.Need-end-of-requires Inv-loop μ-loop
 end-of-requires c κs =
     let at-loop = c .before .before in
@@ -40,15 +34,6 @@ end-of-requires c κs =
           (at-loop .loop .inv .1),
       s .fits .declared,
     )
-
-greater-requires : tie.Need-greater-requires Inv-loop μ-loop
-greater-requires c κs = tt
-
-add-i : tie.Need-add-i Inv-loop μ-loop
-add-i c = search needs
-
-loop-less : tie.Need-loop-less Inv-loop μ-loop
-loop-less c = omega arith
 
 loop-again : tie.Need-loop-again Inv-loop μ-loop
 loop-again c =
@@ -71,16 +56,5 @@ returns c =
 
 pub largest-end-spec : {M : Type 1} → statement M
 largest-end-spec =
-    tie.close
-    (tie.spec
-    Inv-loop
-    μ-loop
-    loop-holds
-    mul-o
-    array-copy-out-o
-    end-of-requires
-    greater-requires
-    add-i
-    loop-less
-    loop-again
-    returns)
+    tie.close (tie.spec Inv-loop μ-loop loop-holds (λ c. search needs) (λ c. omega arith) end-of-requires (λ c κs. tt) (λ c. search needs)
+        (λ c. omega arith) loop-again returns)

@@ -10,15 +10,9 @@ use borrow.Author.Needs.{needs}
 use Rattle.machine_inputs.proofs.operands.need.Statement.{statement}
 use Rattle.machine_inputs.proofs.operands.need.Tie as tie
 
-ill-formed-requires : tie.Need-ill-formed-requires
-ill-formed-requires c κs = search needs
-
 returns : tie.Need-returns
 unfolding need
 returns c = yes _ _ _ (sym (c .before .ill-formed .ensures) ∙ c .if1 .taken) refl
-
-past-end-requires : tie.Need-past-end-requires
-past-end-requires c κs = search needs
 
 returns-2 : tie.Need-returns-2
 unfolding need
@@ -26,9 +20,6 @@ returns-2 c =
     let at-if1 = c .before .before in
     let at-ill-formed = at-if1 .before in
     no _ _ _ (sym (at-ill-formed .ill-formed .ensures) ∙ at-if1 .if1 .left) (yes _ _ _ (sym (c .before .past-end .ensures) ∙ c .if2 .taken) refl)
-
-listed-requires : tie.Need-listed-requires
-listed-requires c κs = search needs
 
 largest-end-requires : tie.Need-largest-end-requires
 unfolding pastEnd
@@ -57,12 +48,5 @@ returns-3 c =
 
 pub need-spec : {M : Type 1} → statement M
 need-spec =
-    tie.close
-    (tie.spec
-    ill-formed-requires
-    returns
-    past-end-requires
-    returns-2
-    listed-requires
-    largest-end-requires
-    returns-3)
+    tie.close (tie.spec (λ c κs. search needs) returns (λ c κs. search needs) returns-2 (λ c κs. search needs) largest-end-requires
+        returns-3)

@@ -9,12 +9,6 @@ use borrow.Author.Needs.{needs}
 use Rattle.machine_inputs.proofs.operands.past_end.Statement.{statement}
 use Rattle.machine_inputs.proofs.operands.past_end.Tie as tie
 
-listed-requires : tie.Need-listed-requires
-listed-requires c κs = search needs
-
-some-past-requires : tie.Need-some-past-requires
-some-past-requires c κs = search needs
-
 returns : tie.Need-returns
 unfolding pastEnd
 returns c =
@@ -23,4 +17,5 @@ returns c =
     (listed-all (s .args .i .count) (s .args .i .operands) (known-instruction (s .args .i) _ (s .good .1 .0) .1) _ (c .before .listed .ensures .0))
 
 pub past-end-spec : {M : Type 1} → statement M
-past-end-spec = tie.close (tie.spec listed-requires some-past-requires returns)
+past-end-spec =
+    tie.close (tie.spec (λ c κs. search needs) (λ c κs. search needs) returns)

@@ -18,18 +18,6 @@ Inv-loop declared n list i₀ i = (i ≤ n) × (some (endsPast declared) (take n
 abbrev μ-loop : tie.MeasureT-loop
 μ-loop declared n list i₀ i = n - i
 
-loop-holds : tie.Need-loop-holds Inv-loop μ-loop
-loop-holds c = (omega arith, refl)
-
-mul-o : tie.Need-mul-o Inv-loop μ-loop
-mul-o c = search needs
-
-array-copy-out-o : tie.Need-array-copy-out-o Inv-loop μ-loop
-array-copy-out-o c = omega arith
-
-ends-past-requires : tie.Need-ends-past-requires Inv-loop μ-loop
-ends-past-requires c κs = tt
-
 returns : tie.Need-returns Inv-loop μ-loop
 returns c =
     let at-loop-test = c .before .before .before in
@@ -37,12 +25,6 @@ returns c =
     let s = at-loop .before in
     some-here (endsPast _) (s .args .t2) (at-loop .loop .i) _ noOperand (s .good .1 .0 .1 .0 .1) (at-loop-test .loop-test .taken) (s .pre)
     (sym (c .before .ends-past .ensures) ∙ c .if1 .taken) ∙ sym (at-loop .loop .inv .1)
-
-add-i : tie.Need-add-i Inv-loop μ-loop
-add-i c = search needs
-
-loop-less : tie.Need-loop-less Inv-loop μ-loop
-loop-less c = omega arith
 
 loop-again : tie.Need-loop-again Inv-loop μ-loop
 loop-again c =
@@ -61,16 +43,5 @@ returns-2 c =
 
 pub some-past-spec : {M : Type 1} → statement M
 some-past-spec =
-    tie.close
-    (tie.spec
-    Inv-loop
-    μ-loop
-    loop-holds
-    mul-o
-    array-copy-out-o
-    ends-past-requires
-    returns
-    add-i
-    loop-less
-    loop-again
-    returns-2)
+    tie.close (tie.spec Inv-loop μ-loop (λ c. (omega arith, refl)) (λ c. search needs) (λ c. omega arith) (λ c κs. tt) returns
+        (λ c. search needs) (λ c. omega arith) loop-again returns-2)

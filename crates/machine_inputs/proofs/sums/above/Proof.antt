@@ -18,4 +18,5 @@ returns-2 c =
     (λ u. omega (arith, ltb-false (a .limit - a .one) (a .two) u))
 
 pub above-spec : {M : Type 1} → statement M
-above-spec = tie.close (tie.spec returns returns-2)
+above-spec =
+    tie.close (tie.spec returns returns-2)

@@ -4,12 +4,6 @@ use borrow.Author.Needs.{needs}
 use Rattle.machine_plan.proofs.Plan.failed.Statement.{statement}
 use Rattle.machine_plan.proofs.Plan.failed.Tie as tie
 
-none-requires : tie.Need-none-requires
-none-requires c κs = search needs
-
-no-sectors-requires : tie.Need-no-sectors-requires
-no-sectors-requires c κs = search needs
-
 returns : tie.Need-returns
 unfolding failed
 returns c =
@@ -19,4 +13,5 @@ returns c =
     λ i. record { number = s .args .number; op = s .args .op; args = given i; sectors = nothing i; cost = 0; size = 0; hashes = 0; count = 0 }
 
 pub failed-spec : {M : Type 1} → statement M
-failed-spec = tie.close (tie.spec none-requires no-sectors-requires returns)
+failed-spec =
+    tie.close (tie.spec (λ c κs. search needs) (λ c κs. search needs) returns)

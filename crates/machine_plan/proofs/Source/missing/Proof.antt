@@ -4,11 +4,9 @@ use borrow.Author.Needs.{needs}
 use Rattle.machine_plan.proofs.Source.missing.Statement.{statement}
 use Rattle.machine_plan.proofs.Source.missing.Tie as tie
 
-no-sectors-requires : tie.Need-no-sectors-requires
-no-sectors-requires c κs = search needs
-
 returns : tie.Need-returns
 returns c = shows-missing _ (c .no-sectors .ensures)
 
 pub missing-spec : {M : Type 1} → statement M
-missing-spec = tie.close (tie.spec no-sectors-requires returns)
+missing-spec =
+    tie.close (tie.spec (λ c κs. search needs) returns)

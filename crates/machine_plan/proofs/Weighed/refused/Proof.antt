@@ -9,4 +9,5 @@ unfolding refused
 returns c = refl
 
 pub refused-spec : {M : Type 1} → statement M
-refused-spec = tie.close (tie.spec returns)
+refused-spec =
+    tie.close (tie.spec returns)

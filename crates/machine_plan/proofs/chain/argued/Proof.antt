@@ -75,12 +75,6 @@ valued c =
 
 -- ---- the needs
 
-changes-nothing-requires : tie.Need-changes-nothing-requires
-changes-nothing-requires c κs = search needs
-
-failed-requires : tie.Need-failed-requires
-failed-requires c κs = search needs
-
 returns : tie.Need-returns
 unfolding argued
 returns c = yes _ _ _ (mode (c .before .before) ∙ c .before .if1 .taken) (c .failed .ensures)
@@ -89,9 +83,6 @@ source-of-requires : tie.Need-source-of-requires
 source-of-requires c κs =
     let s = c .before .before .before .before .before .before .before in
     s .pre .0 .sources
-
-failed-requires-2 : tie.Need-failed-requires-2
-failed-requires-2 c κs = search needs
 
 returns-2 : tie.Need-returns-2
 unfolding argued
@@ -115,9 +106,6 @@ weighed-requires c κs =
         (omega (arith, few, many), (length-most (s .args .z) (the-set s) (s .args .p) good, room-most (s .args .z) (the-set s) (s .args .p) good)),
       ),
     )
-
-failed-requires-3 : tie.Need-failed-requires-3
-failed-requires-3 c κs = search needs
 
 returns-3 : tie.Need-returns-3
 unfolding argued
@@ -153,7 +141,5 @@ returns-4 c =
 
 pub argued-spec : {M : Type 1} → statement M
 argued-spec =
-    tie.close
-    (tie.spec
-    changes-nothing-requires failed-requires returns source-of-requires failed-requires-2 returns-2 weighed-requires failed-requires-3 returns-3
-    returns-4)
+    tie.close (tie.spec (λ c κs. search needs) (λ c κs. search needs) returns source-of-requires (λ c κs. search needs) returns-2
+        weighed-requires (λ c κs. search needs) returns-3 returns-4)

@@ -6,14 +6,8 @@ use borrow.Author.Needs.{needs}
 use Rattle.machine_plan.proofs.chain.changes_nothing.Statement.{statement}
 use Rattle.machine_plan.proofs.chain.changes_nothing.Tie as tie
 
-changes-requires : tie.Need-changes-requires
-changes-requires c κs = search needs
-
 returns : tie.Need-returns
 returns c = no _ _ _ (sym (c .before .changes .ensures) ∙ not-true _ (c .if1 .taken)) refl
-
-is-read-only-requires : tie.Need-is-read-only-requires
-is-read-only-requires c κs = search needs
 
 returns-2 : tie.Need-returns-2
 returns-2 c =
@@ -22,4 +16,4 @@ returns-2 c =
 
 pub changes-nothing-spec : {M : Type 1} → statement M
 changes-nothing-spec =
-    tie.close (tie.spec changes-requires returns is-read-only-requires returns-2)
+    tie.close (tie.spec (λ c κs. search needs) returns (λ c κs. search needs) returns-2)

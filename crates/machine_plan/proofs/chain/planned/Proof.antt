@@ -70,28 +70,14 @@ heard-args c = args-are _ _ _ _ (heard (c .before .before)) (told c)
 
 -- ---- the needs
 
-op-of-requires : tie.Need-op-of-requires
-op-of-requires c κs = search needs
-
-ill-formed-requires : tie.Need-ill-formed-requires
-ill-formed-requires c κs = search needs
-
-failed-requires : tie.Need-failed-requires
-failed-requires c κs = search needs
-
 returns : tie.Need-returns
 returns c =
     let at-ill-formed = c .before .before in
     let at-op-of = at-ill-formed .before in
     let s = at-op-of .before .before .before .before .before in
     c .failed .ensures ∙ ap (λ (o : Op). failed o _) (at-op-of .op-of .ensures)
-    ∙ fails-21 (s .args .z) (the-set s) (the-roots s) (s .args .p) (s .args .i) (s .args .input .now) (sym (at-ill-formed .ill-formed .ensures) ∙ c .before .if1 .taken)
-
-past-end-requires : tie.Need-past-end-requires
-past-end-requires c κs = search needs
-
-failed-requires-2 : tie.Need-failed-requires-2
-failed-requires-2 c κs = search needs
+    ∙ fails-21 (s .args .z) (the-set s) (the-roots s) (s .args .p) (s .args .i) (s .args .input .now)
+        (sym (at-ill-formed .ill-formed .ensures) ∙ c .before .if1 .taken)
 
 returns-2 : tie.Need-returns-2
 returns-2 c =
@@ -107,9 +93,6 @@ decoded-requires c κs =
     let at-if1 = c .before .before .before in
     let s = start-2 at-if1 in
     (at-if1 .before .before .op-of .ensures, (formed at-if1, ap (λ (n : ℕ). pastEnd n (s .args .i)) (s .pre .1 .1) ∙ within c))
-
-failed-requires-3 : tie.Need-failed-requires-3
-failed-requires-3 c κs = search needs
 
 returns-3 : tie.Need-returns-3
 returns-3 c =
@@ -136,7 +119,5 @@ returns-4 c =
 
 pub planned-spec : {M : Type 1} → statement M
 planned-spec =
-    tie.close
-    (tie.spec
-    op-of-requires ill-formed-requires failed-requires returns past-end-requires failed-requires-2 returns-2 decoded-requires failed-requires-3
-    returns-3 argued-requires returns-4)
+    tie.close (tie.spec (λ c κs. search needs) (λ c κs. search needs) (λ c κs. search needs) returns (λ c κs. search needs)
+        (λ c κs. search needs) returns-2 decoded-requires (λ c κs. search needs) returns-3 argued-requires returns-4)

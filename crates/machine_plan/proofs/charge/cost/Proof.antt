@@ -8,18 +8,6 @@ use borrow.Author.Needs.{needs}
 use Rattle.machine_plan.proofs.charge.cost.Statement.{statement}
 use Rattle.machine_plan.proofs.charge.cost.Tie as tie
 
-cast-memory : tie.Need-cast-memory
-cast-memory c = search needs
-
-time-requires : tie.Need-time-requires
-time-requires c κs = search needs
-
-own-requires : tie.Need-own-requires
-own-requires c κs = search needs
-
-add-result : tie.Need-add-result
-add-result c = search needs
-
 mul-result : tie.Need-mul-result
 mul-result c =
     let s = c .before .before .before in
@@ -52,13 +40,5 @@ returns c =
 
 pub cost-spec : {M : Type 1} → statement M
 cost-spec =
-    tie.close
-    (tie.spec
-    cast-memory
-    time-requires
-    own-requires
-    add-result
-    mul-result
-    mul-result-2
-    add-result-2
-    returns)
+    tie.close (tie.spec (λ c. search needs) (λ c κs. search needs) (λ c κs. search needs) (λ c. search needs) mul-result mul-result-2
+        add-result-2 returns)

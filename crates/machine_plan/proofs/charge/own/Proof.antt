@@ -19,26 +19,17 @@ read-price-requires c κs =
     let s = c .before .before in
     small-as _ _ (s .args .n) (c .enum-told .given .1) (s .pre)
 
-enum-told-2 : tie.Need-enum-told-2
-enum-told-2 c = search needs
-
 read-price-requires-2 : tie.Need-read-price-requires-2
 unfolding Small
 read-price-requires-2 c κs =
     let s = c .before .before in
     small-as _ _ (s .args .n) (c .enum-told2 .given .1) (s .pre)
 
-enum-told-3 : tie.Need-enum-told-3
-enum-told-3 c = search needs
-
 write-price-requires : tie.Need-write-price-requires
 unfolding Small
 write-price-requires c κs =
     let s = c .before .before in
     small-as _ _ (s .args .n) (c .enum-told3 .given .1) (s .pre)
-
-enum-told-4 : tie.Need-enum-told-4
-enum-told-4 c = search needs
 
 read-price-requires-3 : tie.Need-read-price-requires-3
 unfolding Small
@@ -52,12 +43,6 @@ write-price-requires-2 c κs =
     let s = c .before .before .before in
     small-as _ _ (s .args .n) (c .before .enum-told4 .given .1) (s .pre)
 
-add-result : tie.Need-add-result
-add-result c = search needs
-
-enum-told-5 : tie.Need-enum-told-5
-enum-told-5 c = search needs
-
 read-price-requires-4 : tie.Need-read-price-requires-4
 unfolding Small
 read-price-requires-4 c κs =
@@ -69,21 +54,6 @@ unfolding Small
 write-price-requires-3 c κs =
     let s = c .before .before .before in
     small-as _ _ (s .args .n) (c .before .enum-told5 .given .1) (s .pre)
-
-add-result-2 : tie.Need-add-result-2
-add-result-2 c = search needs
-
-mul-result : tie.Need-mul-result
-mul-result c = search needs
-
-enum-told-6 : tie.Need-enum-told-6
-enum-told-6 c = search needs
-
-cast-result : tie.Need-cast-result
-cast-result c = search needs
-
-enum-told-7 : tie.Need-enum-told-7
-enum-told-7 c = search needs
 
 returns : tie.Need-returns
 unfolding own
@@ -148,30 +118,7 @@ returns-7 c =
 
 pub own-spec : {M : Type 1} → statement M
 own-spec =
-    tie.close
-    (tie.spec
-    enum-told
-    read-price-requires
-    enum-told-2
-    read-price-requires-2
-    enum-told-3
-    write-price-requires
-    enum-told-4
-    read-price-requires-3
-    write-price-requires-2
-    add-result
-    enum-told-5
-    read-price-requires-4
-    write-price-requires-3
-    add-result-2
-    mul-result
-    enum-told-6
-    cast-result
-    enum-told-7
-    returns
-    returns-2
-    returns-3
-    returns-4
-    returns-5
-    returns-6
-    returns-7)
+    tie.close (tie.spec enum-told read-price-requires (λ c. search needs) read-price-requires-2 (λ c. search needs) write-price-requires
+        (λ c. search needs) read-price-requires-3 write-price-requires-2 (λ c. search needs) (λ c. search needs) read-price-requires-4
+        write-price-requires-3 (λ c. search needs) (λ c. search needs) (λ c. search needs) (λ c. search needs) (λ c. search needs) returns
+        returns-2 returns-3 returns-4 returns-5 returns-6 returns-7)

@@ -15,4 +15,5 @@ returns : tie.Need-returns
 returns c = (refl, omega (arith, priced (c .args .each) (c .args .n) (omega arith) (c .pre)))
 
 pub price-spec : {M : Type 1} → statement M
-price-spec = tie.close (tie.spec mul-result add-result returns)
+price-spec =
+    tie.close (tie.spec mul-result add-result returns)

@@ -9,11 +9,9 @@ use Rattle.machine_plan.proofs.judge.asked_badly.Tie as tie
 returns : tie.Need-returns
 returns c = no _ _ _ (not-true _ (c .if1 .taken)) refl
 
-bad-proof-requires : tie.Need-bad-proof-requires
-bad-proof-requires c κs = search needs
-
 returns-2 : tie.Need-returns-2
 returns-2 c = yes _ _ _ (not-false _ (c .before .if1 .left)) (c .bad-proof .ensures)
 
 pub asked-badly-spec : {M : Type 1} → statement M
-asked-badly-spec = tie.close (tie.spec returns bad-proof-requires returns-2)
+asked-badly-spec =
+    tie.close (tie.spec returns (λ c κs. search needs) returns-2)

@@ -67,29 +67,14 @@ short c u =
 
 -- ---- the needs
 
-too-few-requires : tie.Need-too-few-requires
-too-few-requires c κs = search needs
-
-refused-requires : tie.Need-refused-requires
-refused-requires c κs = search needs
-
 returns : tie.Need-returns
 unfolding fitted
 returns c = yes _ _ _ (slots (c .before .before) ∙ c .before .if1 .taken) (c .refused .ensures)
-
-new-size-requires : tie.Need-new-size-requires
-new-size-requires c κs = search needs
 
 mul-sizes-fit : tie.Need-mul-sizes-fit
 mul-sizes-fit c =
     let s = start-1 (c .before .before .before .before) in
     omega (arith, mul-le-mul (s .pre .1 .0) (s .pre .0 .most))
-
-sizes-fit-requires : tie.Need-sizes-fit-requires
-sizes-fit-requires c κs = search needs
-
-refused-requires-2 : tie.Need-refused-requires-2
-refused-requires-2 c κs = search needs
 
 returns-2 : tie.Need-returns-2
 unfolding fitted
@@ -98,18 +83,6 @@ returns-2 c =
     let at-if1 = at-sizes-fit .before .before .before .before in
     no _ _ _ (slots (at-if1 .before) ∙ at-if1 .if1 .left)
     (yes _ _ _ (disk at-sizes-fit ∙ c .before .if2 .taken) (c .refused2 .ensures))
-
-proof-count-requires : tie.Need-proof-count-requires
-proof-count-requires c κs = search needs
-
-output-count-requires : tie.Need-output-count-requires
-output-count-requires c κs = search needs
-
-record-above-requires : tie.Need-record-above-requires
-record-above-requires c κs = search needs
-
-refused-requires-3 : tie.Need-refused-requires-3
-refused-requires-3 c κs = search needs
 
 returns-3 : tie.Need-returns-3
 unfolding fitted
@@ -151,7 +124,6 @@ returns-4 c =
 
 pub fitted-spec : {M : Type 1} → statement M
 fitted-spec =
-    tie.close
-    (tie.spec
-    too-few-requires refused-requires returns new-size-requires mul-sizes-fit sizes-fit-requires refused-requires-2 returns-2
-    proof-count-requires output-count-requires record-above-requires refused-requires-3 returns-3 mul-count add-count add-count-2 returns-4)
+    tie.close (tie.spec (λ c κs. search needs) (λ c κs. search needs) returns (λ c κs. search needs) mul-sizes-fit (λ c κs. search needs)
+        (λ c κs. search needs) returns-2 (λ c κs. search needs) (λ c κs. search needs) (λ c κs. search needs) (λ c κs. search needs)
+        returns-3 mul-count add-count add-count-2 returns-4)

@@ -32,22 +32,10 @@ budget c = let a = start-1 c .args in ap (λ (k : ℕ). ltb (a .terms .budget) (
 
 -- ---- the needs
 
-bad-spans-requires : tie.Need-bad-spans-requires
-bad-spans-requires c κs = search needs
-
-refused-requires : tie.Need-refused-requires
-refused-requires c κs = search needs
-
 returns : tie.Need-returns
 returns c =
     let at-bad-spans = c .before .before in
     c .refused .ensures ∙ fails-26 _ _ _ _ _ _ _ (sym (at-bad-spans .bad-spans .ensures) ∙ c .before .if1 .taken)
-
-asked-badly-requires : tie.Need-asked-badly-requires
-asked-badly-requires c κs = search needs
-
-refused-requires-2 : tie.Need-refused-requires-2
-refused-requires-2 c κs = search needs
 
 returns-2 : tie.Need-returns-2
 returns-2 c =
@@ -61,12 +49,6 @@ cost-requires c κs =
     let at-if1 = c .before .before .before .before in
     let s = at-if1 .before .before in
     (s .pre .1 .1 .1 .0, charged _ (s .pre .0) _ (sectorsOf (s .args .seen)) (s .args .op) (numbers (s .args .args)) (right-spans at-if1))
-
-above-requires : tie.Need-above-requires
-above-requires c κs = search needs
-
-refused-requires-3 : tie.Need-refused-requires-3
-refused-requires-3 c κs = search needs
 
 returns-3 : tie.Need-returns-3
 unfolding numbers
@@ -95,7 +77,5 @@ returns-4 c =
 
 pub weighed-spec : {M : Type 1} → statement M
 weighed-spec =
-    tie.close
-    (tie.spec
-    bad-spans-requires refused-requires returns asked-badly-requires refused-requires-2 returns-2 cost-requires above-requires refused-requires-3
-    returns-3 fitted-requires returns-4)
+    tie.close (tie.spec (λ c κs. search needs) (λ c κs. search needs) returns (λ c κs. search needs) (λ c κs. search needs) returns-2
+        cost-requires (λ c κs. search needs) (λ c κs. search needs) returns-3 fitted-requires returns-4)

@@ -12,24 +12,12 @@ use borrow.Author.Needs.{needs}
 use Rattle.machine_plan.proofs.lookup.contract_source.Statement.{statement}
 use Rattle.machine_plan.proofs.lookup.contract_source.Tie as tie
 
-place-of-requires : tie.Need-place-of-requires
-place-of-requires c κs = search needs
-
-missing-requires : tie.Need-missing-requires
-missing-requires c κs = search needs
-
 returns : tie.Need-returns
 returns c =
     let at-place-of = c .before .before .before in
     let s = at-place-of .before in
     shows-as _ _ _ (not-found (s .args .z) (looking (s .args .places) (s .args .id)) (s .args .p) (s .args .key)
     (ap (λ (q : Place). q .held) (sym (at-place-of .place-of .ensures)) ∙ not-true _ (c .before .if1 .taken))) (c .missing .ensures)
-
-same-id-requires : tie.Need-same-id-requires
-same-id-requires c κs = search needs
-
-parent-seen-requires : tie.Need-parent-seen-requires
-parent-seen-requires c κs = search needs
 
 returns-2 : tie.Need-returns-2
 returns-2 c =
@@ -67,13 +55,5 @@ returns-3 c =
 
 pub contract-source-spec : {M : Type 1} → statement M
 contract-source-spec =
-    tie.close
-    (tie.spec
-    place-of-requires
-    missing-requires
-    returns
-    same-id-requires
-    parent-seen-requires
-    returns-2
-    committed-seen-requires
-    returns-3)
+    tie.close (tie.spec (λ c κs. search needs) (λ c κs. search needs) returns (λ c κs. search needs) (λ c κs. search needs) returns-2
+        committed-seen-requires returns-3)

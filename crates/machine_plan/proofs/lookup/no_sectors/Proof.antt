@@ -10,4 +10,5 @@ unfolding spotsOf tab
 returns c = refl
 
 pub no-sectors-spec : {M : Type 1} → statement M
-no-sectors-spec = tie.close (tie.spec returns)
+no-sectors-spec =
+    tie.close (tie.spec returns)

@@ -25,41 +25,8 @@ contract-source-requires c κs =
     let stand = at-match .before .before .pre .seeks .stand in
     (stand .size, stand .order)
 
-enum-told-2 : tie.Need-enum-told-2
-enum-told-2 c = search needs
-
 sector-source-requires : tie.Need-sector-source-requires
 sector-source-requires c κs = let at-match = c .before .before in at-match .before .before .pre
-
-enum-told-3 : tie.Need-enum-told-3
-enum-told-3 c = search needs
-
-nothing-requires : tie.Need-nothing-requires
-nothing-requires c κs = search needs
-
-enum-told-4 : tie.Need-enum-told-4
-enum-told-4 c = search needs
-
-nothing-requires-2 : tie.Need-nothing-requires-2
-nothing-requires-2 c κs = search needs
-
-enum-told-5 : tie.Need-enum-told-5
-enum-told-5 c = search needs
-
-nothing-requires-3 : tie.Need-nothing-requires-3
-nothing-requires-3 c κs = search needs
-
-enum-told-6 : tie.Need-enum-told-6
-enum-told-6 c = search needs
-
-nothing-requires-4 : tie.Need-nothing-requires-4
-nothing-requires-4 c κs = search needs
-
-enum-told-7 : tie.Need-enum-told-7
-enum-told-7 c = search needs
-
-nothing-requires-5 : tie.Need-nothing-requires-5
-nothing-requires-5 c κs = search needs
 
 returns : tie.Need-returns
 unfolding sourceOf contractSource parentSpots parent
@@ -105,26 +72,7 @@ returns-7 c =
 
 pub source-of-spec : {M : Type 1} → statement M
 source-of-spec =
-    tie.close
-    (tie.spec
-    enum-told
-    contract-source-requires
-    enum-told-2
-    sector-source-requires
-    enum-told-3
-    nothing-requires
-    enum-told-4
-    nothing-requires-2
-    enum-told-5
-    nothing-requires-3
-    enum-told-6
-    nothing-requires-4
-    enum-told-7
-    nothing-requires-5
-    returns
-    returns-2
-    returns-3
-    returns-4
-    returns-5
-    returns-6
-    returns-7)
+    tie.close (tie.spec enum-told contract-source-requires (λ c. search needs) sector-source-requires (λ c. search needs)
+        (λ c κs. search needs) (λ c. search needs) (λ c κs. search needs) (λ c. search needs) (λ c κs. search needs) (λ c. search needs)
+        (λ c κs. search needs) (λ c. search needs) (λ c κs. search needs) returns returns-2 returns-3 returns-4 returns-5 returns-6
+        returns-7)

@@ -7,9 +7,6 @@ use borrow.Author.Needs.{needs}
 use Rattle.machine_plan.proofs.room.free_at.Statement.{statement}
 use Rattle.machine_plan.proofs.room.free_at.Tie as tie
 
-staged-in-requires : tie.Need-staged-in-requires
-staged-in-requires c κs = search needs
-
 returns : tie.Need-returns
 returns c = (no _ _ _ (ap not (sym (c .before .staged-in .ensures) ∙ c .if1 .taken)) refl, omega arith)
 
@@ -17,4 +14,5 @@ returns-2 : tie.Need-returns-2
 returns-2 c = (yes _ _ _ (ap not (sym (c .before .staged-in .ensures) ∙ c .if1 .left)) refl, omega arith)
 
 pub free-at-spec : {M : Type 1} → statement M
-free-at-spec = tie.close (tie.spec staged-in-requires returns returns-2)
+free-at-spec =
+    tie.close (tie.spec (λ c κs. search needs) returns returns-2)

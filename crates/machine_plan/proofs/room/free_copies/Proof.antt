@@ -18,17 +18,8 @@ abbrev μ-loop : tie.MeasureT-loop
 loop-holds : tie.Need-loop-holds Inv-loop μ-loop
 loop-holds c = (omega arith, omega arith, count-first (unused (c .args .staged)) (c .args .copies))
 
-free-at-requires : tie.Need-free-at-requires Inv-loop μ-loop
-free-at-requires c κs = tt
-
 add-free : tie.Need-add-free Inv-loop μ-loop
 add-free c = omega (arith, c .free-at .ensures .1)
-
-add-i : tie.Need-add-i Inv-loop μ-loop
-add-i c = search needs
-
-loop-less : tie.Need-loop-less Inv-loop μ-loop
-loop-less c = omega arith
 
 loop-again : tie.Need-loop-again Inv-loop μ-loop
 loop-again c =
@@ -47,14 +38,4 @@ returns c =
 
 pub free-copies-spec : {M : Type 1} → statement M
 free-copies-spec =
-    tie.close
-    (tie.spec
-    Inv-loop
-    μ-loop
-    loop-holds
-    free-at-requires
-    add-free
-    add-i
-    loop-less
-    loop-again
-    returns)
+    tie.close (tie.spec Inv-loop μ-loop loop-holds (λ c κs. tt) add-free (λ c. search needs) (λ c. omega arith) loop-again returns)

@@ -8,9 +8,6 @@ use Rattle.machine_plan.proofs.room.lacks.Tie as tie
 returns : tie.Need-returns
 returns c = (past-lacks (c .before .args .t1) (c .before .good .0 .1 .0 .1) (c .before .args .at) (c .if1 .taken), omega arith)
 
-array-read-if2 : tie.Need-array-read-if2
-array-read-if2 c = search needs
-
 returns-2 : tie.Need-returns-2
 returns-2 c =
     let s = c .before .before in
@@ -22,4 +19,5 @@ returns-3 c =
     (has-one (s .args .t1) (s .good .0 .1 .0 .1) (s .args .at) (c .before .if1 .left) (c .if2 .left), omega arith)
 
 pub lacks-spec : {M : Type 1} → statement M
-lacks-spec = tie.close (tie.spec returns array-read-if2 returns-2 returns-3)
+lacks-spec =
+    tie.close (tie.spec returns (λ c. search needs) returns-2 returns-3)

@@ -7,9 +7,6 @@ use borrow.Author.Needs.{needs}
 use Rattle.machine_plan.proofs.room.output_count.Statement.{statement}
 use Rattle.machine_plan.proofs.room.output_count.Tie as tie
 
-reads-requires : tie.Need-reads-requires
-reads-requires c κs = search needs
-
 returns : tie.Need-returns
 unfolding outputCount numbers
 returns c = yes _ _ _ (sym (c .before .reads .ensures) ∙ c .if1 .taken) refl
@@ -19,4 +16,5 @@ unfolding outputCount numbers
 returns-2 c = no _ _ _ (sym (c .before .reads .ensures) ∙ c .if1 .left) refl
 
 pub output-count-spec : {M : Type 1} → statement M
-output-count-spec = tie.close (tie.spec reads-requires returns returns-2)
+output-count-spec =
+    tie.close (tie.spec (λ c κs. search needs) returns returns-2)

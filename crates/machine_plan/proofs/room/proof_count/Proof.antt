@@ -25,4 +25,5 @@ returns-2 c =
     (sym (sectors-many (s .args .seen))))
 
 pub proof-count-spec : {M : Type 1} → statement M
-proof-count-spec = tie.close (tie.spec returns range-count-requires returns-2)
+proof-count-spec =
+    tie.close (tie.spec returns range-count-requires returns-2)

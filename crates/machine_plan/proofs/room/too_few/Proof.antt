@@ -8,20 +8,15 @@ use Rattle.host.specs.Lists.{count, unused}
 use Rattle.machine_plan.proofs.room.too_few.Statement.{statement}
 use Rattle.machine_plan.proofs.room.too_few.Tie as tie
 
-wanted-requires : tie.Need-wanted-requires
-wanted-requires c κs = search needs
-
 returns : tie.Need-returns
 returns c =
     let a = c .before .before .args in
     let free = count (unused (a .p .staged)) 0 (a .copies) in
     sym (ap (ltb free) (sym (c .before .wanted .ensures) ∙ c .if1 .taken) ∙ le-ltb free 0 (omega arith))
 
-free-copies-requires : tie.Need-free-copies-requires
-free-copies-requires c κs = search needs
-
 returns-2 : tie.Need-returns-2
 returns-2 c = ap₂ ltb (c .free-copies .ensures) (c .before .before .before .wanted .ensures)
 
 pub too-few-spec : {M : Type 1} → statement M
-too-few-spec = tie.close (tie.spec wanted-requires returns free-copies-requires returns-2)
+too-few-spec =
+    tie.close (tie.spec (λ c κs. search needs) returns (λ c κs. search needs) returns-2)

@@ -14,36 +14,6 @@ use Rattle.machine_plan.proofs.room.wanted.Tie as tie
 enum-told : tie.Need-enum-told
 enum-told c = search needs
 
-enum-told-2 : tie.Need-enum-told-2
-enum-told-2 c = search needs
-
-enum-told-3 : tie.Need-enum-told-3
-enum-told-3 c = search needs
-
-lacks-requires : tie.Need-lacks-requires
-lacks-requires c κs = search needs
-
-enum-told-4 : tie.Need-enum-told-4
-enum-told-4 c = search needs
-
-lacks-requires-2 : tie.Need-lacks-requires-2
-lacks-requires-2 c κs = search needs
-
-enum-told-5 : tie.Need-enum-told-5
-enum-told-5 c = search needs
-
-wanted-swap-requires : tie.Need-wanted-swap-requires
-wanted-swap-requires c κs = search needs
-
-enum-told-6 : tie.Need-enum-told-6
-enum-told-6 c = search needs
-
-wanted-size-requires : tie.Need-wanted-size-requires
-wanted-size-requires c κs = search needs
-
-enum-told-7 : tie.Need-enum-told-7
-enum-told-7 c = search needs
-
 returns : tie.Need-returns
 unfolding wanted touched numbers
 returns c =
@@ -95,25 +65,6 @@ returns-7 c =
 
 pub wanted-spec : {M : Type 1} → statement M
 wanted-spec =
-    tie.close
-    (tie.spec
-    enum-told
-    enum-told-2
-    enum-told-3
-    (λ c. search needs)
-    lacks-requires
-    enum-told-4
-    (λ c. search needs)
-    lacks-requires-2
-    enum-told-5
-    wanted-swap-requires
-    enum-told-6
-    wanted-size-requires
-    enum-told-7
-    returns
-    returns-2
-    returns-3
-    returns-4
-    returns-5
-    returns-6
-    returns-7)
+    tie.close (tie.spec enum-told (λ c. search needs) (λ c. search needs) (λ c. search needs) (λ c κs. search needs) (λ c. search needs)
+        (λ c. search needs) (λ c κs. search needs) (λ c. search needs) (λ c κs. search needs) (λ c. search needs) (λ c κs. search needs)
+        (λ c. search needs) returns returns-2 returns-3 returns-4 returns-5 returns-6 returns-7)

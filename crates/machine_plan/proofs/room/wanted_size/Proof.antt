@@ -15,9 +15,6 @@ use borrow.Author.Needs.{needs}
 use Rattle.machine_plan.proofs.room.wanted_size.Statement.{statement}
 use Rattle.machine_plan.proofs.room.wanted_size.Tie as tie
 
-lacks-requires : tie.Need-lacks-requires
-lacks-requires c κs = search needs
-
 returns : tie.Need-returns
 unfolding wanted touched numbers
 returns c =
@@ -34,4 +31,5 @@ returns-2 c =
     ∙ ap (λ (l : List ℕ). length (those (λ at. eqb (getD (s .args .p .staged) at none) none) l)) (no _ _ _ (le-ltb _ _ (c .if1 .left)) refl)
 
 pub wanted-size-spec : {M : Type 1} → statement M
-wanted-size-spec = tie.close (tie.spec (λ c. search needs) lacks-requires returns returns-2)
+wanted-size-spec =
+    tie.close (tie.spec (λ c. search needs) (λ c κs. search needs) returns returns-2)

@@ -16,21 +16,12 @@ use borrow.Author.Needs.{needs}
 use Rattle.machine_plan.proofs.room.wanted_swap.Statement.{statement}
 use Rattle.machine_plan.proofs.room.wanted_swap.Tie as tie
 
-lacks-requires : tie.Need-lacks-requires
-lacks-requires c κs = search needs
-
 returns : tie.Need-returns
 unfolding wanted touched numbers
 returns c =
     let s = c .before .before .before .before .before in
     c .lacks .ensures .0 ∙ one-those (λ at. eqb (getD (s .args .p .staged) at none) none) _
     ∙ ap (λ (l : List ℕ). length (those (λ at. eqb (getD (s .args .p .staged) at none) none) l)) (yes _ _ _ (eq-eqb _ _ (c .before .if1 .taken)) refl)
-
-lacks-requires-2 : tie.Need-lacks-requires-2
-lacks-requires-2 c κs = search needs
-
-lacks-requires-3 : tie.Need-lacks-requires-3
-lacks-requires-3 c κs = search needs
 
 add-result : tie.Need-add-result
 add-result c = omega (arith, c .before .lacks2 .ensures .1, c .lacks3 .ensures .1)
@@ -45,5 +36,5 @@ returns-2 c =
 
 pub wanted-swap-spec : {M : Type 1} → statement M
 wanted-swap-spec =
-    tie.close
-    (tie.spec (λ c. search needs) (λ c. search needs) lacks-requires returns lacks-requires-2 lacks-requires-3 add-result returns-2)
+    tie.close (tie.spec (λ c. search needs) (λ c. search needs) (λ c κs. search needs) returns (λ c κs. search needs) (λ c κs. search needs)
+        add-result returns-2)

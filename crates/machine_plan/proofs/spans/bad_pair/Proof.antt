@@ -5,14 +5,8 @@ use borrow.Author.Needs.{needs}
 use Rattle.machine_plan.proofs.spans.bad_pair.Statement.{statement}
 use Rattle.machine_plan.proofs.spans.bad_pair.Tie as tie
 
-bad-span-requires : tie.Need-bad-span-requires
-bad-span-requires c κs = search needs
-
 returns : tie.Need-returns
 returns c = yes _ _ _ (sym (c .before .bad-span .ensures) ∙ c .if1 .taken) refl
-
-bad-span-requires-2 : tie.Need-bad-span-requires-2
-bad-span-requires-2 c κs = search needs
 
 returns-2 : tie.Need-returns-2
 returns-2 c =
@@ -20,4 +14,5 @@ returns-2 c =
     no _ _ _ (sym (at-bad-span .bad-span .ensures) ∙ c .before .if1 .left) (c .bad-span2 .ensures)
 
 pub bad-pair-spec : {M : Type 1} → statement M
-bad-pair-spec = tie.close (tie.spec bad-span-requires returns bad-span-requires-2 returns-2)
+bad-pair-spec =
+    tie.close (tie.spec (λ c κs. search needs) returns (λ c κs. search needs) returns-2)

@@ -9,9 +9,6 @@ use borrow.Author.Needs.{needs}
 use Rattle.machine_plan.proofs.spans.bad_proof.Statement.{statement}
 use Rattle.machine_plan.proofs.spans.bad_proof.Tie as tie
 
-reads-requires : tie.Need-reads-requires
-reads-requires c κs = search needs
-
 returns : tie.Need-returns
 unfolding badProof numbers
 returns c = yes _ _ _ (ap not (sym (c .before .reads .ensures)) ∙ c .if1 .taken) refl
@@ -31,4 +28,5 @@ returns-3 c =
     no _ _ _ (ap not (sym (at-reads .reads .ensures)) ∙ at-if1 .if1 .left) (no _ _ _ (ap not (eq-eqb _ _ (c .before .if2 .left))) refl)
 
 pub bad-proof-spec : {M : Type 1} → statement M
-bad-proof-spec = tie.close (tie.spec reads-requires returns returns-2 returns-3)
+bad-proof-spec =
+    tie.close (tie.spec (λ c κs. search needs) returns returns-2 returns-3)

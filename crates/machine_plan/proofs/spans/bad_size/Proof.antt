@@ -12,17 +12,11 @@ returns : tie.Need-returns
 unfolding badSize
 returns c = yes _ _ _ (ap not (ne-eqb _ _ (c .if1 .taken))) refl
 
-far-above-requires : tie.Need-far-above-requires
-far-above-requires c κs = search needs
-
 returns-2 : tie.Need-returns-2
 unfolding badSize
 returns-2 c =
     let at-if1 = c .before .before in
     no _ _ _ (ap not (eq-eqb _ _ (at-if1 .if1 .left))) (yes _ _ _ (sym (c .before .far-above .ensures) ∙ c .if2 .taken) refl)
-
-far-above-requires-2 : tie.Need-far-above-requires-2
-far-above-requires-2 c κs = search needs
 
 returns-3 : tie.Need-returns-3
 unfolding badSize
@@ -33,4 +27,4 @@ returns-3 c =
 
 pub bad-size-spec : {M : Type 1} → statement M
 bad-size-spec =
-    tie.close (tie.spec (λ c. search needs) returns far-above-requires returns-2 far-above-requires-2 returns-3)
+    tie.close (tie.spec (λ c. search needs) returns (λ c κs. search needs) returns-2 (λ c κs. search needs) returns-3)

@@ -14,9 +14,6 @@ returns : tie.Need-returns
 unfolding badSpan
 returns c = yes _ _ _ (eq-eqb _ _ (c .if1 .taken)) refl
 
-above-requires : tie.Need-above-requires
-above-requires c κs = search needs
-
 returns-2 : tie.Need-returns-2
 unfolding badSpan
 returns-2 c =
@@ -36,4 +33,5 @@ returns-3 c =
     no _ _ _ (ne-eqb _ _ (at-if1 .if1 .left)) (no _ _ _ (sym (c .before .above .ensures) ∙ c .if2 .left) refl)
 
 pub bad-span-spec : {M : Type 1} → statement M
-bad-span-spec = tie.close (tie.spec returns above-requires returns-2 (λ c. search needs) add-result returns-3)
+bad-span-spec =
+    tie.close (tie.spec returns (λ c κs. search needs) returns-2 (λ c. search needs) add-result returns-3)

@@ -16,44 +16,8 @@ enum-told c = search needs
 mul-bad-span : tie.Need-mul-bad-span
 mul-bad-span c = let s = c .before .before in omega (arith, mul-le-mul (s .pre .1) (s .pre .0 .most))
 
-bad-span-requires : tie.Need-bad-span-requires
-bad-span-requires c κs = search needs
-
-enum-told-2 : tie.Need-enum-told-2
-enum-told-2 c = search needs
-
 mul-bad-span-2 : tie.Need-mul-bad-span-2
 mul-bad-span-2 c = let s = c .before .before in omega (arith, mul-le-mul (s .pre .1) (s .pre .0 .most))
-
-bad-span-requires-2 : tie.Need-bad-span-requires-2
-bad-span-requires-2 c κs = search needs
-
-enum-told-3 : tie.Need-enum-told-3
-enum-told-3 c = search needs
-
-bad-span-requires-3 : tie.Need-bad-span-requires-3
-bad-span-requires-3 c κs = search needs
-
-enum-told-4 : tie.Need-enum-told-4
-enum-told-4 c = search needs
-
-bad-pair-requires : tie.Need-bad-pair-requires
-bad-pair-requires c κs = search needs
-
-enum-told-5 : tie.Need-enum-told-5
-enum-told-5 c = search needs
-
-bad-pair-requires-2 : tie.Need-bad-pair-requires-2
-bad-pair-requires-2 c κs = search needs
-
-enum-told-6 : tie.Need-enum-told-6
-enum-told-6 c = search needs
-
-bad-size-requires : tie.Need-bad-size-requires
-bad-size-requires c κs = search needs
-
-enum-told-7 : tie.Need-enum-told-7
-enum-told-7 c = search needs
 
 returns : tie.Need-returns
 unfolding badSpans numbers
@@ -105,27 +69,6 @@ returns-7 c =
 
 pub bad-spans-spec : {M : Type 1} → statement M
 bad-spans-spec =
-    tie.close
-    (tie.spec
-    enum-told
-    mul-bad-span
-    bad-span-requires
-    enum-told-2
-    mul-bad-span-2
-    bad-span-requires-2
-    enum-told-3
-    bad-span-requires-3
-    enum-told-4
-    bad-pair-requires
-    enum-told-5
-    bad-pair-requires-2
-    enum-told-6
-    bad-size-requires
-    enum-told-7
-    returns
-    returns-2
-    returns-3
-    returns-4
-    returns-5
-    returns-6
-    returns-7)
+    tie.close (tie.spec enum-told mul-bad-span (λ c κs. search needs) (λ c. search needs) mul-bad-span-2 (λ c κs. search needs)
+        (λ c. search needs) (λ c κs. search needs) (λ c. search needs) (λ c κs. search needs) (λ c. search needs) (λ c κs. search needs)
+        (λ c. search needs) (λ c κs. search needs) (λ c. search needs) returns returns-2 returns-3 returns-4 returns-5 returns-6 returns-7)

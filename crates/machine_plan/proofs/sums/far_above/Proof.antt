@@ -10,4 +10,5 @@ returns-2 : tie.Need-returns-2
 returns-2 c = far _ _ _ (c .if1 .left)
 
 pub far-above-spec : {M : Type 1} → statement M
-far-above-spec = tie.close (tie.spec returns returns-2)
+far-above-spec =
+    tie.close (tie.spec returns returns-2)

@@ -8,17 +8,8 @@ use Rattle.machine_plan.proofs.sums.record_above.Tie as tie
 returns : tie.Need-returns
 returns c = all-written _ _ _ _ (c .if1 .taken)
 
-add-if2 : tie.Need-add-if2
-add-if2 c = search needs
-
 returns-2 : tie.Need-returns-2
 returns-2 c = no-counts _ _ _ _ (c .before .if1 .left) (c .if2 .taken)
-
-sub-rest : tie.Need-sub-rest
-sub-rest c = search needs
-
-sub-rest-2 : tie.Need-sub-rest-2
-sub-rest-2 c = search needs
 
 returns-3 : tie.Need-returns-3
 returns-3 c = no-output _ _ _ _ _ (c .if3 .taken) (omega arith)
@@ -28,4 +19,4 @@ returns-4 c = hashes-left _ _ _ _ _ (c .if3 .left) (omega arith)
 
 pub record-above-spec : {M : Type 1} → statement M
 record-above-spec =
-    tie.close (tie.spec returns add-if2 returns-2 sub-rest sub-rest-2 returns-3 returns-4)
+    tie.close (tie.spec returns (λ c. search needs) returns-2 (λ c. search needs) (λ c. search needs) returns-3 returns-4)

@@ -43,4 +43,5 @@ returns-7 c =
     (no _ _ _ (above 21 _ _ (c .before .before .if4 .left)) (no _ _ _ (above 40 _ _ (c .if6 .left)) refl))
 
 pub class-of-spec : {M : Type 1} → statement M
-class-of-spec = tie.close (tie.spec returns returns-2 returns-3 returns-4 returns-5 returns-6 returns-7)
+class-of-spec =
+    tie.close (tie.spec returns returns-2 returns-3 returns-4 returns-5 returns-6 returns-7)

@@ -9,9 +9,6 @@ use Rattle.machine_sight.proofs.Laws.Sectors.{seen-lies}
 use Rattle.machine_sight.proofs.contract_roots.first_root.Statement.{statement}
 use Rattle.machine_sight.proofs.contract_roots.first_root.Tie as tie
 
-spot-of-requires : tie.Need-spot-of-requires
-spot-of-requires c κs = omega arith
-
 kept-root-requires : tie.Need-kept-root-requires
 kept-root-requires c κs =
     let s = c .before .before .before .before .before in
@@ -30,4 +27,4 @@ returns c =
 
 pub first-root-spec : {M : Type 1} → statement M
 first-root-spec =
-    tie.close (tie.spec spot-of-requires kept-root-requires (λ c. search needs) copy-between-requires returns)
+    tie.close (tie.spec (λ c κs. omega arith) kept-root-requires (λ c. search needs) copy-between-requires returns)

@@ -80,17 +80,5 @@ returns c =
 
 pub kept-roots-spec : {M : Type 1} → statement M
 kept-roots-spec =
-    tie.close
-    (tie.spec
-    Inv-loop
-    μ-loop
-    loop-holds
-    spot-of-requires
-    kept-root-requires
-    slice-aggregate-copy-between
-    mul-copy-between
-    copy-between-requires
-    add-i
-    loop-less
-    loop-again
-    returns)
+    tie.close (tie.spec Inv-loop μ-loop loop-holds spot-of-requires kept-root-requires slice-aggregate-copy-between mul-copy-between
+        copy-between-requires add-i loop-less loop-again returns)

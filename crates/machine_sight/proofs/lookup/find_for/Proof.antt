@@ -18,5 +18,4 @@ returns-2 c =
 
 pub find-for-spec : {M : Type 1} → statement M
 find-for-spec =
-    tie.close
-    (tie.spec (λ c κs. search needs) (λ c κs. search needs) returns (λ c κs. search needs) returns-2)
+    tie.close (tie.spec (λ c κs. search needs) (λ c κs. search needs) returns (λ c κs. search needs) returns-2)

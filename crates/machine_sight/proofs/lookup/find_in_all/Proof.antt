@@ -16,4 +16,5 @@ returns c =
     c .find-root .ensures ∙ ap (firstSeat f (s .args .key)) (seats-none (s .args .z) (s .args .diskroots .now) (s .args .places) (s .pre) _)
 
 pub find-in-all-spec : {M : Type 1} → statement M
-find-in-all-spec = tie.close (tie.spec find-root-requires returns)
+find-in-all-spec =
+    tie.close (tie.spec find-root-requires returns)

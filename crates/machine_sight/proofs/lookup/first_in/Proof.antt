@@ -81,15 +81,4 @@ returns-2 c =
 
 pub first-in-spec : {M : Type 1} → statement M
 first-in-spec =
-    tie.close
-    (tie.spec
-    Inv-loop
-    μ-loop
-    loop-holds
-    spot-of-requires
-    has-root-requires
-    returns
-    add-position
-    loop-less
-    loop-again
-    returns-2)
+    tie.close (tie.spec Inv-loop μ-loop loop-holds spot-of-requires has-root-requires returns add-position loop-less loop-again returns-2)

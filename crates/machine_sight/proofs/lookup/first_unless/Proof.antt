@@ -33,4 +33,5 @@ returns-2 c =
     ∙ sym (ap (firstSeat f (s .args .key)) others)
 
 pub first-unless-spec : {M : Type 1} → statement M
-first-unless-spec = tie.close (tie.spec (λ c κs. search needs) returns (λ c κs. search needs) first-in-requires returns-2)
+first-unless-spec =
+    tie.close (tie.spec (λ c κs. search needs) returns (λ c κs. search needs) first-in-requires returns-2)

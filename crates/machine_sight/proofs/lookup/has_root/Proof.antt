@@ -14,4 +14,5 @@ returns c =
     c .agrees .ensures ∙ ap (λ (x : List ℕ). same x (s .args .t4)) (at-root .kept-root .ensures .0)
 
 pub has-root-spec : {M : Type 1} → statement M
-has-root-spec = tie.close (tie.spec (λ c κs. search needs) (λ c. search needs) (λ c κs. search needs) returns)
+has-root-spec =
+    tie.close (tie.spec (λ c κs. search needs) (λ c. search needs) (λ c κs. search needs) returns)

@@ -14,4 +14,5 @@ unfolding isFound
 returns-2 c = sym (ap isFound (c .enum-told2 .given .1))
 
 pub is-found-spec : {M : Type 1} → statement M
-is-found-spec = tie.close (tie.spec (λ c. search needs) (λ c. search needs) returns returns-2)
+is-found-spec =
+    tie.close (tie.spec (λ c. search needs) (λ c. search needs) returns returns-2)

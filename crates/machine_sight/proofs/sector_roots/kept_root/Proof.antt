@@ -9,4 +9,5 @@ unfolding keptRoot
 returns c = c .sector .ensures
 
 pub kept-root-spec : {M : Type 1} → statement M
-kept-root-spec = tie.close (tie.spec (λ c κs. search needs) returns)
+kept-root-spec =
+    tie.close (tie.spec (λ c κs. search needs) returns)

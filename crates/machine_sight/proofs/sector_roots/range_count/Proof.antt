@@ -17,9 +17,6 @@ add-count c =
     let few = segments-few _ (c .pre .0) (c .args .sectors) (omega arith) in
     omega (arith, span-ends _ _ _ _ (inside .below) (inside .one), segments-all _ (c .pre .0) (c .args .sectors), few)
 
-count-requires : tie.Need-count-requires
-count-requires c κs = search needs
-
 returns : tie.Need-returns
 returns c =
     let s = c .before in
@@ -31,4 +28,5 @@ returns c =
     calls .count-told (c .count .result) _ _ _ (c .count .ensures) some within
 
 pub range-count-spec : {M : Type 1} → statement M
-range-count-spec = tie.close (tie.spec mul-segments add-count count-requires returns)
+range-count-spec =
+    tie.close (tie.spec mul-segments add-count (λ c κs. search needs) returns)

@@ -6,12 +6,6 @@ use Rattle.machine_sight.proofs.Laws.Roots.{root-is}
 use Rattle.machine_sight.proofs.sector_roots.sector_root.Statement.{statement}
 use Rattle.machine_sight.proofs.sector_roots.sector_root.Tie as tie
 
-sector-requires : tie.Need-sector-requires
-sector-requires c κs = search needs
-
-root-requires : tie.Need-root-requires
-root-requires c κs = search needs
-
 returns : tie.Need-returns
 returns c =
     let at-sector = c .before .before in
@@ -19,4 +13,5 @@ returns c =
     (calls .root-told (c .before .root .result) _ (c .before .root .ensures) (omega (arith, at-sector .sector .ensures .1)))
 
 pub sector-root-spec : {M : Type 1} → statement M
-sector-root-spec = tie.close (tie.spec sector-requires root-requires returns)
+sector-root-spec =
+    tie.close (tie.spec (λ c κs. search needs) (λ c κs. search needs) returns)

@@ -18,38 +18,20 @@ stage-holds : (c : lts.After-known-told2 reads.Pre reads.Post) → let a = c .be
     c .before .spot2 .given .0 .0 * a .z + a .z ≤ length (a .stage .now)
 stage-holds c = in-stage _ _ _ _ (c .before .spot2 .given .1) (c .before .before .before .pre)
 
-enum-known-spot : tie.Need-enum-known-spot
-enum-known-spot c = search needs
-
 mul-from : tie.Need-mul-from
 mul-from c = omega (arith, disk-holds c)
 
 add-result : tie.Need-add-result
 add-result c = omega (arith, disk-holds c)
 
-sub-result : tie.Need-sub-result
-sub-result c = search needs
-
-part-result-start : tie.Need-part-result-start
-part-result-start c = search needs
-
 part-result-end : tie.Need-part-result-end
 part-result-end c = omega (arith, disk-holds c)
-
-enum-known-spot-2 : tie.Need-enum-known-spot-2
-enum-known-spot-2 c = search needs
 
 mul-from-2 : tie.Need-mul-from-2
 mul-from-2 c = omega (arith, stage-holds c)
 
 add-result-2 : tie.Need-add-result-2
 add-result-2 c = omega (arith, stage-holds c)
-
-sub-result-2 : tie.Need-sub-result-2
-sub-result-2 c = search needs
-
-part-result-start-2 : tie.Need-part-result-start-2
-part-result-start-2 c = search needs
 
 part-result-end-2 : tie.Need-part-result-end-2
 part-result-end-2 c = omega (arith, stage-holds c)
@@ -62,19 +44,5 @@ returns-2 c = stage-sector _ _ _ _ _ (c .before .before .spot2 .given .1) (c .be
 
 pub sector-spec : {M : Type 1} → statement M
 sector-spec =
-    tie.close
-    (tie.spec
-    enum-known-spot
-    mul-from
-    add-result
-    sub-result
-    part-result-start
-    part-result-end
-    enum-known-spot-2
-    mul-from-2
-    add-result-2
-    sub-result-2
-    part-result-start-2
-    part-result-end-2
-    returns
-    returns-2)
+    tie.close (tie.spec (λ c. search needs) mul-from add-result (λ c. search needs) (λ c. search needs) part-result-end (λ c. search needs)
+        mul-from-2 add-result-2 (λ c. search needs) (λ c. search needs) part-result-end-2 returns returns-2)

@@ -8,31 +8,10 @@ use Rattle.machine_sight.proofs.Laws.Sectors.{seen-lies, sector-span}
 use Rattle.machine_sight.proofs.sectors.span.Statement.{statement}
 use Rattle.machine_sight.proofs.sectors.span.Tie as tie
 
-div-spot-of : tie.Need-div-spot-of
-div-spot-of c = search needs
-
-spot-of-requires : tie.Need-spot-of-requires
-spot-of-requires c κs = search needs
-
 sector-requires : tie.Need-sector-requires
 sector-requires c κs =
     let s = c .before .before .before .before .before in
     seen-lies _ _ _ _ _ (s .pre .0 .spots) (s .pre .1 .below) (c .spot-of .ensures)
-
-rem-from : tie.Need-rem-from
-rem-from c = search needs
-
-add-result : tie.Need-add-result
-add-result c = search needs
-
-sub-result : tie.Need-sub-result
-sub-result c = search needs
-
-part-result-start : tie.Need-part-result-start
-part-result-start c = search needs
-
-part-result-end : tie.Need-part-result-end
-part-result-end c = search needs
 
 returns : tie.Need-returns
 returns c =
@@ -44,14 +23,5 @@ returns c =
 
 pub span-spec : {M : Type 1} → statement M
 span-spec =
-    tie.close
-    (tie.spec
-    div-spot-of
-    spot-of-requires
-    sector-requires
-    rem-from
-    add-result
-    sub-result
-    part-result-start
-    part-result-end
-    returns)
+    tie.close (tie.spec (λ c. search needs) (λ c κs. search needs) sector-requires (λ c. search needs) (λ c. search needs)
+        (λ c. search needs) (λ c. search needs) (λ c. search needs) returns)

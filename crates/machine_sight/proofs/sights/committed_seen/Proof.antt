@@ -11,17 +11,11 @@ use Rattle.machine_sight.proofs.Laws.Sights.{none-staged, seen-committe
 use Rattle.machine_sight.proofs.sights.committed_seen.Statement.{statement}
 use Rattle.machine_sight.proofs.sights.committed_seen.Tie as tie
 
-nothing-requires : tie.Need-nothing-requires
-nothing-requires c κs = search needs
-
 returns : tie.Need-returns
 returns c = (
   c .nothing .ensures .0 ∙ seen-nothing _ _ (not-true _ (c .before .if1 .taken)),
   omega (arith, c .nothing .ensures .1),
 )
-
-parent-seen-requires : tie.Need-parent-seen-requires
-parent-seen-requires c κs = search needs
 
 returns-2 : tie.Need-returns-2
 returns-2 c =
@@ -35,4 +29,5 @@ returns-2 c =
     )
 
 pub committed-seen-spec : {M : Type 1} → statement M
-committed-seen-spec = tie.close (tie.spec nothing-requires returns parent-seen-requires returns-2)
+committed-seen-spec =
+    tie.close (tie.spec (λ c κs. search needs) returns (λ c κs. search needs) returns-2)

@@ -11,4 +11,5 @@ unfolding spotsOf tab
 returns c = (refl, omega arith)
 
 pub nothing-spec : {M : Type 1} → statement M
-nothing-spec = tie.close (tie.spec returns)
+nothing-spec =
+    tie.close (tie.spec returns)

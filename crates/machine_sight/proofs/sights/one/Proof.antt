@@ -34,4 +34,5 @@ unfolding spotsOf tab
 returns-2 c = ap (λ (x : Spot). x ∷ []) (one-in-stage _ 0 (in-stage c) ∙ sym (c .before .spot2 .given .1))
 
 pub one-spec : {M : Type 1} → statement M
-one-spec = tie.close (tie.spec (λ c. search needs) cast-slots (λ c. search needs) cast-staged returns returns-2)
+one-spec =
+    tie.close (tie.spec (λ c. search needs) cast-slots (λ c. search needs) cast-staged returns returns-2)

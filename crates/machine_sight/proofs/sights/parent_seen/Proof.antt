@@ -10,4 +10,5 @@ unfolding spotsOf
 returns c = (refl, refl)
 
 pub parent-seen-spec : {M : Type 1} → statement M
-parent-seen-spec = tie.close (tie.spec (λ c. search needs) returns)
+parent-seen-spec =
+    tie.close (tie.spec (λ c. search needs) returns)

@@ -13,15 +13,6 @@ use borrow.Author.Needs.{needs}
 use Rattle.machine_step.proofs.pairs.running_pair.Statement.{statement}
 use Rattle.machine_step.proofs.pairs.running_pair.Tie as tie
 
-parent-requires : tie.Need-parent-requires
-parent-requires c κs = search needs
-
-slice-aggregate-running-root : tie.Need-slice-aggregate-running-root
-slice-aggregate-running-root c = search needs
-
-slice-aggregate-running-root-2 : tie.Need-slice-aggregate-running-root-2
-slice-aggregate-running-root-2 c = search needs
-
 running-root-requires : tie.Need-running-root-requires
 running-root-requires c κs =
     let found = c .before .before .before .before in
@@ -41,5 +32,4 @@ returns c =
 
 pub running-pair-spec : {M : Type 1} → statement M
 running-pair-spec =
-    tie.close
-    (tie.spec parent-requires slice-aggregate-running-root slice-aggregate-running-root-2 running-root-requires returns)
+    tie.close (tie.spec (λ c κs. search needs) (λ c. search needs) (λ c. search needs) running-root-requires returns)

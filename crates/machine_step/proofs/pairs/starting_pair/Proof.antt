@@ -10,12 +10,6 @@ use borrow.Author.Needs.{needs}
 use Rattle.machine_step.proofs.pairs.starting_pair.Statement.{statement}
 use Rattle.machine_step.proofs.pairs.starting_pair.Tie as tie
 
-parent-requires : tie.Need-parent-requires
-parent-requires c κs = search needs
-
-slice-aggregate-committed-root : tie.Need-slice-aggregate-committed-root
-slice-aggregate-committed-root c = search needs
-
 committed-root-requires : tie.Need-committed-root-requires
 committed-root-requires c κs =
     let found = c .before .before in
@@ -30,4 +24,5 @@ returns c =
     ap (pairing (found .parent .result .size)) (c .committed-root .ensures) ∙ ap (pairOf (h .sector) (keptRoot (h .diskroots) [])) (found .parent .ensures)
 
 pub starting-pair-spec : {M : Type 1} → statement M
-starting-pair-spec = tie.close (tie.spec parent-requires slice-aggregate-committed-root committed-root-requires returns)
+starting-pair-spec =
+    tie.close (tie.spec (λ c κs. search needs) (λ c. search needs) committed-root-requires returns)

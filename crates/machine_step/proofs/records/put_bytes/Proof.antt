@@ -25,9 +25,6 @@ copy-between-requires c κs =
     let room = subst (λ (k : ℕ). k ≤ length (start .args .out .now)) reads (start .pre .1 .1) in
     (omega arith, omega arith)
 
-same-length : tie.Need-same-length
-same-length c = search needs
-
 returns : tie.Need-returns
 unfolding shownBytes
 returns c =
@@ -42,4 +39,4 @@ returns-2 c = sym (ap (put _ 0) (skips _ _ [] (c .if1 .left)) ∙ put-nil _ 0)
 
 pub put-bytes-spec : {M : Type 1} → statement M
 put-bytes-spec =
-    tie.close (tie.spec span-requires copy-between-requires same-length returns returns-2)
+    tie.close (tie.spec span-requires copy-between-requires (λ c. search needs) returns returns-2)

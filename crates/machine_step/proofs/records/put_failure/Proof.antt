@@ -11,15 +11,6 @@ use borrow.Author.Needs.{needs}
 use Rattle.machine_step.proofs.records.put_failure.Statement.{statement}
 use Rattle.machine_step.proofs.records.put_failure.Tie as tie
 
-put-front-requires : tie.Need-put-front-requires
-put-front-requires c κs = search needs
-
-store-requires : tie.Need-store-requires
-store-requires c κs = search needs
-
-same-length : tie.Need-same-length
-same-length c = search needs
-
 returns : tie.Need-returns
 unfolding recordBytes
 returns c =
@@ -31,4 +22,5 @@ returns c =
     (ap (λ (l : List ℕ). front (start .args .number) 0 p 0 ++ l) (sym (append-nil (le8 0))) ∙ sym (record-front (start .args .number) 0 p 0 (le8 0 ++ [])))
 
 pub put-failure-spec : {M : Type 1} → statement M
-put-failure-spec = tie.close (tie.spec put-front-requires store-requires same-length returns)
+put-failure-spec =
+    tie.close (tie.spec (λ c κs. search needs) (λ c κs. search needs) (λ c. search needs) returns)

@@ -9,27 +9,6 @@ use borrow.Author.Needs.{needs}
 use Rattle.machine_step.proofs.records.put_front.Statement.{statement}
 use Rattle.machine_step.proofs.records.put_front.Tie as tie
 
-store-requires : tie.Need-store-requires
-store-requires c κs = search needs
-
-store-requires-2 : tie.Need-store-requires-2
-store-requires-2 c κs = search needs
-
-store-requires-3 : tie.Need-store-requires-3
-store-requires-3 c κs = search needs
-
-slice-aggregate-copy-between : tie.Need-slice-aggregate-copy-between
-slice-aggregate-copy-between c = search needs
-
-copy-between-requires : tie.Need-copy-between-requires
-copy-between-requires c κs = search needs
-
-store-requires-4 : tie.Need-store-requires-4
-store-requires-4 c κs = search needs
-
-same-length : tie.Need-same-length
-same-length c = search needs
-
 returns : tie.Need-returns
 unfolding front
 returns c =
@@ -48,13 +27,5 @@ returns c =
 
 pub put-front-spec : {M : Type 1} → statement M
 put-front-spec =
-    tie.close
-    (tie.spec
-    store-requires
-    store-requires-2
-    store-requires-3
-    slice-aggregate-copy-between
-    copy-between-requires
-    store-requires-4
-    same-length
-    returns)
+    tie.close (tie.spec (λ c κs. search needs) (λ c κs. search needs) (λ c κs. search needs) (λ c. search needs) (λ c κs. search needs)
+        (λ c κs. search needs) (λ c. search needs) returns)

@@ -21,9 +21,6 @@ range-proof-requires c κs =
     let room = subst (λ (l : List ℕ). length l ≤ length out) (picks (start .args .asked) _ [] asked) (start .pre .1 .1 .1) in
     (start .pre .0, (start .pre .1 .0, (start .pre .1 .1 .0 asked, room)))
 
-same-length : tie.Need-same-length
-same-length c = search needs
-
 returns : tie.Need-returns
 unfolding shownProof
 returns c = lay-same _ 0 _ (c .before .before .range-proof .ensures) (sym (picks _ _ [] (c .before .before .before .before .if1 .taken)))
@@ -33,4 +30,5 @@ unfolding shownProof
 returns-2 c = sym (ap (put _ 0) (skips _ _ [] (c .if1 .left)) ∙ put-nil _ 0)
 
 pub put-proof-spec : {M : Type 1} → statement M
-put-proof-spec = tie.close (tie.spec range-proof-requires same-length returns returns-2)
+put-proof-spec =
+    tie.close (tie.spec range-proof-requires (λ c. search needs) returns returns-2)

@@ -23,47 +23,14 @@ at-proof c = c .before .before .before .before .before
 
 -- ---- the needs
 
-put-front-requires : tie.Need-put-front-requires
-put-front-requires c κs = search needs
-
-sub-put-proof : tie.Need-sub-put-proof
-sub-put-proof c = search needs
-
-part-put-proof-start : tie.Need-part-put-proof-start
-part-put-proof-start c = search needs
-
-part-put-proof-end : tie.Need-part-put-proof-end
-part-put-proof-end c = search needs
-
 put-proof-requires : tie.Need-put-proof-requires
 put-proof-requires c κs =
     let shows = at-start (c .before .before .before) .pre in
     let out = c .before .before .before .put-front .last .1 .1 .1 .1 .1 .0 in
     (shows .known, (shows .lies, (shows .ranged, omega (arith, shows .count, shows .room, rest-long out 64))))
 
-mul-behind : tie.Need-mul-behind
-mul-behind c = search needs
-
-add-behind : tie.Need-add-behind
-add-behind c = search needs
-
-count-of-requires : tie.Need-count-of-requires
-count-of-requires c κs = search needs
-
-store-requires : tie.Need-store-requires
-store-requires c κs = search needs
-
 add-put-bytes : tie.Need-add-put-bytes
 add-put-bytes c = omega (arith, at-start (at-front (at-proof (c .before .before))))
-
-sub-put-bytes : tie.Need-sub-put-bytes
-sub-put-bytes c = search needs
-
-part-put-bytes-start : tie.Need-part-put-bytes-start
-part-put-bytes-start c = search needs
-
-part-put-bytes-end : tie.Need-part-put-bytes-end
-part-put-bytes-end c = search needs
 
 put-bytes-requires : tie.Need-put-bytes-requires
 put-bytes-requires c κs =
@@ -71,9 +38,6 @@ put-bytes-requires c κs =
     let shows = start .pre in
     let out = c .before .before .before .store .last .0 in
     (shows .lies, (shows .inside, omega (arith, shows .room, rest-long out (64 + 32 * start .args .hashes + 8))))
-
-same-length : tie.Need-same-length
-same-length c = search needs
 
 returns : tie.Need-returns
 returns c =
@@ -93,21 +57,6 @@ returns c =
 
 pub put-success-spec : {M : Type 1} → statement M
 put-success-spec =
-    tie.close
-    (tie.spec
-    put-front-requires
-    sub-put-proof
-    part-put-proof-start
-    part-put-proof-end
-    put-proof-requires
-    mul-behind
-    add-behind
-    count-of-requires
-    store-requires
-    add-put-bytes
-    sub-put-bytes
-    part-put-bytes-start
-    part-put-bytes-end
-    put-bytes-requires
-    same-length
-    returns)
+    tie.close (tie.spec (λ c κs. search needs) (λ c. search needs) (λ c. search needs) (λ c. search needs) put-proof-requires
+        (λ c. search needs) (λ c. search needs) (λ c κs. search needs) (λ c κs. search needs) add-put-bytes (λ c. search needs)
+        (λ c. search needs) (λ c. search needs) put-bytes-requires (λ c. search needs) returns)

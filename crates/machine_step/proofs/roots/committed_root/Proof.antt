@@ -6,12 +6,6 @@ use borrow.Author.Needs.{needs}
 use Rattle.machine_step.proofs.roots.committed_root.Statement.{statement}
 use Rattle.machine_step.proofs.roots.committed_root.Tie as tie
 
-committed-seen-requires : tie.Need-committed-seen-requires
-committed-seen-requires c κs = search needs
-
-slice-aggregate-contract-root : tie.Need-slice-aggregate-contract-root
-slice-aggregate-contract-root c = search needs
-
 contract-root-requires : tie.Need-contract-root-requires
 contract-root-requires c κs =
     let told = c .before .committed-seen .ensures in
@@ -22,5 +16,4 @@ returns c = c .contract-root .ensures ∙ ap (contractRoot _) (c .before .before
 
 pub committed-root-spec : {M : Type 1} → statement M
 committed-root-spec =
-    tie.close
-    (tie.spec committed-seen-requires slice-aggregate-contract-root contract-root-requires returns)
+    tie.close (tie.spec (λ c κs. search needs) (λ c. search needs) contract-root-requires returns)

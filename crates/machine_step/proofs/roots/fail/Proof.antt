@@ -10,27 +10,6 @@ use borrow.Author.Needs.{needs}
 use Rattle.machine_step.proofs.roots.fail.Statement.{statement}
 use Rattle.machine_step.proofs.roots.fail.Tie as tie
 
-committed-root-requires : tie.Need-committed-root-requires
-committed-root-requires c κs = search needs
-
-sub-put-failure : tie.Need-sub-put-failure
-sub-put-failure c = search needs
-
-part-put-failure-start : tie.Need-part-put-failure-start
-part-put-failure-start c = search needs
-
-part-put-failure-end : tie.Need-part-put-failure-end
-part-put-failure-end c = search needs
-
-put-failure-requires : tie.Need-put-failure-requires
-put-failure-requires c κs = search needs
-
-add-after : tie.Need-add-after
-add-after c = search needs
-
-same-length : tie.Need-same-length
-same-length c = search needs
-
 returns : tie.Need-returns
 unfolding failedProgress pairOf
 returns c =
@@ -45,13 +24,5 @@ returns c =
 
 pub fail-spec : {M : Type 1} → statement M
 fail-spec =
-    tie.close
-    (tie.spec
-    committed-root-requires
-    sub-put-failure
-    part-put-failure-start
-    part-put-failure-end
-    put-failure-requires
-    add-after
-    same-length
-    returns)
+    tie.close (tie.spec (λ c κs. search needs) (λ c. search needs) (λ c. search needs) (λ c. search needs) (λ c κs. search needs)
+        (λ c. search needs) (λ c. search needs) returns)

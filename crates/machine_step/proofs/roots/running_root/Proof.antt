@@ -6,9 +6,6 @@ use borrow.Author.Needs.{needs}
 use Rattle.machine_step.proofs.roots.running_root.Statement.{statement}
 use Rattle.machine_step.proofs.roots.running_root.Tie as tie
 
-parent-seen-requires : tie.Need-parent-seen-requires
-parent-seen-requires c κs = search needs
-
 contract-root-requires : tie.Need-contract-root-requires
 contract-root-requires c κs = running-known _ _ _ _ _ _ (c .parent-seen .ensures .0) (c .parent-seen .ensures .1) (c .before .before .before .before .pre)
 
@@ -16,4 +13,5 @@ returns : tie.Need-returns
 returns c = c .contract-root .ensures ∙ ap (contractRoot _) (c .before .parent-seen .ensures .0)
 
 pub running-root-spec : {M : Type 1} → statement M
-running-root-spec = tie.close (tie.spec parent-seen-requires contract-root-requires returns)
+running-root-spec =
+    tie.close (tie.spec (λ c κs. search needs) contract-root-requires returns)

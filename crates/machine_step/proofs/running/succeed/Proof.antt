@@ -50,9 +50,6 @@ running-root-requires c κs =
     run-reads _ (s .args .copies) (s .args .parent) (s .args .diskroots .now) _ _ (s .args .plan) (s .args .asked) _ _ (left .effect .ensures) _
     (rooted .rehash .ensures) (s .pre) (c .before .advanced .ensures)
 
-reads-requires : tie.Need-reads-requires
-reads-requires c κs = search needs
-
 within : (c : tie.After-put-success-arg2) → let s = at-start (at-effect (at-rehash (at-advanced (c .before .before .before .before)))) in
     s .args .progress .written ≤ length (s .args .output .now)
 within c = let s = at-start (at-effect (at-rehash (at-advanced (c .before .before .before .before)))) in omega (arith, s .pre .written)
@@ -63,9 +60,6 @@ sub-put-success c = within c
 part-put-success-start : tie.Need-part-put-success-start
 part-put-success-start c = within c
 
-part-put-success-end : tie.Need-part-put-success-end
-part-put-success-end c = search needs
-
 put-success-requires : tie.Need-put-success-requires
 unfolding stageAfter rootsAfter
 put-success-requires c κs =
@@ -75,15 +69,6 @@ put-success-requires c κs =
     let s = at-start left in
     run-shows _ (s .args .copies) (s .args .parent) (s .args .diskroots .now) _ _ (s .args .plan) (s .args .asked) _ _ (left .effect .ensures) _
     (rooted .rehash .ensures) _ (s .pre) refl (read .reads .ensures)
-
-same-length : tie.Need-same-length
-same-length c = search needs
-
-same-length-2 : tie.Need-same-length-2
-same-length-2 c = search needs
-
-same-length-3 : tie.Need-same-length-3
-same-length-3 c = search needs
 
 returns : tie.Need-returns
 unfolding stageAfter rootsAfter
@@ -100,18 +85,5 @@ returns c =
 
 pub succeed-spec : {M : Type 1} → statement M
 succeed-spec =
-    tie.close
-    (tie.spec
-    effect-requires
-    rehash-requires
-    advanced-requires
-    running-root-requires
-    reads-requires
-    sub-put-success
-    part-put-success-start
-    part-put-success-end
-    put-success-requires
-    same-length
-    same-length-2
-    same-length-3
-    returns)
+    tie.close (tie.spec effect-requires rehash-requires advanced-requires running-root-requires (λ c κs. search needs) sub-put-success
+        part-put-success-start (λ c. search needs) put-success-requires (λ c. search needs) (λ c. search needs) (λ c. search needs) returns)

@@ -39,7 +39,8 @@ operands s = known-instruction (s .args .i) _ (s .good .1 .1 .1 .1 .1 .1 .1 .1 .
 
 -- the plan, of the setting as it is, and with its roots
 planned-is : (c : tie.After-planned) → let s = at-start c in
-    said (c .planned .result) ≡ planOf (s .args .z) (the-set s) (rootAt (s .args .z) (the-set s) (the-turn s)) (s .args .progress) (s .args .i) (s .args .input .now)
+    said (c .planned .result) ≡ planOf (s .args .z) (the-set s) (rootAt (s .args .z) (the-set s) (the-turn s)) (s .args .progress) (s .args .i)
+        (s .args .input .now)
 planned-is c =
     let s = at-start c in
     let a = s .args in
@@ -50,7 +51,8 @@ planned-is c =
 
 number : (c : tie.After-place-of) → let s = at-start (at-planned c) in
     at-planned c .planned .result .number
-    ≡ judged (s .args .z) (the-set s) (rootAt (s .args .z) (the-set s) (the-turn s)) (s .args .progress) (s .args .i) (inputsOf (s .args .i) (s .args .input .now))
+    ≡ judged (s .args .z) (the-set s) (rootAt (s .args .z) (the-set s) (the-turn s)) (s .args .progress) (s .args .i)
+        (inputsOf (s .args .i) (s .args .input .now))
 unfolding parent
 number c =
     let p = at-planned c in
@@ -64,21 +66,12 @@ planned-requires c κs =
     let s = c .before .before .before .before .before .before .before in
     (plans _ (the-set s) (the-turn s) _ (s .pre), (plans-good _ (the-set s) (the-turn s) _ (s .pre), s .pre .input))
 
-place-of-requires : tie.Need-place-of-requires
-place-of-requires c κs = search needs
-
 fail-requires : tie.Need-fail-requires
 unfolding parent
 fail-requires c κs =
     let place = c .before .before .before in
     let s = at-start (at-planned place) in
     (parent-stands _ (the-set s) (the-turn s) _ (s .pre) (place .place-of .ensures), failure-fits _ (the-set s) (the-turn s) _ (s .pre))
-
-same-length : tie.Need-same-length
-same-length c = search needs
-
-same-length-2 : tie.Need-same-length-2
-same-length-2 c = search needs
 
 returns : tie.Need-returns
 unfolding parent
@@ -100,15 +93,6 @@ succeed-requires c κs =
     runs-right _ (the-set s) (the-turn s) _ (s .args .i) _ _ (s .pre) (place .place-of .ensures) (operands s) (planned-is p) (test .if1 .left)
     (known-terms (s .args .terms) _ (s .good .1 .1 .1 .1 .0) .0)
 
-same-length-3 : tie.Need-same-length-3
-same-length-3 c = search needs
-
-same-length-4 : tie.Need-same-length-4
-same-length-4 c = search needs
-
-same-length-5 : tie.Need-same-length-5
-same-length-5 c = search needs
-
 returns-2 : tie.Need-returns-2
 unfolding parent
 returns-2 c =
@@ -123,16 +107,5 @@ returns-2 c =
 
 pub step-spec : {M : Type 1} → statement M
 step-spec =
-    tie.close
-    (tie.spec
-    planned-requires
-    place-of-requires
-    fail-requires
-    same-length
-    same-length-2
-    returns
-    succeed-requires
-    same-length-3
-    same-length-4
-    same-length-5
-    returns-2)
+    tie.close (tie.spec planned-requires (λ c κs. search needs) fail-requires (λ c. search needs) (λ c. search needs) returns
+        succeed-requires (λ c. search needs) (λ c. search needs) (λ c. search needs) returns-2)

@@ -12,4 +12,5 @@ returns-2 : tie.Need-returns-2
 returns-2 c = yes _ _ _ (ap not (c .before .if1 .left)) refl
 
 pub goes-on-spec : {M : Type 1} → statement M
-goes-on-spec = tie.close (tie.spec returns returns-2)
+goes-on-spec =
+    tie.close (tie.spec returns returns-2)

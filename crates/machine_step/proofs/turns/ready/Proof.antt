@@ -10,4 +10,5 @@ returns : tie.Need-returns
 returns c = ap (λ (n : ℕ). leb n (c .before .args .k)) (c .need .ensures)
 
 pub ready-spec : {M : Type 1} → statement M
-ready-spec = tie.close (tie.spec (λ c κs. search needs) returns)
+ready-spec =
+    tie.close (tie.spec (λ c κs. search needs) returns)

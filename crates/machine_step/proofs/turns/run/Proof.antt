@@ -129,23 +129,5 @@ returns-2 c =
 
 pub run-spec : {M : Type 1} → statement M
 run-spec =
-    tie.close
-    (tie.spec
-    Inv-loop
-    μ-loop
-    loop-holds
-    (λ c κs. tt)
-    mul-i
-    element-copy-out-i
-    (λ c κs. search needs)
-    same-length
-    same-length-2
-    same-length-3
-    returns
-    step-requires
-    loop-less
-    loop-again
-    same-length-4
-    same-length-5
-    same-length-6
-    returns-2)
+    tie.close (tie.spec Inv-loop μ-loop loop-holds (λ c κs. tt) mul-i element-copy-out-i (λ c κs. search needs) same-length same-length-2
+        same-length-3 returns step-requires loop-less loop-again same-length-4 same-length-5 same-length-6 returns-2)

@@ -9,4 +9,5 @@ unfolding lacking
 returns c = refl
 
 pub missing-spec : {M : Type 1} → statement M
-missing-spec = tie.close (tie.spec returns)
+missing-spec =
+    tie.close (tie.spec returns)

@@ -8,7 +8,7 @@ use lib.ListN.{length}
 use borrow.Author.Needs.{needs}
 use borrow.Author.Tests.{lt-ltb, le-ltb}
 use Rattle.area.proofs.Laws.Pick.{yes, no}
-use Rattle.showing.specs.Whole.{numberAt, lacking, standing, outputAt, partsAt, Whole}
+use Rattle.showing.specs.Whole.{numberAt, lacking, standing, outputAt, partsAt}
 use Rattle.showing.specs.declared.parts.Parts.{Parts}
 use Rattle.showing.proofs.parts.parts_at.Statement.{statement}
 use Rattle.showing.proofs.parts.parts_at.Tie as tie
@@ -85,27 +85,7 @@ returns-5 c =
 
 pub parts-at-spec : {M : Type 1} → statement M
 parts-at-spec =
-    tie.close
-    (tie.spec
-    (λ c. search needs)
-    (λ c κs. search needs)
-    returns
-    (λ c. search needs)
-    (λ c. search needs)
-    (λ c κs. search needs)
-    (λ c. search needs)
-    (λ c. search needs)
-    (λ c κs. search needs)
-    returns-2
-    (λ c. search needs)
-    (λ c. search needs)
-    (λ c. search needs)
-    (λ c κs. search needs)
-    returns-3
-    (λ c. search needs)
-    (λ c κs. search needs)
-    (λ c. search needs)
-    (λ c κs. search needs)
-    returns-4
-    (λ c. search needs)
-    returns-5)
+    tie.close (tie.spec (λ c. search needs) (λ c κs. search needs) returns (λ c. search needs) (λ c. search needs) (λ c κs. search needs)
+        (λ c. search needs) (λ c. search needs) (λ c κs. search needs) returns-2 (λ c. search needs) (λ c. search needs) (λ c. search needs)
+        (λ c κs. search needs) returns-3 (λ c. search needs) (λ c κs. search needs) (λ c. search needs) (λ c κs. search needs) returns-4
+        (λ c. search needs) returns-5)

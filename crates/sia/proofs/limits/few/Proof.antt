@@ -18,32 +18,19 @@ Inv-loop n list i₀ i = (i ≤ n) × (every fewOperands (take n list) ≡ every
 abbrev μ-loop : tie.MeasureT-loop
 μ-loop n list i₀ i = n - i
 
-loop-holds : tie.Need-loop-holds Inv-loop μ-loop
-loop-holds c = (omega arith, refl)
-
-mul-x : tie.Need-mul-x Inv-loop μ-loop
-mul-x c = search needs
-
-array-copy-out-x : tie.Need-array-copy-out-x Inv-loop μ-loop
-array-copy-out-x c = omega arith
-
 returns : tie.Need-returns Inv-loop μ-loop
 returns c =
     let l = c .before .before .before .before .loop in
     let s = c .before .before .before .before .before in
-    sym (l .inv .1 ∙ every-not fewOperands _ _ (l .i) _ (c .before .before .before .loop-test .taken) (omega (arith, s .good .0 .1 .0 .1)) (lt-leb _ _ (c .if1 .taken)))
-
-add-i : tie.Need-add-i Inv-loop μ-loop
-add-i c = search needs
-
-loop-less : tie.Need-loop-less Inv-loop μ-loop
-loop-less c = omega arith
+    sym (l .inv .1 ∙ every-not fewOperands _ _ (l .i) _ (c .before .before .before .loop-test .taken) (omega (arith, s .good .0 .1 .0 .1))
+        (lt-leb _ _ (c .if1 .taken)))
 
 loop-again : tie.Need-loop-again Inv-loop μ-loop
 loop-again c =
     let l = c .before .before .before .before .loop in
     let s = c .before .before .before .before .before in
-    (omega arith, l .inv .1 ∙ every-further fewOperands _ _ (l .i) _ (c .before .before .before .loop-test .taken) (omega (arith, s .good .0 .1 .0 .1)) (le-leb _ _ (c .if1 .left)))
+    (omega arith, l .inv .1 ∙ every-further fewOperands _ _ (l .i) _ (c .before .before .before .loop-test .taken)
+        (omega (arith, s .good .0 .1 .0 .1)) (le-leb _ _ (c .if1 .left)))
 
 returns-2 : tie.Need-returns-2 Inv-loop μ-loop
 returns-2 c =
@@ -53,15 +40,5 @@ returns-2 c =
 
 pub few-spec : {M : Type 1} → statement M
 few-spec =
-    tie.close
-    (tie.spec
-    Inv-loop
-    μ-loop
-    loop-holds
-    mul-x
-    array-copy-out-x
-    returns
-    add-i
-    loop-less
-    loop-again
-    returns-2)
+    tie.close (tie.spec Inv-loop μ-loop (λ c. (omega arith, refl)) (λ c. search needs) (λ c. omega arith) returns (λ c. search needs)
+        (λ c. omega arith) loop-again returns-2)

@@ -15,12 +15,10 @@ returns-2 : tie.Need-returns-2
 unfolding within
 returns-2 c = yes _ _ _ (le-leb _ _ (c .before .before .if1 .left)) (no _ _ _ (lt-leb _ _ (c .if2 .taken)) refl)
 
-few-requires : tie.Need-few-requires
-few-requires c κs = search needs
-
 returns-3 : tie.Need-returns-3
 unfolding within
 returns-3 c = yes _ _ _ (le-leb _ _ (c .before .before .before .before .if1 .left)) (yes _ _ _ (le-leb _ _ (c .before .before .if2 .left)) (c .few .ensures))
 
 pub within-spec : {M : Type 1} → statement M
-within-spec = tie.close (tie.spec returns returns-2 few-requires returns-3)
+within-spec =
+    tie.close (tie.spec returns returns-2 (λ c κs. search needs) returns-3)

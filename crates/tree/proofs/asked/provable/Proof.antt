@@ -11,12 +11,10 @@ returns : tie.Need-returns
 unfolding provable wholes
 returns c = no _ _ _ (ne-eqb _ _ (c .if1 .taken)) refl
 
-ranged-requires : tie.Need-ranged-requires
-ranged-requires c κs = search needs
-
 returns-2 : tie.Need-returns-2
 unfolding provable wholes
 returns-2 c = yes _ _ _ (eq-eqb _ _ (c .before .if1 .left)) (c .ranged .ensures)
 
 pub provable-spec : {M : Type 1} → statement M
-provable-spec = tie.close (tie.spec returns ranged-requires returns-2)
+provable-spec =
+    tie.close (tie.spec returns (λ c κs. search needs) returns-2)

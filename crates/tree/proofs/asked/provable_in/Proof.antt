@@ -15,17 +15,12 @@ returns-2 : tie.Need-returns-2
 unfolding provableIn wholes
 returns-2 c = yes _ _ _ (eq-eqb _ _ (c .before .if1 .left)) (no _ _ _ (le-ltb _ _ (c .if2 .taken)) refl)
 
-is-power-requires : tie.Need-is-power-requires
-is-power-requires c κs = search needs
-
-provable-requires : tie.Need-provable-requires
-provable-requires c κs = search needs
-
 returns-3 : tie.Need-returns-3
 unfolding provableIn wholes
 returns-3 c =
     yes _ _ _ (eq-eqb _ _ (c .before .before .before .before .if1 .left))
-    (yes _ _ _ (lt-ltb _ _ (c .before .before .before .if2 .left)) (yes _ _ _ (sym (c .before .before .is-power .ensures) ∙ c .before .if3 .taken) (c .provable .ensures)))
+    (yes _ _ _ (lt-ltb _ _ (c .before .before .before .if2 .left)) (yes _ _ _ (sym (c .before .before .is-power .ensures) ∙ c .before .if3 .taken)
+        (c .provable .ensures)))
 
 returns-4 : tie.Need-returns-4
 unfolding provableIn wholes
@@ -35,4 +30,4 @@ returns-4 c =
 
 pub provable-in-spec : {M : Type 1} → statement M
 provable-in-spec =
-    tie.close (tie.spec returns returns-2 is-power-requires provable-requires returns-3 returns-4)
+    tie.close (tie.spec returns returns-2 (λ c κs. search needs) (λ c κs. search needs) returns-3 returns-4)

@@ -31,13 +31,11 @@ returns-2 : tie.Need-returns-2
 unfolding verdict
 returns-2 c = no _ _ _ (both-not-right _ _ (lt-leb _ _ (c .if2 .taken))) refl
 
-ranged-requires : tie.Need-ranged-requires
-ranged-requires c κs = search needs
-
 returns-3 : tie.Need-returns-3
 unfolding verdict
 returns-3 c =
-    yes _ _ _ (limited _ (c .before .before .before .if1 .left) (c .before .before .if2 .left)) (no _ _ _ (sym (c .before .ranged .ensures) ∙ not-true _ (c .if3 .taken)) refl)
+    yes _ _ _ (limited _ (c .before .before .before .if1 .left) (c .before .before .if2 .left))
+        (no _ _ _ (sym (c .before .ranged .ensures) ∙ not-true _ (c .if3 .taken)) refl)
 
 sub-if4 : tie.Need-sub-if4
 sub-if4 c = let r = ranged-tells _ _ _ (sym (c .before .ranged .ensures) ∙ not-false _ (c .if3 .left)) in omega arith
@@ -51,9 +49,6 @@ returns-4 c =
     yes _ _ _ (limited _ (c .before .before .before .before .if1 .left) (c .before .before .before .if2 .left))
     (yes _ _ _ (sym (c .before .before .ranged .ensures) ∙ not-false _ (c .before .if3 .left)) (no _ _ _ (ne-eqb _ _ (c .if4 .taken)) refl))
 
-count-requires : tie.Need-count-requires
-count-requires c κs = omega arith
-
 mul-if5 : tie.Need-mul-if5
 unfolding count
 mul-if5 c =
@@ -64,13 +59,11 @@ returns-5 : tie.Need-returns-5
 unfolding verdict count
 returns-5 c =
     let a = c .before .before .before .before .before .before .before .before .before .before .args in
-    let other : length (a .hashes .now) ≡ 32 * hashes 64 0 (a .count) (a .first) (a .end) → ⊥ = λ e. omega (arith, e, c .if5 .taken, c .before .count .ensures) in
+    let other : length (a .hashes .now) ≡ 32 * hashes 64 0 (a .count) (a .first) (a .end) → ⊥ =
+        λ e. omega (arith, e, c .if5 .taken, c .before .count .ensures) in
     yes _ _ _ (limited _ (c .before .before .before .before .before .before .if1 .left) (c .before .before .before .before .before .if2 .left))
     (yes _ _ _ (sym (c .before .before .before .before .ranged .ensures) ∙ not-false _ (c .before .before .before .if3 .left))
     (yes _ _ _ (eq-eqb _ _ (c .before .before .if4 .left)) (no _ _ _ (ne-eqb _ _ other) refl)))
-
-depth-requires : tie.Need-depth-requires
-depth-requires c κs = search needs
 
 rebuild-requires : tie.Need-rebuild-requires
 unfolding count
@@ -81,12 +74,6 @@ rebuild-requires c κs =
       given = omega (arith, c .before .before .before .if4 .left);
       enough = room-deep _ _ _ _ _ _ _ holds (omega (arith, c .before .if5 .left, c .before .before .count .ensures));
     }
-
-slice-aggregate-agrees : tie.Need-slice-aggregate-agrees
-slice-aggregate-agrees c = search needs
-
-agrees-requires : tie.Need-agrees-requires
-agrees-requires c κs = search needs
 
 returns-6 : tie.Need-returns-6
 unfolding verdict count rebuild
@@ -105,20 +92,5 @@ returns-6 c =
 
 pub check-spec : {M : Type 1} → statement M
 check-spec =
-    tie.close
-    (tie.spec
-    returns
-    returns-2
-    ranged-requires
-    returns-3
-    sub-if4
-    mul-if4
-    returns-4
-    count-requires
-    mul-if5
-    returns-5
-    depth-requires
-    rebuild-requires
-    slice-aggregate-agrees
-    agrees-requires
-    returns-6)
+    tie.close (tie.spec returns returns-2 (λ c κs. search needs) returns-3 sub-if4 mul-if4 returns-4 (λ c κs. omega arith) mul-if5 returns-5
+        (λ c κs. search needs) rebuild-requires (λ c. search needs) (λ c κs. search needs) returns-6)

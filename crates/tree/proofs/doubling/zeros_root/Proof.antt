@@ -14,20 +14,11 @@ Inv-loop z root₀ n₀ root n = Come z n root
 abbrev μ-loop : tie.MeasureT-loop
 μ-loop z root₀ n₀ root n = z - n
 
-slice-aggregate-leaf : tie.Need-slice-aggregate-leaf Inv-loop μ-loop
-slice-aggregate-leaf c = search needs
-
 leaf-requires : tie.Need-leaf-requires Inv-loop μ-loop
 leaf-requires c κs = segments-cover _ _ (omega arith)
 
 loop-holds : tie.Need-loop-holds Inv-loop μ-loop
 loop-holds c = come-leaf _ (c .before .before .pre) (omega arith) (c .leaf .ensures)
-
-node-requires : tie.Need-node-requires Inv-loop μ-loop
-node-requires c κs = search needs
-
-mul-n : tie.Need-mul-n Inv-loop μ-loop
-mul-n c = omega arith
 
 loop-less : tie.Need-loop-less Inv-loop μ-loop
 loop-less c = omega (arith, come-some (c .before .before .before .before .loop .inv))
@@ -43,15 +34,5 @@ returns c = come-all _ (c .before .before .before .before .pre) (c .before .loop
 
 pub zeros-root-spec : {M : Type 1} → statement M
 zeros-root-spec =
-    tie.close
-    (tie.spec
-    Inv-loop
-    μ-loop
-    slice-aggregate-leaf
-    leaf-requires
-    loop-holds
-    node-requires
-    mul-n
-    loop-less
-    loop-again
-    returns)
+    tie.close (tie.spec Inv-loop μ-loop (λ c. search needs) leaf-requires loop-holds (λ c κs. search needs) (λ c. omega arith) loop-less
+        loop-again returns)

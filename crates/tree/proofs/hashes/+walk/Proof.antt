@@ -30,7 +30,8 @@ abbrev walk-below : ℕ → In 2 walk-kinds.ps
 walk-below t = and 2 walk-kinds.ps (falls 2 walk-kinds.ps _<_ μ-walk t) walk.Pre
 
 abbrev calls : ℕ → walk-lts.Claims
-calls t = (outside-reads.Asked, outside-reads.Learnt, over-reads.Asked, over-reads.Learnt, copy-between-reads.Asked, copy-between-reads.Learnt, inside-reads.Asked, inside-reads.Learnt, power-reads.Asked, power-reads.Learnt, walk-below t, walk.Post)
+calls t = (outside-reads.Asked, outside-reads.Learnt, over-reads.Asked, over-reads.Learnt, copy-between-reads.Asked, copy-between-reads.Learnt,
+    inside-reads.Asked, inside-reads.Learnt, power-reads.Asked, power-reads.Learnt, walk-below t, walk.Post)
 
 walk-outside-requires : (t : ℕ) → walk-lts.Need-outside-requires (calls t) (walk-at t) walk.Post
 walk-outside-requires t c κs = c .before .before .pre .1 .walked .top
@@ -65,7 +66,9 @@ walk-returns : (t : ℕ) → walk-lts.Need-returns (calls t) (walk-at t) walk.Po
 walk-returns t c =
     let out = c .before .before .before .before .before .before .before in
     let w = out .before .before .before .pre .1 in
-    laid-out _ _ _ _ _ _ _ _ _ (w .walked .some) (w .all) (sym (out .outside .ensures) ∙ c .before .before .before .before .before .before .if1 .taken) (c .before .before .before .before .before .over .ensures) (c .before .before .copy-between .ensures)
+    laid-out _ _ _ _ _ _ _ _ _ (w .walked .some) (w .all) (sym (out .outside .ensures)
+        ∙ c .before .before .before .before .before .before .if1 .taken) (c .before .before .before .before .before .over .ensures)
+        (c .before .before .copy-between .ensures)
 
 walk-inside-requires : (t : ℕ) → walk-lts.Need-inside-requires (calls t) (walk-at t) walk.Post
 walk-inside-requires t c κs = c .before .before .before .before .pre .1 .walked .top
@@ -82,7 +85,8 @@ Past t = walk-lts.Else2 (calls t) (walk-at t) walk.Post
 at-level : (t : ℕ) (c : Past t) → let a = c .before .before .before .before .before .before .args in Level (a .at) (a .n) (a .depth) (a .first) (a .end)
 at-level t c =
     let out = c .before .before in
-    level _ _ _ _ _ (c .before .before .before .before .before .before .pre .1 .walked) (out .before .outside .ensures) (out .if1 .left) (c .before .inside .ensures) (c .if2 .left)
+    level _ _ _ _ _ (c .before .before .before .before .before .before .pre .1 .walked) (out .before .outside .ensures) (out .if1 .left)
+        (c .before .inside .ensures) (c .if2 .left)
 
 walk-sub-power : (t : ℕ) → walk-lts.Need-sub-power (calls t) (walk-at t) walk.Post
 walk-sub-power t c = at-level t c .deep

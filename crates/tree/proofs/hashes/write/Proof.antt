@@ -15,4 +15,5 @@ returns : tie.Need-returns
 returns c = laid-deep _ _ _ _ _ _ _ _ _ (c .before .before .before .before .depth .ensures) (c .before .before .walk .ensures)
 
 pub write-spec : {M : Type 1} → statement M
-write-spec = tie.close (tie.spec (λ c κs. search needs) walk-requires (λ c. search needs) returns)
+write-spec =
+    tie.close (tie.spec (λ c κs. search needs) walk-requires (λ c. search needs) returns)

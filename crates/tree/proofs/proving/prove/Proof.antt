@@ -11,12 +11,6 @@ use Rattle.tree.proofs.Laws.Answered.{provable-tells, from-top, proof-l
 use Rattle.tree.proofs.proving.prove.Statement.{statement}
 use Rattle.tree.proofs.proving.prove.Tie as tie
 
-provable-requires : tie.Need-provable-requires
-provable-requires c κs = search needs
-
-refused-requires : tie.Need-refused-requires
-refused-requires c κs = search needs
-
 returns : tie.Need-returns
 unfolding proved
 returns c = not-asked _ _ _ (sym (c .before .before .provable .ensures) ∙ not-true _ (c .before .if1 .taken)) (c .refused .ensures)
@@ -25,9 +19,6 @@ count-requires : tie.Need-count-requires
 count-requires c κs =
     let p = provable-tells _ _ _ (sym (c .before .provable .ensures) ∙ not-false _ (c .if1 .left)) in
     omega arith
-
-refused-requires-2 : tie.Need-refused-requires-2
-refused-requires-2 c κs = search needs
 
 returns-2 : tie.Need-returns-2
 unfolding proved count
@@ -47,29 +38,19 @@ write-requires c κs =
       room = omega (arith, c .before .before .count .ensures, c .before .if2 .left);
     }
 
-same-length : tie.Need-same-length
-same-length c = search needs
-
 returns-3 : tie.Need-returns-3
 unfolding proved count
 returns-3 c =
     let a = c .before .before .before .before .before .before .before .before .before .before .args in
-    let t = sym (c .before .before .before .before .before .before .before .provable .ensures) ∙ not-false _ (c .before .before .before .before .before .before .if1 .left) in
+    let t = sym (c .before .before .before .before .before .before .before .provable .ensures)
+        ∙ not-false _ (c .before .before .before .before .before .before .if1 .left) in
     let p = provable-tells _ _ _ t in
     let long = proof-long (a .bytes .now) (a .first) (a .end) (omega arith) (omega arith) in
-    all-laid _ _ _ t (omega (arith, long, c .before .before .before .before .before .count .ensures)) (omega (arith, long, c .before .before .before .before .before .count .ensures, c .before .before .before .before .if2 .left))
+    all-laid _ _ _ t (omega (arith, long, c .before .before .before .before .before .count .ensures))
+        (omega (arith, long, c .before .before .before .before .before .count .ensures, c .before .before .before .before .if2 .left))
     (proof-put _ _ _ _ (c .before .before .write .ensures .1))
 
 pub prove-spec : {M : Type 1} → statement M
 prove-spec =
-    tie.close
-    (tie.spec
-    provable-requires
-    refused-requires
-    returns
-    count-requires
-    refused-requires-2
-    returns-2
-    write-requires
-    same-length
-    returns-3)
+    tie.close (tie.spec (λ c κs. search needs) (λ c κs. search needs) returns count-requires (λ c κs. search needs) returns-2 write-requires
+        (λ c. search needs) returns-3)

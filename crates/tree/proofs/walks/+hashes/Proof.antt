@@ -26,7 +26,8 @@ abbrev hashes-below : ℕ → In 0 hashes-kinds.ps
 hashes-below t = and 0 hashes-kinds.ps (falls 0 hashes-kinds.ps _<_ μ-hashes t) hashes.Pre
 
 abbrev calls : ℕ → hashes-lts.Claims
-calls t = (outside-reads.Asked, outside-reads.Learnt, inside-reads.Asked, inside-reads.Learnt, power-reads.Asked, power-reads.Learnt, hashes-below t, hashes.Post)
+calls t = (outside-reads.Asked, outside-reads.Learnt, inside-reads.Asked, inside-reads.Learnt, power-reads.Asked, power-reads.Learnt, hashes-below t,
+    hashes.Post)
 
 hashes-outside-requires : (t : ℕ) → hashes-lts.Need-outside-requires (calls t) (hashes-at t) hashes.Post
 hashes-outside-requires t c κs = c .pre .1 .top

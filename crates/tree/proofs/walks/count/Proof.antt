@@ -14,4 +14,5 @@ returns : tie.Need-returns
 returns c = count-deep _ _ _ _ (c .before .depth .ensures) (c .hashes .ensures)
 
 pub count-spec : {M : Type 1} → statement M
-count-spec = tie.close (tie.spec (λ c κs. search needs) hashes-requires returns)
+count-spec =
+    tie.close (tie.spec (λ c κs. search needs) hashes-requires returns)
