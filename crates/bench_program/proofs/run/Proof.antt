@@ -5,19 +5,28 @@ use Rattle.bench_program.proofs.run.Statement.{statement}
 use Rattle.bench_program.proofs.run.Tie as tie
 
 returns : tie.Need-returns
-returns c = let a = c .before .before .before .before .before .before .before .before .before .before .before .before .args in
-    run-unmade _ (a .prices) (a .budget) _ _ _ _ _ _ _ (c .before .before .before .before .fresh .ensures) (c .refused .ensures) (c .before .if1 .taken)
+returns c =
+    let then1 = c .before in let at-fresh = then1 .before .before .before in let at-slice-known2 = at-fresh .before .before .before in
+    let at-shared-slice-known2 = at-slice-known2 .before .before .before in let start = at-shared-slice-known2 .before .before in
+    let a = start .args in run-unmade _ (a .prices) (a .budget) _ _ _ _ _ _ _ (at-fresh .fresh .ensures) (c .refused .ensures) (then1 .if1 .taken)
 
 returns-2 : tie.Need-returns-2
-returns-2 c = let a =
-    c .before .before .before .before .before .before .before .before .before .before .before .before .before .before .before .before .args in
-    run-unformed _ (a .prices) (a .budget) _ _ _ _ _ _ _ (c .before .before .before .before .before .before .before .before .fresh .ensures)
-    (c .before .before .before .before .before .if1 .left) (c .before .before .before .before .form-in-turn .ensures) (c .refused2 .ensures)
-    (c .before .if2 .taken)
+returns-2 c =
+    let then2 = c .before in let at-form-in-turn = then2 .before .before .before in let else1 = at-form-in-turn .before in
+    let at-fresh = else1 .before .before .before in let at-slice-known2 = at-fresh .before .before .before in
+    let at-shared-slice-known2 = at-slice-known2 .before .before .before in let start = at-shared-slice-known2 .before .before in
+    let a = start .args in run-unformed _ (a .prices) (a .budget) _ _ _ _ _ _ _ (at-fresh .fresh .ensures) (else1 .if1 .left)
+        (at-form-in-turn .form-in-turn .ensures) (c .refused2 .ensures) (then2 .if2 .taken)
 
 returns-3 : tie.Need-returns-3
-returns-3 c = let a =
-    c .before .before .before .before .before .before .before .before .before .before .before .before .before .before .before .before .before .before .before .before .before .before .before .before .before .before .before .before .args in run-goes _ (a .prices) (a .budget) _ _ _ _ _ _ _ (c .before .before .before .before .before .before .before .before .before .before .before .before .before .before .before .before .before .before .before .before .fresh .ensures) (c .before .before .before .before .before .before .before .before .before .before .before .before .before .before .before .before .before .if1 .left) (c .before .before .before .before .before .before .before .before .before .before .before .before .before .before .before .before .form-in-turn .ensures) (c .before .before .before .before .before .before .before .before .before .before .before .before .before .if2 .left) (c .before .before .before .before .before .before .before .before .begin .ensures)
+returns-3 c =
+    let at-input = c .before .before .before in let at-stage = at-input .before .before in let at-begin = at-stage .before .before .before in
+    let at-begin-arg2 = at-begin .before .before .before in let else2 = at-begin-arg2 .before .before in
+    let at-form-in-turn = else2 .before .before .before in let else1 = at-form-in-turn .before in let at-fresh = else1 .before .before .before in
+    let at-slice-known2 = at-fresh .before .before .before in let at-shared-slice-known2 = at-slice-known2 .before .before .before in
+    let start = at-shared-slice-known2 .before .before in
+    let a = start .args in run-goes _ (a .prices) (a .budget) _ _ _ _ _ _ _ (at-fresh .fresh .ensures) (else1 .if1 .left)
+        (at-form-in-turn .form-in-turn .ensures) (else2 .if2 .left) (at-begin .begin .ensures)
 
 pub run-spec : {M : Type 1} → statement M
 run-spec =

@@ -33,13 +33,16 @@ id-at-requires c κs = omega (arith, div-add-mod' (length (c .before .before .be
 
 returns : tie.Need-returns Inv-loop μ-loop
 unfolding idsIn
-returns c = turn-refused _ _ _ _ (c .before .before .before .before .loop-test .taken) (c .before .before .form .ensures
-    ∙ ap (formed _) (c .before .before .before .id-at .ensures)) (c .if1 .taken) ∙ sym (c .before .before .before .before .before .loop .inv)
+returns c =
+    let at-id-at = c .before .before .before in let in-loop = at-id-at .before in let at-loop = in-loop .before in
+    turn-refused _ _ _ _ (in-loop .loop-test .taken) (c .before .before .form .ensures ∙ ap (formed _) (at-id-at .id-at .ensures)) (c .if1 .taken)
+        ∙ sym (at-loop .loop .inv)
 
 loop-again : tie.Need-loop-again Inv-loop μ-loop
-loop-again c = c .before .before .before .before .before .before .loop .inv
-    ∙ turn-formed _ _ _ _ (c .before .before .before .before .before .loop-test .taken) (c .before .before .before .form .ensures
-    ∙ ap (formed _) (c .before .before .before .before .id-at .ensures)) (c .before .if1 .left)
+loop-again c =
+    let else1 = c .before in let at-id-at = else1 .before .before .before in let in-loop = at-id-at .before in let at-loop = in-loop .before in
+    at-loop .loop .inv ∙ turn-formed _ _ _ _ (in-loop .loop-test .taken) (else1 .before .before .form .ensures
+        ∙ ap (formed _) (at-id-at .id-at .ensures)) (else1 .if1 .left)
 
 returns-2 : tie.Need-returns-2 Inv-loop μ-loop
 unfolding idsIn

@@ -6,7 +6,9 @@ use Rattle.bench_program.proofs.contracts.id_at.Statement.{statement}
 use Rattle.bench_program.proofs.contracts.id_at.Tie as tie
 
 returns : tie.Need-returns
-returns c = put-part _ _ _ 32 refl (c .before .before .before .before .pre) (c .before .copy-between .ensures)
+returns c =
+    let at-id = c .before .before in let start = at-id .before .before in
+    put-part _ _ _ 32 refl (start .pre) (c .before .copy-between .ensures)
 
 pub id-at-spec : {M : Type 1} → statement M
 id-at-spec =

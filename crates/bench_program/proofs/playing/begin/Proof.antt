@@ -5,7 +5,10 @@ use Rattle.bench_program.proofs.playing.begin.Statement.{statement}
 use Rattle.bench_program.proofs.playing.begin.Tie as tie
 
 abbrev at-start : tie.After-open → tie.Start
-at-start c = c .before .before .before .before .before .before .before
+at-start c =
+    let at-slice-known2 = c .before .before .before in let at-shared-slice-known = at-slice-known2 .before .before .before in
+    let start = at-shared-slice-known .before in
+    start
 
 returns : tie.Need-returns
 returns c =
@@ -16,9 +19,8 @@ returns c =
 
 returns-2 : tie.Need-returns-2
 returns-2 c =
-    let given = c .before .before .before .before .before .before .before .before in
-    let test = given .before .before .before .before .before in
-    let opened = test .before .before in
+    let at-input = c .before .before .before in let at-stage = at-input .before .before in let given = at-stage .before .before .before in
+    let at-give-arg2 = given .before .before .before in let test = at-give-arg2 .before .before in let opened = test .before .before in
     let a = at-start opened .args in
     begun-goes (a .host) (a .prices) (a .budget) _ _ _ _ _ _ (opened .«open» .ensures) (test .if1 .left) (given .give .ensures)
 

@@ -7,15 +7,20 @@ use Rattle.bench_program.proofs.playing.give.Tie as tie
 -- ---- the places
 
 abbrev at-least : tie.After-piece → tie.After-least
-at-least c = c .before .before .before .before .before
+at-least c =
+    let at-piece-arg2 = c .before .before .before in let at-least-2 = at-piece-arg2 .before .before in
+    at-least-2
 
 abbrev at-start : tie.After-least → tie.Start
-at-start c = let terms = c .before .before in terms .before .before .before .before .before .before .before
+at-start c =
+    let terms = c .before .before in let at-program = terms .before in let at-slice-known2 = at-program .before .before .before in
+    let start = at-slice-known2 .before .before .before in
+    start
 
 returns : tie.Need-returns
 returns c =
-    let test = c .before in
-    let piece = test .before .before .before .before .before .before .before .before in
+    let test = c .before in let at-output = test .before .before .before in let at-input = at-output .before .before in
+    let piece = at-input .before .before .before in
     let long = at-least piece .least .ensures in
     let a = at-start (at-least piece) .args in
     given-refused (a .host) _ _ _ (a .input .now) _ (front-is _ _ (a .input .now) long) (piece .piece .ensures) (rest-is _ _ (a .input .now) long)
@@ -23,9 +28,8 @@ returns c =
 
 returns-2 : tie.Need-returns-2
 returns-2 c =
-    let finish = c .before .before .before in
-    let test = finish .before .before .before .before .before in
-    let piece = test .before .before .before .before .before .before .before .before in
+    let finish = c .before .before .before in let at-progress = finish .before .before .before in let test = at-progress .before .before in
+    let at-output = test .before .before .before in let at-input = at-output .before .before in let piece = at-input .before .before .before in
     let long = at-least piece .least .ensures in
     let a = at-start (at-least piece) .args in
     given-closed (a .host) _ _ _ (a .input .now) _ (front-is _ _ (a .input .now) long) (piece .piece .ensures) (rest-is _ _ (a .input .now) long)

@@ -11,12 +11,15 @@ returns c = ids-short _ (c .before .before .before .pre) (c .before .load .ensur
 
 returns-2 : tie.Need-returns-2
 unfolding numberAt
-returns-2 c = number-short _ (c .before .before .before .before .pre) (c .before .before .load .ensures) (c .if2 .taken)
+returns-2 c =
+    let else1 = c .before in let start = else1 .before .before .before in
+    number-short _ (start .pre) (else1 .before .load .ensures) (c .if2 .taken)
 
 returns-3 : tie.Need-returns-3
 unfolding numberAt
-returns-3 c = head-short _ (c .before .before .before .before .before .pre) (c .before .before .before .load .ensures) (c .before .if2 .left)
-    (c .load2 .ensures)
+returns-3 c =
+    let else1 = c .before .before in let start = else1 .before .before .before in
+    head-short _ (start .pre) (else1 .before .load .ensures) (c .before .if2 .left) (c .load2 .ensures)
 
 pub cut-short-spec : {M : Type 1} → statement M
 cut-short-spec =

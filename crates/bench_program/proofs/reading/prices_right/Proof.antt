@@ -27,15 +27,18 @@ load-requires c κs = omega (arith, c .before .before .before .pre)
 
 returns : tie.Need-returns Inv-loop μ-loop
 unfolding numberAt
-returns c = tab-stops _ _ (c .before .before .before .loop .i) 7 (c .before .before .loop-test .taken)
-    (lt-leb (numberAt (c .before .before .before .before .before .args .all .now) (8 + c .before .before .before .loop .i * 8)) 65535
-    (omega (arith, c .if1 .taken, c .before .load .ensures))) ∙ sym (c .before .before .before .loop .inv)
+returns c =
+    let at-loop = c .before .before .before in let start = at-loop .before .before in
+    tab-stops _ _ (at-loop .loop .i) 7 (c .before .before .loop-test .taken)
+        (lt-leb (numberAt (start .args .all .now) (8 + at-loop .loop .i * 8)) 65535 (omega (arith, c .if1 .taken, c .before .load .ensures)))
+        ∙ sym (at-loop .loop .inv)
 
 loop-again : tie.Need-loop-again Inv-loop μ-loop
 unfolding numberAt
-loop-again c = c .before .before .before .loop .inv ∙ tab-further _ _ (c .before .before .before .loop .i) 7 (c .before .before .loop-test .taken)
-    (le-leb (numberAt (c .before .before .before .before .before .args .all .now) (8 + c .before .before .before .loop .i * 8)) 65535
-    (omega (arith, c .if1 .left, c .before .load .ensures)))
+loop-again c =
+    let at-loop = c .before .before .before in let start = at-loop .before .before in
+    at-loop .loop .inv ∙ tab-further _ _ (at-loop .loop .i) 7 (c .before .before .loop-test .taken)
+        (le-leb (numberAt (start .args .all .now) (8 + at-loop .loop .i * 8)) 65535 (omega (arith, c .if1 .left, c .before .load .ensures)))
 
 returns-2 : tie.Need-returns-2 Inv-loop μ-loop
 returns-2 c = tab-done _ _ (c .before .loop .i) 7 (omega arith) ∙ sym (c .before .loop .inv)

@@ -19,15 +19,17 @@ returns-2 c = no _ _ _ (le-ltb _ 80 (c .before .before .if1 .left)) (yes _ _ _ (
 returns-3 : tie.Need-returns-3
 unfolding wrong numberAt
 returns-3 c =
-    no _ _ _ (le-ltb _ 80 (c .before .before .before .before .if1 .left))
-    (no _ _ _ (ap not (eq-eqb _ 7 (sym (c .before .before .before .load .ensures) ∙ c .before .before .if2 .left)))
+    let else2 = c .before .before in let else1 = else2 .before .before in
+    no _ _ _ (le-ltb _ 80 (else1 .if1 .left))
+    (no _ _ _ (ap not (eq-eqb _ 7 (sym (else2 .before .load .ensures) ∙ else2 .if2 .left)))
     (yes _ _ _ (ap not (sym (c .before .prices-right .ensures)) ∙ c .if3 .taken) refl))
 
 returns-4 : tie.Need-returns-4
 unfolding wrong numberAt
 returns-4 c =
-    no _ _ _ (le-ltb _ 80 (c .before .before .before .before .before .if1 .left))
-    (no _ _ _ (ap not (eq-eqb _ 7 (sym (c .before .before .before .before .load .ensures) ∙ c .before .before .before .if2 .left)))
+    let else2 = c .before .before .before in let at-load = else2 .before in let else1 = at-load .before in
+    no _ _ _ (le-ltb _ 80 (else1 .if1 .left))
+    (no _ _ _ (ap not (eq-eqb _ 7 (sym (at-load .load .ensures) ∙ else2 .if2 .left)))
     (no _ _ _ (ap not (sym (c .before .before .prices-right .ensures)) ∙ c .before .if3 .left)
     (c .cut-short .ensures)))
 

@@ -6,19 +6,26 @@ use Rattle.bench_program.proofs.speaking.play.Statement.{statement}
 use Rattle.bench_program.proofs.speaking.play.Tie as tie
 
 store-requires : tie.Need-store-requires
-store-requires c κs = omega (arith, c .before .before .before .before .output .given,
-    c .before .before .before .before .before .before .before .before .before .before .before .before .before .before .before .before .before .before .before .before .before .pre)
+store-requires c κs =
+    let then1 = c .before in let at-output = then1 .before .before .before in let at-input = at-output .before .before in
+    let at-stage = at-input .before .before in let at-answer = at-stage .before .before .before in
+    let at-answer-arg2 = at-answer .before .before .before in let at-slice-known3 = at-answer-arg2 .before .before .before in
+    let at-shared-slice-known = at-slice-known3 .before .before .before in let start = at-shared-slice-known .before in
+    omega (arith, at-output .output .given, start .pre)
 
 returns : tie.Need-returns
-returns c = speaks-number _
-    (c .before .before .before .before .before .before .before .before .before .before .before .before .before .before .answer .ensures)
-    (c .before .before .before .before .if1 .taken)
-    (omega (arith, c .before .before .before .before .before .before .before .output .given,
-    c .before .before .before .before .before .before .before .before .before .before .before .before .before .before .before .before .before .before .before .before .before .before .before .before .pre)) (c .before .before .store .ensures)
+returns c =
+    let at-store = c .before .before in let then1 = at-store .before .before in let at-output = then1 .before .before .before in
+    let at-input = at-output .before .before in let at-stage = at-input .before .before in let at-answer = at-stage .before .before .before in
+    let at-answer-arg2 = at-answer .before .before .before in let at-slice-known3 = at-answer-arg2 .before .before .before in
+    let at-shared-slice-known = at-slice-known3 .before .before .before in let start = at-shared-slice-known .before in
+    speaks-number _ (at-answer .answer .ensures) (then1 .if1 .taken) (omega (arith, at-output .output .given, start .pre)) (at-store .store .ensures)
 
 returns-2 : tie.Need-returns-2
-returns-2 c = speaks-records _ (c .before .before .before .before .before .before .before .before .before .before .before .answer .ensures)
-    (c .before .if1 .left) (c .least .ensures)
+returns-2 c =
+    let else1 = c .before in let at-output = else1 .before .before .before in let at-input = at-output .before .before in
+    let at-stage = at-input .before .before in let at-answer = at-stage .before .before .before in
+    speaks-records _ (at-answer .answer .ensures) (else1 .if1 .left) (c .least .ensures)
 
 pub play-spec : {M : Type 1} → statement M
 play-spec =

@@ -22,7 +22,10 @@ use Rattle.machine.proofs.closing.commit.Tie as tie
 -- ---- the beginning
 
 abbrev start : tie.After-place-of → tie.Start
-start c = c .before .before .before .before .before .before .before .before .before .before
+start c =
+    let at-places = c .before .before .before in let at-terms = at-places .before .before .before in let at-program = at-terms .before in
+    let start-2 = at-program .before .before .before in
+    start-2
 
 abbrev host : tie.After-place-of → Host
 host c = start c .args .host
@@ -49,40 +52,41 @@ growth-requires c κs =
     )
 
 div-count : tie.Need-div-count
-div-count c = some _ (size (c .before .before .before .before))
+div-count c =
+    let at-final-slots = c .before .before .before in let at-place-of = at-final-slots .before in
+    some _ (size (at-place-of))
 
 copy-back-requires : tie.Need-copy-back-requires
 copy-back-requires c κs =
-    let slots = c .before .before .before .before in
-    let at = slots .before in
+    let at-final-place = c .before .before .before in let slots = at-final-place .before in let at = slots .before in
     let r = start at .pre in
     backs _ (host at) _ (declared at) (r .order) (r .areas) (r .live) (at .place-of .ensures) (slots .final-slots .ensures)
 
 slice-aggregate-copy-back : tie.Need-slice-aggregate-copy-back
-slice-aggregate-copy-back c = let at = c .before .before .before .before .before .before .before .before .before .before .before in
+slice-aggregate-copy-back c =
+    let at-stageroots = c .before .before in let at-copy-back = at-stageroots .before .before .before in
+    let at-replaced-in = at-copy-back .before .before .before in let at = at-replaced-in .before .before .before in
     sym (stage-rooted (host at) _ (start at .good .0))
 
 slice-aggregate-copy-back-2 : tie.Need-slice-aggregate-copy-back-2
-slice-aggregate-copy-back-2 c = let at = c .before .before .before .before .before .before .before .before .before .before .before .before in
+slice-aggregate-copy-back-2 c =
+    let at-stageroots = c .before .before .before in let at-copy-back = at-stageroots .before .before .before in
+    let at-replaced-in = at-copy-back .before .before .before in let at = at-replaced-in .before .before .before in
     sym (disk-rooted (host at) _ (start at .good .0))
 
 copy-back-requires-2 : tie.Need-copy-back-requires-2
 copy-back-requires-2 c κs =
-    let slots = c .before .before .before .before .before .before .before .before .before .before .before in
-    let at = slots .before in
+    let at-stageroots = c .before .before .before in let at-copy-back = at-stageroots .before .before .before in
+    let at-replaced-in = at-copy-back .before .before .before in let slots = at-replaced-in .before .before in let at = slots .before in
     let r = start at .pre in
     roots-back _ (host at) _ (declared at) (r .order) (r .areas) (r .live) (at .place-of .ensures) (slots .final-slots .ensures)
 
 returns : tie.Need-returns
 unfolding withProgram withPlaces withDiskRoots
 returns c =
-    let rooted = c .before .before in
-    let back = rooted .before .before .before .before .before .before .before in
-    let grown = back .before .before in
-    let replaced = grown .before in
-    let placed = replaced .before in
-    let slots = placed .before in
-    let at = slots .before in
+    let rooted = c .before .before in let at-diskroots = rooted .before .before .before in let at-disk = at-diskroots .before .before .before in
+    let back = at-disk .before in let grown = back .before .before in let replaced = grown .before in let placed = replaced .before in
+    let slots = placed .before in let at = slots .before in
     let h = host at in
     let made : Program → Closed =
     λ g. closed 0 (h .program .progress .tally) (toZ w64 (ofZ w64 (grown .growth .result)))

@@ -24,20 +24,21 @@ loop-holds c =
 
 one-back-requires : tie.Need-one-back-requires Inv-loop μ-loop
 one-back-requires c κs =
-    let l = c .before .before .loop in
-    let s = c .before .before .before .before .before in
+    let at-loop = c .before .before in let s = at-loop .before .before .before in
+    let l = at-loop .loop in
     next-lies (s .args .z) (s .args .stage .now) (s .args .t3) (s .args .t4) (s .args .n) (l .i)
     (s .good .1 .1 .0 .1 .0 .1) (s .pre .few) _ _ (omega arith) (s .pre) (l .inv .1)
 
 loop-again : tie.Need-loop-again Inv-loop μ-loop
 loop-again c =
-    let l = c .before .before .before .before .before .loop in
-    let s = c .before .before .before .before .before .before .before .before in (
+    let at-one-back = c .before .before in let at-loop = at-one-back .before .before .before in let s = at-loop .before .before .before in
+    let l = at-loop .loop in
+    (
       omega arith,
-      back-length _ _ _ _ _ (l .inv .1) (c .before .before .one-back .ensures),
+      back-length _ _ _ _ _ (l .inv .1) (at-one-back .one-back .ensures),
       l .inv .2
           ∙ back-one (s .args .z) (s .args .stage .now) (s .args .t3) (s .args .t4) (s .args .n) (l .i) (s .good .1 .1 .0 .1 .0 .1) (s .pre .few) (l .disk)
-          (omega arith) (c .before .before .one-back .ensures),
+          (omega arith) (at-one-back .one-back .ensures),
     )
 
 returns : tie.Need-returns Inv-loop μ-loop

@@ -14,14 +14,14 @@ returns c =
 
 returns-2 : tie.Need-returns-2
 returns-2 c =
-    let s = c .before .before .before .before in
-    let n = count-held (s .args .z) (s .args .place) (not-false _ (c .before .before .if1 .left)) (placed (s .args .place) _ (s .good .1 .0)) in
+    let else1 = c .before .before in let s = else1 .before .before in
+    let n = count-held (s .args .z) (s .args .place) (not-false _ (else1 .if1 .left)) (placed (s .args .place) _ (s .good .1 .0)) in
     (omega (arith, n), omega arith)
 
 returns-3 : tie.Need-returns-3
 returns-3 c =
-    let s = c .before .before .before .before in
-    let n = count-held (s .args .z) (s .args .place) (not-false _ (c .before .before .if1 .left)) (placed (s .args .place) _ (s .good .1 .0)) in
+    let else1 = c .before .before in let s = else1 .before .before in
+    let n = count-held (s .args .z) (s .args .place) (not-false _ (else1 .if1 .left)) (placed (s .args .place) _ (s .good .1 .0)) in
     (omega (arith, n), omega arith)
 
 pub count-spec : {M : Type 1} → statement M

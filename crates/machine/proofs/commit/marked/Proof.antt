@@ -19,8 +19,8 @@ abbrev μ-loop : tie.MeasureT-loop
 
 loop-again : tie.Need-loop-again Inv-loop μ-loop
 loop-again c =
-    let l = c .before .before .loop in
-    let s = c .before .before .before .before in
+    let at-loop = c .before .before in let s = at-loop .before .before in
+    let l = at-loop .loop in
     let n = listing (s .args .all) _ (s .good .0) in
     (omega arith, l .inv .1 ∙ mark-one (l .flags) (s .args .all .items) (l .i) (s .args .all .count) n (omega arith) (s .pre) (c .mark .ensures))
 

@@ -18,12 +18,14 @@ mul-copy-between-2 c = let test = c .before in omega (arith, test .before .befor
 
 copy-between-requires : tie.Need-copy-between-requires
 copy-between-requires c κs =
-    let s = c .before .before .before .before in
-    let e = ne-eqb (s .args .from) 255 (c .before .if1 .left) in
+    let else1 = c .before in let s = else1 .before .before .before in
+    let e = ne-eqb (s .args .from) 255 (else1 .if1 .left) in
     (s .pre .source e, s .pre .target e)
 
 returns-2 : tie.Need-returns-2
-returns-2 c = laid-some _ _ _ _ _ (ne-eqb _ _ (c .before .before .before .before .if1 .left)) (c .before .before .copy-between .ensures)
+returns-2 c =
+    let at-copy-between = c .before .before in let else1 = at-copy-between .before .before in
+    laid-some _ _ _ _ _ (ne-eqb _ _ (else1 .if1 .left)) (at-copy-between .copy-between .ensures)
 
 pub one-back-spec : {M : Type 1} → statement M
 one-back-spec =

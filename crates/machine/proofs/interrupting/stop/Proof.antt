@@ -20,16 +20,14 @@ use Rattle.machine.proofs.interrupting.stop.Tie as tie
 
 fail-requires : tie.Need-fail-requires
 fail-requires c κs =
-    let found = c .before .before .before .before in
-    let s = found .before .before .before in
+    let at-progress = c .before .before .before in let found = at-progress .before in let s = found .before .before .before in
     let h = s .args .host in
     (stands h _ (disk-rooted h _ (s .good .0)) (found .parent .ensures) (s .pre .order), room-left h (s .pre))
 
 returns : tie.Need-returns
 unfolding stoppedBy failing failureBytes startingPair parent settingBy turnOf withRun withStageRoots withProgram withProgress withCame rootOf rootBy
 returns c =
-    let failed = c .before .before in
-    let found = failed .before .before .before .before .before in
+    let failed = c .before .before in let at-diskroots = failed .before .before .before in let found = at-diskroots .before .before in
     let a = found .before .before .before .args in
     let e = failed .fail .ensures in
     let read = keptRoot (a .host .diskroots) [] in

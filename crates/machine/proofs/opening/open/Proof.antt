@@ -61,7 +61,9 @@ abbrev start-4 : tie.Else4 → tie.Start
 start-4 c = start-3 (c .before .before .before)
 
 abbrev start-5 : tie.Else5 → tie.Start
-start-5 c = start-4 (c .before .before .before .before .before)
+start-5 c =
+    let at-places = c .before .before .before in let else4 = at-places .before .before in
+    start-4 (else4)
 
 abbrev told-4 : tie.Else4 → Told
 told-4 c = c .before .before .read-head .result
@@ -93,7 +95,9 @@ goes-4 c e =
 goes-5 : (c : tie.Else5) {r : Answer} → let a = start-5 c .args in
     r ≡ after-5 (a .host) (a .budget) (a .prices) (a .room) (told-4 (c .before .before .before .before .before))
     → r ≡ opened (a .host) (a .bytes .now) (a .budget) (a .prices) (a .room)
-goes-5 c e = goes-4 (c .before .before .before .before .before) (no _ _ _ (sym (c .before .absent .ensures) ∙ c .if5 .left) e)
+goes-5 c e =
+    let at-places = c .before .before .before in let else4 = at-places .before .before in
+    goes-4 (else4) (no _ _ _ (sym (c .before .absent .ensures) ∙ c .if5 .left) e)
 
 -- ---- the needs
 
@@ -120,8 +124,8 @@ returns-4 c =
 
 returns-5 : tie.Need-returns-5
 returns-5 c =
-    let test = c .before in
-    goes-4 (test .before .before .before .before .before)
+    let test = c .before in let at-places = test .before .before .before in let else4 = at-places .before .before in
+    goes-4 (else4)
     (yes _ _ _ (sym (test .before .absent .ensures) ∙ test .if5 .taken) (c .refused5 .ensures))
 
 returns-6 : tie.Need-returns-6
@@ -134,11 +138,10 @@ returns-6 c =
 returns-7 : tie.Need-returns-7
 unfolding withProgram begun
 returns-7 c =
-    let test = c .before .before in
-    let start = test .before in
-    let else = start .before in
+    let test = c .before .before in let start = test .before in let else = start .before in let at-places = else .before .before .before in
+    let else4 = at-places .before .before in
     let a = start-5 else .args in
-    let t = told-4 (else .before .before .before .before .before) in
+    let t = told-4 (else4) in
     let made : ℕ → Progress → Answer = λ n p.
     answered 0 n (withProgram (a .host) (record {
       active = true;

@@ -20,8 +20,9 @@ running-pair-requires c κs = c .before .before .before .pre
 returns-2 : tie.Need-returns-2
 unfolding reachedPairBy
 returns-2 c =
-    let h = c .before .before .before .before .before .args .host in
-    ap (reachedAt 0) (c .before .running-pair .ensures ∙ running-any h [] [] ∙ no _ _ _ (c .before .before .if1 .left) refl)
+    let else1 = c .before .before in let start = else1 .before .before .before in
+    let h = start .args .host in
+    ap (reachedAt 0) (c .before .running-pair .ensures ∙ running-any h [] [] ∙ no _ _ _ (else1 .if1 .left) refl)
 
 pub reach-spec : {M : Type 1} → statement M
 reach-spec =

@@ -26,33 +26,35 @@ areas-right-requires c κs =
 returns-2 : tie.Need-returns-2
 unfolding reachedBy areasRight diskRight
 returns-2 c =
-    no _ _ _ (ap not (sym (c .before .before .before .before .in-order .ensures)) ∙ c .before .before .before .if1 .left)
+    let else1 = c .before .before .before in let at-in-order = else1 .before in
+    no _ _ _ (ap not (sym (at-in-order .in-order .ensures)) ∙ else1 .if1 .left)
     (yes _ _ _ (ap not (sym (c .before .before .areas-right .ensures)) ∙ c .before .if2 .taken)
     (c .unreached2 .ensures))
 
 returns-3 : tie.Need-returns-3
 unfolding reachedBy areasRight diskRight
 returns-3 c =
-    no _ _ _ (ap not (sym (c .before .before .before .before .before .before .before .in-order .ensures))
-        ∙ c .before .before .before .before .before .before .if1 .left)
-    (no _ _ _ (ap not (sym (c .before .before .before .before .before .areas-right .ensures)) ∙ c .before .before .before .before .if2 .left)
-    (yes _ _ _ (c .before .if3 .taken)
+    let then3 = c .before in let else2 = then3 .before .before .before in let at-areas-right = else2 .before in let else1 = at-areas-right .before in
+    let at-in-order = else1 .before in
+    no _ _ _ (ap not (sym (at-in-order .in-order .ensures)) ∙ else1 .if1 .left)
+    (no _ _ _ (ap not (sym (at-areas-right .areas-right .ensures)) ∙ else2 .if2 .left)
+    (yes _ _ _ (then3 .if3 .taken)
     (c .unreached3 .ensures)))
 
 reach-requires : tie.Need-reach-requires
-reach-requires c κs = (sym (c .before .before .before .before .before .before .in-order .ensures)
-    ∙ not-false _ (c .before .before .before .before .before .if1 .left), not-false _ (c .if3 .left))
+reach-requires c κs =
+    let else2 = c .before .before .before in let else1 = else2 .before .before in let at-in-order = else1 .before in
+    (sym (at-in-order .in-order .ensures) ∙ not-false _ (else1 .if1 .left), not-false _ (c .if3 .left))
 
 returns-4 : tie.Need-returns-4
 unfolding reachedBy areasRight diskRight
 returns-4 c =
-    no _ _ _ (ap not (sym (c .before .before .before .before .before .before .before .in-order .ensures))
-        ∙ c .before .before .before .before .before .before .if1 .left)
-    (no _ _ _ (ap not (sym (c .before .before .before .before .before .areas-right .ensures)) ∙ c .before .before .before .before .if2 .left)
-    (no _ _ _ (c .before .if3 .left)
-    (c .reach .ensures ∙ ap (reachedAt 0) (reached-any (c .before .before .before .before .before .before .before .before .before .before .args .host)
-        (c .before .before .before .before .before .before .before .before .before .before .args .disk .now)
-        (c .before .before .before .before .before .before .before .before .before .before .args .stage .now)))))
+    let else3 = c .before in let else2 = else3 .before .before .before in let at-areas-right = else2 .before in let else1 = at-areas-right .before in
+    let at-in-order = else1 .before in let start = at-in-order .before .before .before in
+    no _ _ _ (ap not (sym (at-in-order .in-order .ensures)) ∙ else1 .if1 .left)
+    (no _ _ _ (ap not (sym (at-areas-right .areas-right .ensures)) ∙ else2 .if2 .left)
+    (no _ _ _ (else3 .if3 .left)
+    (c .reach .ensures ∙ ap (reachedAt 0) (reached-any (start .args .host) (start .args .disk .now) (start .args .stage .now)))))
 
 pub reached-spec : {M : Type 1} → statement M
 reached-spec =

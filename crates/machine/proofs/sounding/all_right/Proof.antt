@@ -34,29 +34,34 @@ loop-holds c =
 
 position-right-requires : tie.Need-position-right-requires Inv-loop μ-loop
 position-right-requires c κs =
-    let s = c .before .before .before .before .before .before in
-    one-beside _ _ _ (s .args .slots .now) (c .before .before .loop .i) (s .pre) (c .before .loop-test .taken) refl
+    let at-loop = c .before .before in let at-shared-slice-known = at-loop .before .before .before in let s = at-shared-slice-known .before in
+    one-beside _ _ _ (s .args .slots .now) (at-loop .loop .i) (s .pre) (c .before .loop-test .taken) refl
 
 returns : tie.Need-returns Inv-loop μ-loop
 returns c =
-    let l = c .before .before .before .before .loop in
-    let a = c .before .before .before .before .before .before .before .before .args in
+    let in-loop = c .before .before .before in let at-loop = in-loop .before in let at-shared-slice-known = at-loop .before .before .before in
+    let start = at-shared-slice-known .before in
+    let l = at-loop .loop in
+    let a = start .args in
     every-stops (one-right (a .z) (a .bytes .now) (a .roots .now)) (a .slots .now) (l .i) (length (a .slots .now)) 0 refl
-    (c .before .before .before .loop-test .taken) (omega arith) (sym (c .before .position-right .ensures) ∙ not-true _ (c .if1 .taken))
+    (in-loop .loop-test .taken) (omega arith) (sym (c .before .position-right .ensures) ∙ not-true _ (c .if1 .taken))
     ∙ sym (l .inv)
 
 loop-again : tie.Need-loop-again Inv-loop μ-loop
 loop-again c =
-    let l = c .before .before .before .before .loop in
-    let a = c .before .before .before .before .before .before .before .before .args in
+    let in-loop = c .before .before .before in let at-loop = in-loop .before in let at-shared-slice-known = at-loop .before .before .before in
+    let start = at-shared-slice-known .before in
+    let l = at-loop .loop in
+    let a = start .args in
     l .inv
     ∙ every-further (one-right (a .z) (a .bytes .now) (a .roots .now)) (a .slots .now) (l .i) (length (a .slots .now)) 0 refl
-    (c .before .before .before .loop-test .taken) (omega arith) (sym (c .before .position-right .ensures) ∙ not-false _ (c .if1 .left))
+    (in-loop .loop-test .taken) (omega arith) (sym (c .before .position-right .ensures) ∙ not-false _ (c .if1 .left))
 
 returns-2 : tie.Need-returns-2 Inv-loop μ-loop
 returns-2 c =
-    let l = c .before .loop in
-    let a = c .before .before .before .before .before .args in
+    let at-loop = c .before in let at-shared-slice-known = at-loop .before .before .before in let start = at-shared-slice-known .before in
+    let l = at-loop .loop in
+    let a = start .args in
     every-done (one-right (a .z) (a .bytes .now) (a .roots .now)) (a .slots .now) (l .i) (length (a .slots .now))
     (omega (arith, c .loop-test .left))
     ∙ sym (l .inv)

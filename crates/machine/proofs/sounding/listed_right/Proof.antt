@@ -13,11 +13,13 @@ array-share-prefix-items c =
 
 slice-aggregate-all-right : tie.Need-slice-aggregate-all-right
 slice-aggregate-all-right c =
-    let s = c .before .before .before .before in
+    let at-items = c .before in let s = at-items .before .before .before in
     sym (length-take-le _ _ (omega (arith, s .pre .0, listing (s .args .all) _ (s .good .1 .1 .1 .0))))
 
 all-right-requires : tie.Need-all-right-requires
-all-right-requires c κs = c .before .before .before .before .pre .1
+all-right-requires c κs =
+    let at-items = c .before in let start = at-items .before .before .before in
+    start .pre .1
 
 returns : tie.Need-returns
 returns c = c .all-right .ensures

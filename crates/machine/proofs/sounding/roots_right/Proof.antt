@@ -16,7 +16,9 @@ use Rattle.machine.proofs.sounding.roots_right.Tie as tie
 -- ---- the places
 
 abbrev at-start : tie.After-slots-taken → tie.Start
-at-start c = c .before .before .before .before .before
+at-start c =
+    let at-places = c .before .before in let start = at-places .before .before .before in
+    start
 
 abbrev at-taken : tie.After-listed-right → tie.After-slots-taken
 at-taken c = c .before .before
@@ -38,7 +40,7 @@ disk-told c =
 
 slots-taken-requires : tie.Need-slots-taken-requires
 slots-taken-requires c κs =
-    let s = c .before .before .before .before in
+    let at-places = c .before in let s = at-places .before .before .before in
     some _ (order-facts (s .args .host) (s .pre .0) .size)
 
 slice-aggregate-listed-right : tie.Need-slice-aggregate-listed-right
@@ -64,25 +66,30 @@ returns-2 c =
 
 slice-aggregate-all-right : tie.Need-slice-aggregate-all-right
 slice-aggregate-all-right c =
-    let s = at-start (at-taken (c .before .before .before .before .before .before .before .before)) in
+    let at-progress = c .before .before .before in let else2 = at-progress .before in let else1 = else2 .before .before .before in
+    let at-listed-right = else1 .before in
+    let s = at-start (at-taken (at-listed-right)) in
     sym (stage-rooted (s .args .host) _ (s .good .0))
 
 slice-aggregate-all-right-2 : tie.Need-slice-aggregate-all-right-2
 slice-aggregate-all-right-2 c =
-    let s = at-start (at-taken (c .before .before .before .before .before .before .before .before .before)) in
+    let at-staged = c .before .before .before in let else2 = at-staged .before .before in let else1 = else2 .before .before .before in
+    let at-listed-right = else1 .before in
+    let s = at-start (at-taken (at-listed-right)) in
     sym (hosted (s .args .host) _ (s .good .0))
 
 all-right-requires : tie.Need-all-right-requires
 all-right-requires c κs =
-    let at-if2 = c .before .before .before .before .before in
-    let s = at-start (at-taken (at-if2 .before .before .before .before)) in
+    let at-staged = c .before .before .before in let at-if2 = at-staged .before .before in let else1 = at-if2 .before .before .before in
+    let at-listed-right = else1 .before in
+    let s = at-start (at-taken (at-listed-right)) in
     let h = s .args .host in
     stage-beside h _ _ (s .pre .0) (s .pre .1) (stage-rooted h _ (s .good .0)) (not-false _ (at-if2 .if2 .left))
 
 returns-3 : tie.Need-returns-3
 unfolding rootsRight
 returns-3 c =
-    let at-if2 = c .before .before .before .before .before .before in
+    let at-stageroots = c .before .before .before in let at-if2 = at-stageroots .before .before .before in
     let at-if1 = at-if2 .before .before .before in
     yes _ _ _ (disk-told (at-if1 .before) ∙ not-false _ (at-if1 .if1 .left)) (no _ _ _ (at-if2 .if2 .left) (c .all-right .ensures))
 

@@ -17,7 +17,9 @@ in-order : (c : tie.Else1) → inOrder (c .before .before .before .before .args 
 in-order c = sym (c .before .in-order .ensures) ∙ not-false _ (c .if1 .left)
 
 abbrev at-start : tie.After-areas-right → tie.Start
-at-start c = c .before .before .before .before .before
+at-start c =
+    let else1 = c .before in let at-in-order = else1 .before in let start = at-in-order .before .before .before in
+    start
 
 areas : (c : tie.After-areas-right) → let a = at-start c .args in
     areasRight (a .host) (a .disk .now) (a .stage .now) ≡ c .areas-right .result

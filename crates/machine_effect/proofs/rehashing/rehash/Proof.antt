@@ -10,22 +10,22 @@ use Rattle.machine_effect.proofs.rehashing.rehash.Tie as tie
 
 rehash-one-requires : tie.Need-rehash-one-requires
 rehash-one-requires c κs =
-    let s = c .before .before .before .before .before in
+    let at-match-keys3 = c .before .before in let s = at-match-keys3 .before .before .before in
     (s .pre .whole, asked-write (s .pre) (c .before .enum-told3 .given .1))
 
 rehash-one-requires-2 : tie.Need-rehash-one-requires-2
 rehash-one-requires-2 c κs =
-    let s = c .before .before .before .before .before in
+    let at-match-keys4 = c .before .before in let s = at-match-keys4 .before .before .before in
     (s .pre .whole, asked-copy (s .pre) (c .before .enum-told4 .given .1))
 
 rehash-two-requires : tie.Need-rehash-two-requires
 rehash-two-requires c κs =
-    let s = c .before .before .before .before .before in
+    let at-match-keys5 = c .before .before in let s = at-match-keys5 .before .before .before in
     (s .pre .whole, asked-swap (s .pre) (c .before .enum-told5 .given .1))
 
 rehash-new-requires : tie.Need-rehash-new-requires
 rehash-new-requires c κs =
-    let s = c .before .before .before .before .before in
+    let at-match-keys6 = c .before .before in let s = at-match-keys6 .before .before .before in
     (s .pre .whole, asked-new (s .pre) (c .before .enum-told6 .given .1))
 
 returns : tie.Need-returns
@@ -38,22 +38,29 @@ returns-2 c = arm _ _ _ _ _ (c .enum-told2 .given .1) refl
 
 returns-3 : tie.Need-returns-3
 unfolding touched
-returns-3 c = arm _ _ _ _ _ (c .before .before .before .before .enum-told3 .given .1) (c .before .before .rehash-one .ensures)
+returns-3 c =
+    let at-rehash-one = c .before .before in let at-enum-told3 = at-rehash-one .before .before in
+    arm _ _ _ _ _ (at-enum-told3 .enum-told3 .given .1) (at-rehash-one .rehash-one .ensures)
 
 returns-4 : tie.Need-returns-4
 unfolding touched
-returns-4 c = arm _ _ _ _ _ (c .before .before .before .before .enum-told4 .given .1) (c .before .before .rehash-one2 .ensures)
+returns-4 c =
+    let at-rehash-one2 = c .before .before in let at-enum-told4 = at-rehash-one2 .before .before in
+    arm _ _ _ _ _ (at-enum-told4 .enum-told4 .given .1) (at-rehash-one2 .rehash-one2 .ensures)
 
 returns-5 : tie.Need-returns-5
 unfolding touched
-returns-5 c = arm _ _ _ _ _ (c .before .before .before .before .enum-told5 .given .1) (c .before .before .rehash-two .ensures)
+returns-5 c =
+    let at-rehash-two = c .before .before in let at-enum-told5 = at-rehash-two .before .before in
+    arm _ _ _ _ _ (at-enum-told5 .enum-told5 .given .1) (at-rehash-two .rehash-two .ensures)
 
 returns-6 : tie.Need-returns-6
 unfolding touched
 returns-6 c =
-    let told = c .before .before .before .before .enum-told6 .given .1 in
-    let s = c .before .before .before .before .before .before .before .before in
-    arm _ _ _ _ _ told (new-laid _ _ _ _ _ (s .pre .new told) (c .before .before .rehash-new .ensures))
+    let at-rehash-new = c .before .before in let at-enum-told6 = at-rehash-new .before .before in let at-match-keys6 = at-enum-told6 .before in
+    let s = at-match-keys6 .before .before .before in
+    let told = at-enum-told6 .enum-told6 .given .1 in
+    arm _ _ _ _ _ told (new-laid _ _ _ _ _ (s .pre .new told) (at-rehash-new .rehash-new .ensures))
 
 returns-7 : tie.Need-returns-7
 unfolding touched rehashed

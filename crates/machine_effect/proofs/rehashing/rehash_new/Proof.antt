@@ -33,10 +33,9 @@ copy-between-requires c κs =
 
 returns-2 : tie.Need-returns-2
 returns-2 c =
-    let at-zeros = c .before .before .before .before .before in
-    let at-slot = at-zeros .before in
+    let at-copy-between = c .before .before in let at-zeros = at-copy-between .before .before .before in let at-slot = at-zeros .before in
     yes _ _ _ (lt-ltb _ _ (at-slot .before .if1 .left))
-    (root-laid _ _ _ (at-slot .slot-of .ensures) (at-zeros .zeros-root .ensures) (c .before .before .copy-between .ensures))
+    (root-laid _ _ _ (at-slot .slot-of .ensures) (at-zeros .zeros-root .ensures) (at-copy-between .copy-between .ensures))
 
 pub rehash-new-spec : {M : Type 1} → statement M
 rehash-new-spec =

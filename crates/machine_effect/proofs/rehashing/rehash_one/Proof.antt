@@ -27,12 +27,11 @@ copy-between-requires c κs =
 
 returns : tie.Need-returns
 returns c =
-    let at-root = c .before .before .before .before .before .before in
-    let at-slot = at-root .before .before in
-    let s = at-slot .before .before .before in
+    let at-copy-between = c .before .before in let at-root2 = at-copy-between .before .before .before in let at-root = at-root2 .before in
+    let at-slot = at-root .before .before in let s = at-slot .before .before .before in
     let inside = slot-lies _ _ _ _ (at-slot .slot-of .ensures) (s .pre .1) in
     one-laid (s .args .z) _ (s .args .at) _ (at-slot .slot-of .ensures)
-    (slot-root (at-root .root .result) _ _ _ (s .pre .0) inside (at-root .root .ensures)) (c .before .before .copy-between .ensures)
+    (slot-root (at-root .root .result) _ _ _ (s .pre .0) inside (at-root .root .ensures)) (at-copy-between .copy-between .ensures)
 
 pub rehash-one-spec : {M : Type 1} → statement M
 rehash-one-spec =

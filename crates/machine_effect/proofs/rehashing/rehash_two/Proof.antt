@@ -9,8 +9,8 @@ returns c = two-one _ _ _ _ _ (c .if1 .taken) (c .before .before .before .rehash
 
 returns-2 : tie.Need-returns-2
 returns-2 c =
-    let test = c .before .before .before .before in
-    two-both _ _ _ _ _ (test .if1 .left) (test .before .before .before .rehash-one .ensures) (c .before .before .rehash-one2 .ensures)
+    let at-rehash-one2 = c .before .before in let test = at-rehash-one2 .before .before in
+    two-both _ _ _ _ _ (test .if1 .left) (test .before .before .before .rehash-one .ensures) (at-rehash-one2 .rehash-one2 .ensures)
 
 pub rehash-two-spec : {M : Type 1} → statement M
 rehash-two-spec =

@@ -20,12 +20,14 @@ fill-requires c κs =
 
 cast-after : tie.Need-cast-after
 cast-after c =
-    let s = c .before .before .before .before .before .before in
-    let new = new-slot _ _ _ _ (s .pre .0) (s .pre .1 .0) (c .before .before .before .before .free-copy .ensures) in
+    let at-fill = c .before .before in let at-free-copy = at-fill .before .before in let s = at-free-copy .before .before in
+    let new = new-slot _ _ _ _ (s .pre .0) (s .pre .1 .0) (at-free-copy .free-copy .ensures) in
     omega (arith, new .small)
 
 returns : tie.Need-returns
-returns c = laid-zeros _ _ _ _ (c .before .before .before .before .free-copy .ensures) (c .before .before .fill .ensures)
+returns c =
+    let at-fill = c .before .before in let at-free-copy = at-fill .before .before in
+    laid-zeros _ _ _ _ (at-free-copy .free-copy .ensures) (at-fill .fill .ensures)
 
 pub new-zeros-spec : {M : Type 1} → statement M
 new-zeros-spec =

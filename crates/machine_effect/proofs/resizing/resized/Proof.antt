@@ -15,7 +15,9 @@ new-zeros-requires c κs =
 
 returns : tie.Need-returns
 unfolding resized grown
-returns c = yes _ _ _ (lt-ltb _ _ (c .before .before .before .before .if1 .taken)) (c .before .before .new-zeros .ensures)
+returns c =
+    let at-new-zeros = c .before .before in let then1 = at-new-zeros .before .before in
+    yes _ _ _ (lt-ltb _ _ (then1 .if1 .taken)) (at-new-zeros .new-zeros .ensures)
 
 array-write-after : tie.Need-array-write-after
 array-write-after c = c .before .before .before .pre .1 .less (c .if2 .taken)

@@ -19,43 +19,43 @@ enum-told c = search needs
 read-args-requires : tie.Need-read-args-requires
 unfolding operandsOf
 read-args-requires c κs =
-    let s = c .before .before .before .before in
+    let at-match-keys1 = c .before in let s = at-match-keys1 .before .before .before in
     within-count _ (s .args .i) 3 (count-right (s .args .i) _ (s .pre .0) (s .pre .1 .0) ∙ ap operandsOf (c .enum-told .given .1)) (s .pre .1 .1)
 
 read-args-requires-2 : tie.Need-read-args-requires-2
 unfolding operandsOf
 read-args-requires-2 c κs =
-    let s = c .before .before .before .before in
+    let at-match-keys2 = c .before in let s = at-match-keys2 .before .before .before in
     within-count _ (s .args .i) 3 (count-right (s .args .i) _ (s .pre .0) (s .pre .1 .0) ∙ ap operandsOf (c .enum-told2 .given .1)) (s .pre .1 .1)
 
 write-args-requires : tie.Need-write-args-requires
 unfolding operandsOf
 write-args-requires c κs =
-    let s = c .before .before .before .before in
+    let at-match-keys3 = c .before in let s = at-match-keys3 .before .before .before in
     within-count _ (s .args .i) 2 (count-right (s .args .i) _ (s .pre .0) (s .pre .1 .0) ∙ ap operandsOf (c .enum-told3 .given .1)) (s .pre .1 .1)
 
 span-args-requires : tie.Need-span-args-requires
 unfolding operandsOf
 span-args-requires c κs =
-    let s = c .before .before .before .before in
+    let at-match-keys4 = c .before in let s = at-match-keys4 .before .before .before in
     within-count _ (s .args .i) 3 (count-right (s .args .i) _ (s .pre .0) (s .pre .1 .0) ∙ ap operandsOf (c .enum-told4 .given .1)) (s .pre .1 .1)
 
 span-args-requires-2 : tie.Need-span-args-requires-2
 unfolding operandsOf
 span-args-requires-2 c κs =
-    let s = c .before .before .before .before in
+    let at-match-keys5 = c .before in let s = at-match-keys5 .before .before .before in
     within-count _ (s .args .i) 3 (count-right (s .args .i) _ (s .pre .0) (s .pre .1 .0) ∙ ap operandsOf (c .enum-told5 .given .1)) (s .pre .1 .1)
 
 size-args-requires : tie.Need-size-args-requires
 unfolding operandsOf
 size-args-requires c κs =
-    let s = c .before .before .before .before in
+    let at-match-keys6 = c .before in let s = at-match-keys6 .before .before .before in
     within-count _ (s .args .i) 1 (count-right (s .args .i) _ (s .pre .0) (s .pre .1 .0) ∙ ap operandsOf (c .enum-told6 .given .1)) (s .pre .1 .1)
 
 returns : tie.Need-returns
 unfolding operandsOf fromOf
 returns c =
-    let s = c .before .before .before .before .before in
+    let at-match-keys1 = c .before .before in let s = at-match-keys1 .before .before .before in
     let long = known-instruction (s .args .i) _ (s .good .1 .0) .1 in
     let right = count-right (s .args .i) _ (s .pre .0) (s .pre .1 .0) ∙ ap operandsOf (c .before .enum-told .given .1) in
     c .read-args .ensures ∙ ap (λ (l : List (List ℕ)). given Read l 0) (inputs-three (s .args .input .now) (s .args .i) long right)
@@ -64,7 +64,7 @@ returns c =
 returns-2 : tie.Need-returns-2
 unfolding operandsOf fromOf
 returns-2 c =
-    let s = c .before .before .before .before .before in
+    let at-match-keys2 = c .before .before in let s = at-match-keys2 .before .before .before in
     let long = known-instruction (s .args .i) _ (s .good .1 .0) .1 in
     let right = count-right (s .args .i) _ (s .pre .0) (s .pre .1 .0) ∙ ap operandsOf (c .before .enum-told2 .given .1) in
     c .read-args2 .ensures ∙ reads-alike _ ∙ ap (λ (l : List (List ℕ)). given ReadSector l 0) (inputs-three (s .args .input .now) (s .args .i) long right)
@@ -73,7 +73,7 @@ returns-2 c =
 returns-3 : tie.Need-returns-3
 unfolding operandsOf fromOf
 returns-3 c =
-    let s = c .before .before .before .before .before in
+    let at-match-keys3 = c .before .before in let s = at-match-keys3 .before .before .before in
     let long = known-instruction (s .args .i) _ (s .good .1 .0) .1 in
     let right = count-right (s .args .i) _ (s .pre .0) (s .pre .1 .0) ∙ ap operandsOf (c .before .enum-told3 .given .1) in
     c .write-args .ensures ∙ ap (λ (l : List (List ℕ)). given Write l (dataFrom (s .args .i .operands)))
@@ -83,7 +83,7 @@ returns-3 c =
 returns-4 : tie.Need-returns-4
 unfolding operandsOf fromOf
 returns-4 c =
-    let s = c .before .before .before .before .before in
+    let at-match-keys4 = c .before .before in let s = at-match-keys4 .before .before .before in
     let long = known-instruction (s .args .i) _ (s .good .1 .0) .1 in
     let right = count-right (s .args .i) _ (s .pre .0) (s .pre .1 .0) ∙ ap operandsOf (c .before .enum-told4 .given .1) in
     c .span-args .ensures ∙ ap (λ (l : List (List ℕ)). given Copy l 0) (inputs-three (s .args .input .now) (s .args .i) long right)
@@ -92,7 +92,7 @@ returns-4 c =
 returns-5 : tie.Need-returns-5
 unfolding operandsOf fromOf
 returns-5 c =
-    let s = c .before .before .before .before .before in
+    let at-match-keys5 = c .before .before in let s = at-match-keys5 .before .before .before in
     let long = known-instruction (s .args .i) _ (s .good .1 .0) .1 in
     let right = count-right (s .args .i) _ (s .pre .0) (s .pre .1 .0) ∙ ap operandsOf (c .before .enum-told5 .given .1) in
     c .span-args2 .ensures ∙ swaps-alike _ ∙ ap (λ (l : List (List ℕ)). given Swap l 0) (inputs-three (s .args .input .now) (s .args .i) long right)
@@ -101,7 +101,7 @@ returns-5 c =
 returns-6 : tie.Need-returns-6
 unfolding operandsOf fromOf
 returns-6 c =
-    let s = c .before .before .before .before .before in
+    let at-match-keys6 = c .before .before in let s = at-match-keys6 .before .before .before in
     let long = known-instruction (s .args .i) _ (s .good .1 .0) .1 in
     let right = count-right (s .args .i) _ (s .pre .0) (s .pre .1 .0) ∙ ap operandsOf (c .before .enum-told6 .given .1) in
     c .size-args .ensures ∙ ap (λ (l : List (List ℕ)). given Truncate l 0) (inputs-one (s .args .input .now) (s .args .i) long right)
@@ -110,7 +110,7 @@ returns-6 c =
 returns-7 : tie.Need-returns-7
 unfolding known
 returns-7 c =
-    let s = c .before .before .before .before .before in
+    let at-match-keys7 = c .before .before in let s = at-match-keys7 .before .before .before in
     never (sym (name-known (s .args .i) _ (s .pre .0) (s .pre .1 .0)) ∙ ap known (c .before .enum-told7 .given .1))
 
 pub decoded-spec : {M : Type 1} → statement M

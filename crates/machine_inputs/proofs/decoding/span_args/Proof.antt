@@ -13,7 +13,7 @@ use Rattle.machine_inputs.proofs.decoding.span_args.Tie as tie
 
 number-at-requires : tie.Need-number-at-requires
 number-at-requires c κs =
-    let s = c .before .before .before .before in
+    let at-one = c .before .before in let s = at-one .before .before in
     ends-within _ (s .args .t2) 3 0 (s .good .1 .0 .1 .0 .1) (s .pre) (omega arith) (omega arith)
 
 enum-told : tie.Need-enum-told
@@ -22,48 +22,46 @@ enum-told c = search needs
 returns : tie.Need-returns
 unfolding wellFormed three
 returns c =
-    let at-number-at = c .before .before .before in
-    let s = at-number-at .before .before .before .before .before in
+    let at-number-at = c .before .before .before in let at-one = at-number-at .before .before .before in let s = at-one .before .before in
     c .malformed .ensures ∙ refused Copy (three (s .args .input .now) (s .args .t2)) 0
     (both-not-left _ _ (number-refused (inputAt (s .args .input .now) (s .args .t2) 0)
     (sym (at-number-at .number-at .ensures) ∙ ap numberGiven (c .before .enum-told .given .1))))
 
 number-at-requires-2 : tie.Need-number-at-requires-2
 number-at-requires-2 c κs =
-    let s = c .before .before .before .before .before .before .before .before in
+    let at-match-keys1 = c .before .before in let at-two = at-match-keys1 .before .before .before in let s = at-two .before .before .before in
     ends-within _ (s .args .t2) 3 1 (s .good .1 .0 .1 .0 .1) (s .pre) (omega arith) (omega arith)
 
 returns-2 : tie.Need-returns-2
 unfolding wellFormed three
 returns-2 c =
-    let at-number-at2 = c .before .before .before in
-    let s = at-number-at2 .before .before .before .before .before .before .before .before .before in
+    let at-number-at2 = c .before .before .before in let at-match-keys1 = at-number-at2 .before .before .before in
+    let at-two = at-match-keys1 .before .before .before in let s = at-two .before .before .before in
     c .malformed2 .ensures ∙ refused Copy (three (s .args .input .now) (s .args .t2)) 0
     (both-not-right _ _ (both-not-left _ _ (number-refused (inputAt (s .args .input .now) (s .args .t2) 1)
     (sym (at-number-at2 .number-at2 .ensures) ∙ ap numberGiven (c .before .enum-told2 .given .1)))))
 
 number-at-requires-3 : tie.Need-number-at-requires-3
 number-at-requires-3 c κs =
-    let s = c .before .before .before .before .before .before .before .before .before .before .before .before in
+    let at-match2-keys1 = c .before .before in let at-first-2 = at-match2-keys1 .before .before .before in let at-match-keys1 = at-first-2 .before in
+    let at-two = at-match-keys1 .before .before .before in let s = at-two .before .before .before in
     ends-within _ (s .args .t2) 3 2 (s .good .1 .0 .1 .0 .1) (s .pre) (omega arith) (omega arith)
 
 returns-3 : tie.Need-returns-3
 unfolding wellFormed three
 returns-3 c =
-    let at-number-at3 = c .before .before .before in
-    let s = at-number-at3 .before .before .before .before .before .before .before .before .before .before .before .before .before in
+    let at-number-at3 = c .before .before .before in let at-match2-keys1 = at-number-at3 .before .before .before in
+    let at-first-2 = at-match2-keys1 .before .before .before in let at-match-keys1 = at-first-2 .before in
+    let at-two = at-match-keys1 .before .before .before in let s = at-two .before .before .before in
     c .malformed3 .ensures ∙ refused Copy (three (s .args .input .now) (s .args .t2)) 0
     (both-not-right _ _ (both-not-right _ _ (number-refused (inputAt (s .args .input .now) (s .args .t2) 2)
     (sym (at-number-at3 .number-at3 .ensures) ∙ ap numberGiven (c .before .enum-told3 .given .1)))))
 
 returns-4 : tie.Need-returns-4
 returns-4 c =
-    let at-number-at3 = c .before .before .before in
-    let at-second = at-number-at3 .before .before in
-    let at-number-at2 = at-second .before .before in
-    let at-first = at-number-at2 .before .before in
-    let at-number-at = at-first .before .before in
-    let s = at-number-at .before .before .before .before .before in
+    let at-number-at3 = c .before .before .before in let at-second = at-number-at3 .before .before in let at-number-at2 = at-second .before .before in
+    let at-first = at-number-at2 .before .before in let at-number-at = at-first .before .before in
+    let at-one = at-number-at .before .before .before in let s = at-one .before .before in
     span-accepted (s .args .input .now) (s .args .t2) _ _ _ (sym (at-number-at .number-at .ensures) ∙ ap numberGiven (at-first .first .given .1))
     (sym (at-number-at2 .number-at2 .ensures) ∙ ap numberGiven (at-second .second .given .1))
     (sym (at-number-at3 .number-at3 .ensures) ∙ ap numberGiven (c .before .len .given .1))

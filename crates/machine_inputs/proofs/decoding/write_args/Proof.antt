@@ -25,31 +25,29 @@ enum-told c = search needs
 returns : tie.Need-returns
 unfolding wellFormed two
 returns c =
-    let at-number-at = c .before .before .before in
-    let s = at-number-at .before .before .before .before in
+    let at-number-at = c .before .before .before in let at-one = at-number-at .before .before in let s = at-one .before .before in
     c .malformed .ensures ∙ refused Write (two (s .args .input .now) (s .args .t2)) _
     (both-not-left _ _ (number-refused (inputAt (s .args .input .now) (s .args .t2) 0)
     (sym (at-number-at .number-at .ensures) ∙ ap numberGiven (c .before .enum-told .given .1))))
 
 data-at-requires : tie.Need-data-at-requires
 data-at-requires c κs =
-    let s = c .before .before .before .before .before .before .before in
+    let at-match-keys1 = c .before .before in let at-one = at-match-keys1 .before .before .before in let s = at-one .before .before in
     ends-within _ (s .args .t2) 2 1 (s .good .1 .0 .1 .0 .1) (s .pre) (omega arith) (omega arith)
 
 returns-2 : tie.Need-returns-2
 unfolding wellFormed two
 returns-2 c =
-    let at-data-at = c .before .before .before in
-    let s = at-data-at .before .before .before .before .before .before .before .before in
+    let at-data-at = c .before .before .before in let at-match-keys1 = at-data-at .before .before .before in
+    let at-one = at-match-keys1 .before .before .before in let s = at-one .before .before in
     c .malformed2 .ensures ∙ refused Write (two (s .args .input .now) (s .args .t2)) _
     (both-not-right _ _ (data-refused (inputAt (s .args .input .now) (s .args .t2) 1)
     (sym (at-data-at .data-at .ensures) ∙ ap numberGiven (c .before .enum-told2 .given .1))))
 
 add-from : tie.Need-add-from
 add-from c =
-    let at-len = c .before .before in
-    let at-data-at = at-len .before .before in
-    let s = at-data-at .before .before .before .before .before .before .before .before in
+    let at-len = c .before .before in let at-data-at = at-len .before .before in let at-match-keys1 = at-data-at .before .before .before in
+    let at-one = at-match-keys1 .before .before .before in let s = at-one .before .before in
     let o = getD (s .args .t2) 1 noOperand in
     let within = ends-within _ (s .args .t2) 2 1 (s .good .1 .0 .1 .0 .1) (s .pre) (omega arith) (omega arith) in
     let long = length-part (s .args .input .now) (o .offset) (o .len) within in
@@ -64,11 +62,8 @@ add-from c =
 
 returns-3 : tie.Need-returns-3
 returns-3 c =
-    let at-len = c .before .before in
-    let at-data-at = at-len .before .before in
-    let at-first = at-data-at .before .before in
-    let at-number-at = at-first .before .before in
-    let s = at-number-at .before .before .before .before in
+    let at-len = c .before .before in let at-data-at = at-len .before .before in let at-first = at-data-at .before .before in
+    let at-number-at = at-first .before .before in let at-one = at-number-at .before .before in let s = at-one .before .before in
     write-accepted (s .args .input .now) (s .args .t2) _ _ (sym (at-number-at .number-at .ensures) ∙ ap numberGiven (at-first .first .given .1))
     (sym (at-data-at .data-at .ensures) ∙ ap numberGiven (at-len .len .given .1))
 

@@ -39,7 +39,9 @@ the-source s = sourceOf (s .args .z) (the-set s) (the-roots s) (s .args .p) (s .
 
 -- 24
 abbrev start-1 : tie.After-changes-nothing → tie.Start
-start-1 c = c .before .before .before .before .before
+start-1 c =
+    let at-head = c .before .before in let start = at-head .before .before .before in
+    start
 
 mode : (c : tie.After-changes-nothing) → both (changes (start-1 c .args .op)) (readOnlyMode (start-1 c .args .terms)) ≡ c .changes-nothing .result
 unfolding readOnlyMode
@@ -62,13 +64,15 @@ there c = ap not (sym (shown (c .before .before) .there) ∙ not-false _ (c .if2
 
 -- 26 to 42
 abbrev start-3 : tie.After-weighed → tie.Start
-start-3 c = start-2 (c .before .before .before .before)
+start-3 c =
+    let else2 = c .before .before in let at-source-of-2 = else2 .before .before in
+    start-2 (at-source-of-2)
 
 valued : (c : tie.After-weighed) → let s = start-3 c in
     c .weighed .result ≡ weighed (s .args .z) (the-set s) (s .args .p) (s .args .asked) (the-source s) (s .args .op) (numbers (s .args .args))
 valued c =
+    let else2 = c .before .before in let at-source-of = else2 .before .before in
     let s = start-3 c in
-    let at-source-of = c .before .before .before .before in
     let seen = at-source-of .source-of .result .seen in
     let many : length (spots (the-source s)) ≡ seen .count = sym (ap (λ (l : List Spot). length l) (shown at-source-of .sectors)) ∙ seen-count seen in
     c .weighed .ensures ∙ weighed-at (s .args .z) (the-source s) (the-set s) (s .args .p) (s .args .asked) (s .args .op) (s .args .args) (seen .count) many
@@ -81,7 +85,7 @@ returns c = yes _ _ _ (mode (c .before .before) ∙ c .before .if1 .taken) (c .f
 
 source-of-requires : tie.Need-source-of-requires
 source-of-requires c κs =
-    let s = c .before .before .before .before .before .before .before in
+    let else1 = c .before in let at-head = else1 .before .before .before in let s = at-head .before .before .before in
     s .pre .0 .sources
 
 returns-2 : tie.Need-returns-2
@@ -110,10 +114,10 @@ weighed-requires c κs =
 returns-3 : tie.Need-returns-3
 unfolding argued
 returns-3 c =
-    let at-weighed = c .before .before .before in
-    let at-if2 = at-weighed .before .before in
+    let at-weighed = c .before .before .before in let at-if2 = at-weighed .before .before in let at-key = at-if2 .before .before .before in
+    let else1 = at-key .before in
     let e = valued at-weighed in
-    no _ _ _ (may (at-if2 .before .before .before .before))
+    no _ _ _ (may (else1))
     (no _ _ _ (there at-if2)
     (no _ _ _ (ne-eqb _ _ (λ q. c .before .if3 .taken (ap (λ (w : Weighed). w .number) e ∙ q)))
     (c .failed3 .ensures ∙ ap (λ (w : Weighed). failed (start-3 at-weighed .args .op) (w .number)) e)))

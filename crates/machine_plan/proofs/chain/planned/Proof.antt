@@ -35,11 +35,16 @@ the-inputs s = inputsOf (s .args .i) (s .args .input .now)
 
 -- what the decoder told
 abbrev start-1 : tie.After-decoded → tie.Start
-start-1 c = c .before .before .before .before .before .before .before .before .before .before .before
+start-1 c =
+    let else2 = c .before in let else1 = else2 .before .before .before in let at-name = else1 .before .before .before in
+    let at-shared-slice-known = at-name .before .before .before in let start = at-shared-slice-known .before in
+    start
 
 heard : (c : tie.After-decoded) → c .decoded .result ≡ given (the-op (start-1 c)) (the-inputs (start-1 c)) (fromOf (the-op (start-1 c)) (start-1 c .args .i))
-heard c = c .decoded .ensures ∙ ap (λ (o : Op). given o (the-inputs (start-1 c)) (fromOf o (start-1 c .args .i)))
-    (c .before .before .before .before .before .before .op-of .ensures)
+heard c =
+    let else2 = c .before in let else1 = else2 .before .before .before in let at-op-of-2 = else1 .before .before in
+    c .decoded .ensures ∙ ap (λ (o : Op). given o (the-inputs (start-1 c)) (fromOf o (start-1 c .args .i)))
+    (at-op-of-2 .op-of .ensures)
 
 well-told : (c : tie.After-decoded) → c .decoded .result .told ≡ wellFormed (the-op (start-1 c)) (the-inputs (start-1 c))
 well-told c = told-is _ _ _ _ (heard c)
@@ -47,7 +52,10 @@ well-told c = told-is _ _ _ _ (heard c)
 -- ---- the checks that did not apply
 
 abbrev start-2 : tie.Else1 → tie.Start
-start-2 c = c .before .before .before .before .before .before .before
+start-2 c =
+    let at-name = c .before .before .before in let at-shared-slice-known = at-name .before .before .before in
+    let start = at-shared-slice-known .before in
+    start
 
 formed : (c : tie.Else1) → illFormed (start-2 c .args .i) ≡ false
 formed c = sym (c .before .ill-formed .ensures) ∙ c .if1 .left
@@ -72,9 +80,8 @@ heard-args c = args-are _ _ _ _ (heard (c .before .before)) (told c)
 
 returns : tie.Need-returns
 returns c =
-    let at-ill-formed = c .before .before in
-    let at-op-of = at-ill-formed .before in
-    let s = at-op-of .before .before .before .before .before in
+    let at-ill-formed = c .before .before in let at-op-of = at-ill-formed .before in let at-name = at-op-of .before in
+    let at-shared-slice-known = at-name .before .before .before in let s = at-shared-slice-known .before in
     c .failed .ensures ∙ ap (λ (o : Op). failed o _) (at-op-of .op-of .ensures)
     ∙ fails-21 (s .args .z) (the-set s) (the-roots s) (s .args .p) (s .args .i) (s .args .input .now)
         (sym (at-ill-formed .ill-formed .ensures) ∙ c .before .if1 .taken)

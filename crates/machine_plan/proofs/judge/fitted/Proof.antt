@@ -32,7 +32,9 @@ slots c = sym (c .too-few .ensures)
 
 -- 41
 abbrev start-2 : tie.After-sizes-fit → tie.Start
-start-2 c = start-1 (c .before .before .before .before .before)
+start-2 c =
+    let at-head = c .before .before .before in let at-too-few = at-head .before .before in
+    start-1 (at-too-few)
 
 disk : (c : tie.After-sizes-fit) → let a = start-2 c .args in
     ltb (a .sectors * a .z) (newSize (a .p .size) (a .op) (numbers (a .args)) + others (a .terms .head .contract) (a .places)) ≡ not (c .sizes-fit .result)
@@ -44,7 +46,9 @@ disk c =
 
 -- 42
 abbrev start-3 : tie.After-record-above → tie.Start
-start-3 c = start-2 (c .before .before .before .before)
+start-3 c =
+    let else2 = c .before .before .before in let at-sizes-fit-2 = else2 .before in
+    start-2 (at-sizes-fit-2)
 
 room : (c : tie.After-record-above) → let a = start-3 c .args in
     ltb (a .terms .room) (a .p .written + recordCount (a .z) (a .asked) (sectorsOf (a .seen)) (a .op) (numbers (a .args)) + 72) ≡ c .record-above .result
@@ -73,24 +77,22 @@ returns c = yes _ _ _ (slots (c .before .before) ∙ c .before .if1 .taken) (c .
 
 mul-sizes-fit : tie.Need-mul-sizes-fit
 mul-sizes-fit c =
-    let s = start-1 (c .before .before .before .before) in
+    let else1 = c .before .before .before in let at-too-few = else1 .before in
+    let s = start-1 (at-too-few) in
     omega (arith, mul-le-mul (s .pre .1 .0) (s .pre .0 .most))
 
 returns-2 : tie.Need-returns-2
 unfolding fitted
 returns-2 c =
-    let at-sizes-fit = c .before .before in
-    let at-if1 = at-sizes-fit .before .before .before .before in
+    let at-sizes-fit = c .before .before in let at-head = at-sizes-fit .before .before .before in let at-if1 = at-head .before in
     no _ _ _ (slots (at-if1 .before) ∙ at-if1 .if1 .left)
     (yes _ _ _ (disk at-sizes-fit ∙ c .before .if2 .taken) (c .refused2 .ensures))
 
 returns-3 : tie.Need-returns-3
 unfolding fitted
 returns-3 c =
-    let at-record-above = c .before .before in
-    let at-if2 = at-record-above .before .before .before in
-    let at-sizes-fit = at-if2 .before in
-    let at-if1 = at-sizes-fit .before .before .before .before in
+    let at-record-above = c .before .before in let at-if2 = at-record-above .before .before .before in let at-sizes-fit = at-if2 .before in
+    let at-head = at-sizes-fit .before .before .before in let at-if1 = at-head .before in
     no _ _ _ (slots (at-if1 .before) ∙ at-if1 .if1 .left)
     (no _ _ _ (disk at-sizes-fit ∙ at-if2 .if2 .left) (yes _ _ _ (room at-record-above ∙ c .before .if3 .taken) (c .refused3 .ensures)))
 
@@ -106,11 +108,8 @@ add-count-2 c = omega (arith, short (c .before) (c .if3 .left))
 returns-4 : tie.Need-returns-4
 unfolding fitted recordCount
 returns-4 c =
-    let at-output-count = c .before .before in
-    let at-proof-count = at-output-count .before in
-    let at-if2 = at-proof-count .before in
-    let at-sizes-fit = at-if2 .before in
-    let at-if1 = at-sizes-fit .before .before .before .before in
+    let at-output-count = c .before .before in let at-proof-count = at-output-count .before in let at-if2 = at-proof-count .before in
+    let at-sizes-fit = at-if2 .before in let at-head = at-sizes-fit .before .before .before in let at-if1 = at-head .before in
     no _ _ _ (slots (at-if1 .before) ∙ at-if1 .if1 .left)
     (no _ _ _ (disk at-sizes-fit ∙ at-if2 .if2 .left)
     (no _ _ _ (room (c .before) ∙ c .if3 .left)

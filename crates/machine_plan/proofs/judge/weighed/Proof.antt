@@ -24,7 +24,9 @@ asked-well c = sym (c .before .asked-badly .ensures) ∙ c .if2 .left
 
 -- 28
 abbrev start-1 : tie.After-above → tie.Start
-start-1 c = c .before .before .before .before .before .before .before .before
+start-1 c =
+    let at-head = c .before .before .before in let else1 = at-head .before .before .before in let start = else1 .before .before in
+    start
 
 budget : (c : tie.After-above) → let a = start-1 c .args in
     ltb (a .terms .budget) (a .p .tally + cost (a .terms .head .length) (a .terms .prices) (a .op) (a .args .len)) ≡ c .above .result
@@ -46,31 +48,28 @@ returns-2 c =
 cost-requires : tie.Need-cost-requires
 unfolding numbers
 cost-requires c κs =
-    let at-if1 = c .before .before .before .before in
-    let s = at-if1 .before .before in
+    let else2 = c .before .before in let at-if1 = else2 .before .before in let s = at-if1 .before .before in
     (s .pre .1 .1 .1 .0, charged _ (s .pre .0) _ (sectorsOf (s .args .seen)) (s .args .op) (numbers (s .args .args)) (right-spans at-if1))
 
 returns-3 : tie.Need-returns-3
 unfolding numbers
 returns-3 c =
-    let at-above = c .before .before in
-    let at-if2 = at-above .before .before .before .before in
+    let at-above = c .before .before in let at-head = at-above .before .before .before in let at-if2 = at-head .before in
     c .refused3 .ensures
     ∙ fails-28 _ _ _ _ _ _ _ (right-spans (at-if2 .before .before)) (asked-well at-if2) (budget at-above ∙ c .before .if3 .taken)
 
 fitted-requires : tie.Need-fitted-requires
 fitted-requires c κs =
-    let at-if2 = c .before .before .before .before .before in
-    let s = at-if2 .before .before .before .before in
+    let at-prices = c .before .before .before in let at-if2 = at-prices .before .before in let else1 = at-if2 .before .before in
+    let s = else1 .before .before in
     let a = s .args in
-    let ranged = provable (a .z) (s .pre .0) (a .p .size) (a .seen) (a .op) (a .args) (a .asked) (right-spans (at-if2 .before .before)) (asked-well at-if2) in
+    let ranged = provable (a .z) (s .pre .0) (a .p .size) (a .seen) (a .op) (a .args) (a .asked) (right-spans (else1)) (asked-well at-if2) in
     (s .pre .0, (s .pre .1 .0, (s .pre .1 .1 .0, (s .pre .1 .1 .1 .1, ranged))))
 
 returns-4 : tie.Need-returns-4
 unfolding numbers
 returns-4 c =
-    let at-above = c .before .before in
-    let at-if2 = at-above .before .before .before .before in
+    let at-above = c .before .before in let at-head = at-above .before .before .before in let at-if2 = at-head .before in
     c .fitted .ensures
     ∙ rest _ _ _ _ _ _ _ (right-spans (at-if2 .before .before)) (asked-well at-if2) _ (at-above .before .cost .ensures)
     (sym (at-above .above .ensures) ∙ c .before .if3 .left)

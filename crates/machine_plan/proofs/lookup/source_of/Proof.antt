@@ -31,43 +31,43 @@ sector-source-requires c κs = let at-match = c .before .before in at-match .bef
 returns : tie.Need-returns
 unfolding sourceOf contractSource parentSpots parent
 returns c =
-    let s = c .before .before .before .before .before in
+    let at-match-keys1 = c .before .before in let s = at-match-keys1 .before .before .before in
     shows-as _ _ _ (sym (ap (source-at s) (c .before .enum-told .given .1))) (c .contract-source .ensures)
 
 returns-2 : tie.Need-returns-2
 unfolding sourceOf
 returns-2 c =
-    let s = c .before .before .before .before .before in
+    let at-match-keys2 = c .before .before in let s = at-match-keys2 .before .before .before in
     shows-as _ _ _ (sym (ap (source-at s) (c .before .enum-told2 .given .1))) (c .sector-source .ensures)
 
 returns-3 : tie.Need-returns-3
 unfolding sourceOf
 returns-3 c =
-    let s = c .before .before .before .before .before in
+    let at-match-keys3 = c .before .before in let s = at-match-keys3 .before .before .before in
     shows-as _ _ _ (sym (ap (source-at s) (c .before .enum-told3 .given .1))) (c .nothing .ensures)
 
 returns-4 : tie.Need-returns-4
 unfolding sourceOf
 returns-4 c =
-    let s = c .before .before .before .before .before in
+    let at-match-keys4 = c .before .before in let s = at-match-keys4 .before .before .before in
     shows-as _ _ _ (sym (ap (source-at s) (c .before .enum-told4 .given .1))) (c .nothing2 .ensures)
 
 returns-5 : tie.Need-returns-5
 unfolding sourceOf
 returns-5 c =
-    let s = c .before .before .before .before .before in
+    let at-match-keys5 = c .before .before in let s = at-match-keys5 .before .before .before in
     shows-as _ _ _ (sym (ap (source-at s) (c .before .enum-told5 .given .1))) (c .nothing3 .ensures)
 
 returns-6 : tie.Need-returns-6
 unfolding sourceOf
 returns-6 c =
-    let s = c .before .before .before .before .before in
+    let at-match-keys6 = c .before .before in let s = at-match-keys6 .before .before .before in
     shows-as _ _ _ (sym (ap (source-at s) (c .before .enum-told6 .given .1))) (c .nothing4 .ensures)
 
 returns-7 : tie.Need-returns-7
 unfolding sourceOf
 returns-7 c =
-    let s = c .before .before .before .before .before in
+    let at-match-keys7 = c .before .before in let s = at-match-keys7 .before .before .before in
     shows-as _ _ _ (sym (ap (source-at s) (c .before .enum-told7 .given .1))) (c .nothing5 .ensures)
 
 pub source-of-spec : {M : Type 1} → statement M

@@ -47,13 +47,13 @@ returns-4 c =
 returns-5 : tie.Need-returns-5
 unfolding wanted touched numbers
 returns-5 c =
-    let s = c .before .before .before .before in
+    let at-match-keys5 = c .before .before in let s = at-match-keys5 .before .before in
     c .wanted-swap .ensures ∙ sym (ap (λ (o : Op). wanted (s .args .z) (s .args .p) o (numbers (s .args .args))) (c .before .enum-told5 .given .1))
 
 returns-6 : tie.Need-returns-6
 unfolding wanted touched numbers
 returns-6 c =
-    let s = c .before .before .before .before in
+    let at-match-keys6 = c .before .before in let s = at-match-keys6 .before .before in
     c .wanted-size .ensures ∙ sym (ap (λ (o : Op). wanted (s .args .z) (s .args .p) o (numbers (s .args .args))) (c .before .enum-told6 .given .1))
 
 returns-7 : tie.Need-returns-7

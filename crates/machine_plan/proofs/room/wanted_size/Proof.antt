@@ -18,15 +18,14 @@ use Rattle.machine_plan.proofs.room.wanted_size.Tie as tie
 returns : tie.Need-returns
 unfolding wanted touched numbers
 returns c =
-    let at-if1 = c .before .before in
-    let s = at-if1 .before .before .before .before in
+    let at-if1 = c .before .before in let at-staged = at-if1 .before .before .before in let s = at-staged .before in
     c .lacks .ensures .0 ∙ one-those (λ at. eqb (getD (s .args .p .staged) at none) none) _
     ∙ ap (λ (l : List ℕ). length (those (λ at. eqb (getD (s .args .p .staged) at none) none) l)) (yes _ _ _ (lt-ltb _ _ (at-if1 .if1 .taken)) refl)
 
 returns-2 : tie.Need-returns-2
 unfolding wanted touched numbers
 returns-2 c =
-    let s = c .before .before .before .before in
+    let at-staged = c .before .before .before in let s = at-staged .before in
     none-those (λ at. eqb (getD (s .args .p .staged) at none) none)
     ∙ ap (λ (l : List ℕ). length (those (λ at. eqb (getD (s .args .p .staged) at none) none) l)) (no _ _ _ (le-ltb _ _ (c .if1 .left)) refl)
 

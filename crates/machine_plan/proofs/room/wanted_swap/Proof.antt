@@ -19,9 +19,9 @@ use Rattle.machine_plan.proofs.room.wanted_swap.Tie as tie
 returns : tie.Need-returns
 unfolding wanted touched numbers
 returns c =
-    let s = c .before .before .before .before .before in
+    let then1 = c .before in let at-staged = then1 .before .before .before in let s = at-staged .before in
     c .lacks .ensures .0 ∙ one-those (λ at. eqb (getD (s .args .p .staged) at none) none) _
-    ∙ ap (λ (l : List ℕ). length (those (λ at. eqb (getD (s .args .p .staged) at none) none) l)) (yes _ _ _ (eq-eqb _ _ (c .before .if1 .taken)) refl)
+    ∙ ap (λ (l : List ℕ). length (those (λ at. eqb (getD (s .args .p .staged) at none) none) l)) (yes _ _ _ (eq-eqb _ _ (then1 .if1 .taken)) refl)
 
 add-result : tie.Need-add-result
 add-result c = omega (arith, c .before .lacks2 .ensures .1, c .lacks3 .ensures .1)
@@ -29,8 +29,7 @@ add-result c = omega (arith, c .before .lacks2 .ensures .1, c .lacks3 .ensures .
 returns-2 : tie.Need-returns-2
 unfolding wanted touched numbers
 returns-2 c =
-    let at-if1 = c .before .before in
-    let s = at-if1 .before .before .before .before in
+    let at-if1 = c .before .before in let at-staged = at-if1 .before .before .before in let s = at-staged .before in
     ap₂ (λ (a b : ℕ). a + b) (c .before .lacks2 .ensures .0) (c .lacks3 .ensures .0) ∙ two-those (λ at. eqb (getD (s .args .p .staged) at none) none) _ _
     ∙ ap (λ (l : List ℕ). length (those (λ at. eqb (getD (s .args .p .staged) at none) none) l)) (no _ _ _ (ne-eqb _ _ (at-if1 .if1 .left)) refl)
 

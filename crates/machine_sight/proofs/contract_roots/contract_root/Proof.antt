@@ -14,25 +14,26 @@ returns c =
     seen-none (keptRoot (s .args .diskroots .now) (s .args .stageroots .now)) (s .args .seen) (c .if1 .taken)
 
 first-root-requires : tie.Need-first-root-requires
-first-root-requires c κs = (c .before .before .before .before .pre, omega (arith, c .if2 .taken))
+first-root-requires c κs =
+    let else1 = c .before in let start = else1 .before .before .before in
+    (start .pre, omega (arith, c .if2 .taken))
 
 returns-2 : tie.Need-returns-2
 returns-2 c =
-    let s = c .before .before .before .before .before in
+    let else1 = c .before .before in let s = else1 .before .before .before in
     c .first-root .ensures ∙ seen-alone _ _ (s .args .seen) (s .pre) (c .before .if2 .taken)
 
 slice-aggregate-join : tie.Need-slice-aggregate-join
 slice-aggregate-join c =
-    let s = c .before .before .before .before .before .before in
+    let else1 = c .before .before .before in let s = else1 .before .before .before in
     sym (seen-roots _ _ (s .args .seen) (s .pre) (c .before .kept-roots .ensures))
 
 returns-3 : tie.Need-returns-3
 returns-3 c =
-    let at-roots = c .before .before .before in
-    let s = at-roots .before .before .before .before .before in
+    let at-roots = c .before .before .before in let else1 = at-roots .before .before in let s = else1 .before .before .before in
     let long = seen-roots _ _ (s .args .seen) (s .pre) (at-roots .kept-roots .ensures) in
     calls .join-told (c .before .join .result) _ (c .before .join .ensures) (omega (arith, long))
-    ∙ seen-join _ (s .args .seen) (at-roots .kept-roots .ensures) (at-roots .before .before .if1 .left)
+    ∙ seen-join _ (s .args .seen) (at-roots .kept-roots .ensures) (else1 .if1 .left)
 
 pub contract-root-spec : {M : Type 1} → statement M
 contract-root-spec =

@@ -11,7 +11,7 @@ use Rattle.machine_sight.proofs.contract_roots.first_root.Tie as tie
 
 kept-root-requires : tie.Need-kept-root-requires
 kept-root-requires c κs =
-    let s = c .before .before .before .before .before in
+    let at-slots = c .before .before in let s = at-slots .before .before .before in
     seen-lies _ _ _ _ _ (s .pre .0 .spots) (s .pre .1) (c .spot-of .ensures)
 
 copy-between-requires : tie.Need-copy-between-requires
@@ -19,9 +19,9 @@ copy-between-requires c κs = (omega (arith, c .before .kept-root .ensures .1), 
 
 returns : tie.Need-returns
 returns c =
-    let root = c .before .before .before .kept-root .ensures in
-    let at-spot = c .before .before .before .before in
-    let s = at-spot .before .before .before .before .before in
+    let at-kept-root = c .before .before .before in let at-spot = at-kept-root .before in let at-slots = at-spot .before .before in
+    let s = at-slots .before .before .before in
+    let root = at-kept-root .kept-root .ensures in
     put-part _ _ 0 32 refl (omega (arith, root .1)) (c .before .copy-between .ensures) ∙ part-whole _ 32 (sym (root .1)) ∙ root .0
     ∙ ap (keptRoot (s .args .diskroots .now) (s .args .stageroots .now)) (at-spot .spot-of .ensures)
 

@@ -24,42 +24,50 @@ loop-holds : tie.Need-loop-holds Inv-loop μ-loop
 loop-holds c = (omega arith, refl, none-gathered _ _)
 
 spot-of-requires : tie.Need-spot-of-requires Inv-loop μ-loop
-spot-of-requires c κs = omega (arith, c .before .before .before .before .before .before .pre .few)
+spot-of-requires c κs =
+    let at-loop = c .before in let at-slots = at-loop .before .before in let start = at-slots .before .before .before in
+    omega (arith, start .pre .few)
 
 kept-root-requires : tie.Need-kept-root-requires Inv-loop μ-loop
 kept-root-requires c κs =
-    let s = c .before .before .before .before .before .before .before in
+    let at-loop = c .before .before in let at-slots = at-loop .before .before in let s = at-slots .before .before .before in
     seen-lies _ _ _ _ _ (s .pre .spots) (c .before .loop-test .taken) (c .spot-of .ensures)
 
 slice-aggregate-copy-between : tie.Need-slice-aggregate-copy-between Inv-loop μ-loop
-slice-aggregate-copy-between c = sym (c .before .before .before .before .loop .inv .1)
+slice-aggregate-copy-between c =
+    let in-loop = c .before .before .before in let at-loop = in-loop .before in
+    sym (at-loop .loop .inv .1)
 
 mul-copy-between : tie.Need-mul-copy-between Inv-loop μ-loop
 mul-copy-between c =
-    let at-test = c .before .before .before in
-    omega (arith, at-test .loop-test .taken, at-test .before .before .before .before .before .before .pre .few)
+    let at-test = c .before .before .before in let at-loop = at-test .before in let at-slots = at-loop .before .before in
+    let start = at-slots .before .before .before in
+    omega (arith, at-test .loop-test .taken, start .pre .few)
 
 copy-between-requires : tie.Need-copy-between-requires Inv-loop μ-loop
 copy-between-requires c κs =
-    let at-test = c .before .before .before in
-    let few = at-test .before .before .before .before .before .before .pre .few in
-    (omega (arith, c .before .kept-root .ensures .1), omega (arith, at-test .before .loop .inv .1, at-test .loop-test .taken, few))
+    let at-test = c .before .before .before in let at-loop = at-test .before in let at-slots = at-loop .before .before in
+    let start = at-slots .before .before .before in
+    let few = start .pre .few in
+    (omega (arith, c .before .kept-root .ensures .1), omega (arith, at-loop .loop .inv .1, at-test .loop-test .taken, few))
 
 add-i : tie.Need-add-i Inv-loop μ-loop
 add-i c =
-    let at-test = c .before .before .before .before .before in
-    omega (arith, at-test .loop-test .taken, at-test .before .before .before .before .before .before .pre .few)
+    let at-kept-root = c .before .before .before in let at-test = at-kept-root .before .before in let at-loop = at-test .before in
+    let at-slots = at-loop .before .before in let start = at-slots .before .before .before in
+    omega (arith, at-test .loop-test .taken, start .pre .few)
 
 loop-less : tie.Need-loop-less Inv-loop μ-loop
-loop-less c = omega (arith, c .before .before .before .before .before .loop-test .taken)
+loop-less c =
+    let at-kept-root = c .before .before .before in let in-loop = at-kept-root .before .before in
+    omega (arith, in-loop .loop-test .taken)
 
 loop-again : tie.Need-loop-again Inv-loop μ-loop
 loop-again c =
-    let root = c .before .before .before .kept-root .ensures in
-    let at-spot = c .before .before .before .before in
-    let at-test = at-spot .before in
-    let l = at-test .before .loop in
-    let s = at-test .before .before .before .before .before .before in
+    let at-kept-root = c .before .before .before in let at-spot = at-kept-root .before in let at-test = at-spot .before in
+    let at-loop = at-test .before in let at-slots = at-loop .before .before in let s = at-slots .before .before .before in
+    let root = at-kept-root .kept-root .ensures in
+    let l = at-loop .loop in
     let f = keptRoot (s .args .diskroots .now) (s .args .stageroots .now) in (
       omega (arith, at-test .loop-test .taken),
       c .before .copy-between .kept .1 .1 .0 ∙ l .inv .1,
@@ -71,8 +79,8 @@ loop-again c =
 returns : tie.Need-returns Inv-loop μ-loop
 unfolding spotsOf
 returns c =
-    let l = c .before .loop in
-    let s = c .before .before .before .before .before .before in
+    let at-loop = c .before in let at-slots = at-loop .before .before in let s = at-slots .before .before .before in
+    let l = at-loop .loop in
     let f = keptRoot (s .args .diskroots .now) (s .args .stageroots .now) in
     let e : s .args .seen .count ≡ l .i = omega (arith, c .loop-test .left, l .inv .0) in
     ap (λ (n : ℕ). take (32 * n) (l .roots)) e ∙ l .inv .2

@@ -37,10 +37,14 @@ part-result-end-2 : tie.Need-part-result-end-2
 part-result-end-2 c = omega (arith, stage-holds c)
 
 returns : tie.Need-returns
-returns c = disk-sector _ _ _ _ _ (c .before .before .spot .given .1) (c .before .before .before .before .pre)
+returns c =
+    let at-match-keys1 = c .before .before .before in let start = at-match-keys1 .before in
+    disk-sector _ _ _ _ _ (c .before .before .spot .given .1) (start .pre)
 
 returns-2 : tie.Need-returns-2
-returns-2 c = stage-sector _ _ _ _ _ (c .before .before .spot2 .given .1) (c .before .before .before .before .pre)
+returns-2 c =
+    let at-match-keys2 = c .before .before .before in let start = at-match-keys2 .before in
+    stage-sector _ _ _ _ _ (c .before .before .spot2 .given .1) (start .pre)
 
 pub sector-spec : {M : Type 1} → statement M
 sector-spec =

@@ -10,13 +10,12 @@ use Rattle.machine_sight.proofs.sectors.span.Tie as tie
 
 sector-requires : tie.Need-sector-requires
 sector-requires c κs =
-    let s = c .before .before .before .before .before in
+    let at-slots = c .before .before in let s = at-slots .before .before .before in
     seen-lies _ _ _ _ _ (s .pre .0 .spots) (s .pre .1 .below) (c .spot-of .ensures)
 
 returns : tie.Need-returns
 returns c =
-    let at-sector = c .before in
-    let s = c .before .before .before .before .before .before .before in
+    let at-sector = c .before in let at-slots = at-sector .before .before .before in let s = at-slots .before .before .before in
     sector-span _ (s .args .at % s .args .z) (s .args .n)
     (at-sector .sector .ensures .0 ∙ ap (sector (s .args .z) (s .args .disk .now) (s .args .stage .now)) (at-sector .before .spot-of .ensures))
     (omega (arith, at-sector .sector .ensures .1, s .pre .1 .one))

@@ -15,15 +15,14 @@ use Rattle.machine_step.proofs.pairs.running_pair.Tie as tie
 
 running-root-requires : tie.Need-running-root-requires
 running-root-requires c κs =
-    let found = c .before .before .before .before in
-    let s = found .before .before .before in
+    let at-diskroots = c .before .before .before in let found = at-diskroots .before in let s = found .before .before .before in
     let h = s .args .host in
     reads h (hosted h _ (s .good .0)) (disk-rooted h _ (s .good .0)) (stage-rooted h _ (s .good .0)) (found .parent .ensures) (s .pre .0) (s .pre .1)
 
 returns : tie.Need-returns
 unfolding runningPair parentSpots parent settingBy
 returns c =
-    let found = c .before .before .before .before .before in
+    let at-stageroots = c .before .before .before in let found = at-stageroots .before .before in
     let h = found .before .before .before .args .host in
     let z = h .sector in
     let p = h .program .progress in

@@ -14,11 +14,11 @@ use Rattle.machine_step.proofs.records.put_failure.Tie as tie
 returns : tie.Need-returns
 unfolding recordBytes
 returns c =
-    let front-laid = c .before .before .before .before .before .before in
+    let at-store = c .before .before in let at-out = at-store .before .before .before in let front-laid = at-out .before in
     let start = front-laid .before .before .before in
     let p = pairing (start .args .size) (start .args .root) in
     lay-same _ 0 _
-    (lay-two _ 0 _ _ 64 (front-laid .put-front .ensures) (c .before .before .store .ensures) (length-front _ _ p 0 (start .good .1 .1 .0 .1 .0 .1)) refl)
+    (lay-two _ 0 _ _ 64 (front-laid .put-front .ensures) (at-store .store .ensures) (length-front _ _ p 0 (start .good .1 .1 .0 .1 .0 .1)) refl)
     (ap (λ (l : List ℕ). front (start .args .number) 0 p 0 ++ l) (sym (append-nil (le8 0))) ∙ sym (record-front (start .args .number) 0 p 0 (le8 0 ++ [])))
 
 pub put-failure-spec : {M : Type 1} → statement M

@@ -15,15 +15,18 @@ use Rattle.machine_step.proofs.records.put_proof.Tie as tie
 range-proof-requires : tie.Need-range-proof-requires
 unfolding shownProof
 range-proof-requires c κs =
-    let start = c .before .before .before .before .before .before .before in
-    let asked = c .before .if1 .taken in
+    let then1 = c .before in let at-shared-slice-known3 = then1 .before .before .before in
+    let start = at-shared-slice-known3 .before .before .before in
+    let asked = then1 .if1 .taken in
     let out = start .args .out .now in
     let room = subst (λ (l : List ℕ). length l ≤ length out) (picks (start .args .asked) _ [] asked) (start .pre .1 .1 .1) in
     (start .pre .0, (start .pre .1 .0, (start .pre .1 .1 .0 asked, room)))
 
 returns : tie.Need-returns
 unfolding shownProof
-returns c = lay-same _ 0 _ (c .before .before .range-proof .ensures) (sym (picks _ _ [] (c .before .before .before .before .if1 .taken)))
+returns c =
+    let at-range-proof = c .before .before in let then1 = at-range-proof .before .before in
+    lay-same _ 0 _ (at-range-proof .range-proof .ensures) (sym (picks _ _ [] (then1 .if1 .taken)))
 
 returns-2 : tie.Need-returns-2
 unfolding shownProof

@@ -13,13 +13,20 @@ use Rattle.machine_step.proofs.records.put_success.Tie as tie
 -- ---- the places of what was laid before
 
 abbrev at-start : tie.After-put-front → tie.Start
-at-start c = c .before .before .before .before .before .before .before
+at-start c =
+    let at-shared-slice-known4 = c .before .before .before in let at-shared-slice-known = at-shared-slice-known4 .before .before .before in
+    let start-2 = at-shared-slice-known .before in
+    start-2
 
 abbrev at-front : tie.After-put-proof → tie.After-put-front
-at-front c = c .before .before .before .before
+at-front c =
+    let at-out = c .before .before .before in let at-put-front = at-out .before in
+    at-put-front
 
 abbrev at-proof : tie.After-store → tie.After-put-proof
-at-proof c = c .before .before .before .before .before
+at-proof c =
+    let at-count-of = c .before .before in let at-put-proof = at-count-of .before .before .before in
+    at-put-proof
 
 -- ---- the needs
 
@@ -41,7 +48,7 @@ put-bytes-requires c κs =
 
 returns : tie.Need-returns
 returns c =
-    let stored = c .before .before .before .before .before .before in
+    let at-put-bytes = c .before .before in let at-out3 = at-put-bytes .before .before .before in let stored = at-out3 .before in
     let proof = at-proof stored in
     let start = at-start (at-front proof) in
     let shows = start .pre in
@@ -52,7 +59,7 @@ returns c =
     (lay-behind _ _ _ (64 + 32 * start .args .hashes)
     (behind _ _ _ 64 (at-front proof .put-front .ensures) (length-front 0 (start .args .cost) p (start .args .hashes) long) (proof .put-proof .ensures))
     (stored .store .ensures) (length-two 0 (start .args .cost) p (start .args .hashes) _ long (shows .count)))
-    (length-three 0 (start .args .cost) p (start .args .hashes) _ _ long (shows .count)) (c .before .before .put-bytes .ensures))
+    (length-three 0 (start .args .cost) p (start .args .hashes) _ _ long (shows .count)) (at-put-bytes .put-bytes .ensures))
     (record-parts 0 (start .args .cost) p (start .args .hashes) _ _ _ (stored .before .before .count-of .ensures))
 
 pub put-success-spec : {M : Type 1} → statement M

@@ -7,7 +7,9 @@ use Rattle.machine_step.proofs.roots.running_root.Statement.{statement}
 use Rattle.machine_step.proofs.roots.running_root.Tie as tie
 
 contract-root-requires : tie.Need-contract-root-requires
-contract-root-requires c κs = running-known _ _ _ _ _ _ (c .parent-seen .ensures .0) (c .parent-seen .ensures .1) (c .before .before .before .before .pre)
+contract-root-requires c κs =
+    let at-staged = c .before in let start = at-staged .before .before .before in
+    running-known _ _ _ _ _ _ (c .parent-seen .ensures .0) (c .parent-seen .ensures .1) (start .pre)
 
 returns : tie.Need-returns
 returns c = c .contract-root .ensures ∙ ap (contractRoot _) (c .before .parent-seen .ensures .0)

@@ -13,10 +13,15 @@ use Rattle.machine_step.proofs.running.succeed.Tie as tie
 -- ---- the places of the calls
 
 abbrev at-start : tie.After-effect → tie.Start
-at-start c = c .before .before .before .before .before .before .before .before .before .before .before
+at-start c =
+    let at-slots = c .before .before .before in let at-args2 = at-slots .before in let at-slice-known = at-args2 .before .before .before in
+    let at-shared-slice-known = at-slice-known .before .before .before in let start = at-shared-slice-known .before in
+    start
 
 abbrev at-effect : tie.After-rehash → tie.After-effect
-at-effect c = c .before .before .before .before .before
+at-effect c =
+    let at-slice-known4 = c .before .before .before in let at-effect-2 = at-slice-known4 .before .before in
+    at-effect-2
 
 abbrev at-rehash : tie.After-advanced → tie.After-rehash
 at-rehash c = c .before .before .before
@@ -27,12 +32,15 @@ at-advanced c = c .before .before
 -- ---- the needs
 
 effect-requires : tie.Need-effect-requires
-effect-requires c κs = let s = c .before .before .before .before .before .before .before .before .before .before in (s .pre .stands, s .pre .source)
+effect-requires c κs =
+    let at-args2 = c .before .before .before in let at-slice-known = at-args2 .before .before .before in
+    let at-shared-slice-known = at-slice-known .before .before .before in let s = at-shared-slice-known .before in
+    (s .pre .stands, s .pre .source)
 
 rehash-requires : tie.Need-rehash-requires
 unfolding stageAfter
 rehash-requires c κs =
-    let left = c .before .before .before .before in
+    let at-stage = c .before .before .before in let left = at-stage .before in
     let s = at-start left in
     run-rehashes _ (s .args .copies) (s .args .parent) (s .args .diskroots .now) _ _ (s .args .plan) (s .args .asked) _ _ (left .effect .ensures) (s .pre)
 
@@ -52,7 +60,9 @@ running-root-requires c κs =
 
 within : (c : tie.After-put-success-arg2) → let s = at-start (at-effect (at-rehash (at-advanced (c .before .before .before .before)))) in
     s .args .progress .written ≤ length (s .args .output .now)
-within c = let s = at-start (at-effect (at-rehash (at-advanced (c .before .before .before .before)))) in omega (arith, s .pre .written)
+within c =
+    let at-reads = c .before .before .before in let at-running-root = at-reads .before in
+    let s = at-start (at-effect (at-rehash (at-advanced (at-running-root)))) in omega (arith, s .pre .written)
 
 sub-put-success : tie.Need-sub-put-success
 sub-put-success c = within c
@@ -63,7 +73,7 @@ part-put-success-start c = within c
 put-success-requires : tie.Need-put-success-requires
 unfolding stageAfter rootsAfter
 put-success-requires c κs =
-    let read = c .before .before .before .before in
+    let at-seen = c .before .before .before in let read = at-seen .before in
     let rooted = at-rehash (at-advanced (read .before)) in
     let left = at-effect rooted in
     let s = at-start left in
@@ -73,8 +83,7 @@ put-success-requires c κs =
 returns : tie.Need-returns
 unfolding stageAfter rootsAfter
 returns c =
-    let laid = c .before .before in
-    let read = laid .before .before .before .before .before in
+    let laid = c .before .before in let at-put-success-arg = laid .before .before .before in let read = at-put-success-arg .before .before in
     let next = at-advanced (read .before) in
     let rooted = at-rehash next in
     let left = at-effect rooted in

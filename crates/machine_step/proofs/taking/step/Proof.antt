@@ -22,7 +22,10 @@ use Rattle.machine_step.proofs.taking.step.Tie as tie
 -- ---- the places of the calls, and what is known there
 
 abbrev at-start : tie.After-planned → tie.Start
-at-start c = c .before .before .before .before .before .before .before .before
+at-start c =
+    let at-slice-known2 = c .before .before .before in let at-shared-slice-known2 = at-slice-known2 .before .before .before in
+    let start = at-shared-slice-known2 .before .before in
+    start
 
 abbrev at-planned : tie.After-place-of → tie.After-planned
 at-planned c = c .before .before .before
@@ -63,7 +66,8 @@ number c =
 
 planned-requires : tie.Need-planned-requires
 planned-requires c κs =
-    let s = c .before .before .before .before .before .before .before in
+    let at-slice-known = c .before .before .before in let at-shared-slice-known = at-slice-known .before .before .before in
+    let s = at-shared-slice-known .before in
     (plans _ (the-set s) (the-turn s) _ (s .pre), (plans-good _ (the-set s) (the-turn s) _ (s .pre), s .pre .input))
 
 fail-requires : tie.Need-fail-requires
@@ -96,9 +100,8 @@ succeed-requires c κs =
 returns-2 : tie.Need-returns-2
 unfolding parent
 returns-2 c =
-    let done = c .before .before .before .before .before .before in
-    let test = done .before .before .before .before in
-    let place = test .before .before in
+    let at-stage = c .before .before .before in let done = at-stage .before .before .before in let at-succeed-arg = done .before .before .before in
+    let test = at-succeed-arg .before in let place = test .before .before in
     let p = at-planned place in
     let s = at-start p in
     step-succeeds _ (the-set s) (the-turn s) (s .args .i) _ refl (number place) (test .if1 .left)

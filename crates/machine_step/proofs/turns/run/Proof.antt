@@ -60,7 +60,10 @@ told c =
 -- ---- the needs
 
 loop-holds : tie.Need-loop-holds Inv-loop μ-loop
-loop-holds c = record { ends = refl; kept = c .before .before .before .before .before .before .before .pre }
+loop-holds c =
+    let at-slice-known = c .before .before .before in let at-shared-slice-known = at-slice-known .before .before .before in
+    let start = at-shared-slice-known .before in
+    record { ends = refl; kept = start .pre }
 
 mul-i : tie.Need-mul-i Inv-loop μ-loop
 mul-i c = omega (arith, below c)
@@ -95,14 +98,14 @@ at-test c = c .before .before .before .before
 
 loop-less : tie.Need-loop-less Inv-loop μ-loop
 loop-less c =
-    let done = c .before .before .before .before .before .before in
+    let at-stage = c .before .before .before in let done = at-stage .before .before .before in
     let test = at-test done in
     let o = test .before .before .before in
     fewer _ (the-set o) _ _ (the-turn o) (told test) (steps-turn _ (the-set o) _ (the-turn o) (its o _) (done .step .ensures))
 
 loop-again : tie.Need-loop-again Inv-loop μ-loop
 loop-again c =
-    let done = c .before .before .before .before .before .before in
+    let at-stage = c .before .before .before in let done = at-stage .before .before .before in
     let test = at-test done in
     let o = test .before .before .before in
     further _ (the-set o) _ _ _ (the-turn o) (o .before .before .loop .inv) (told test)
