@@ -18,9 +18,6 @@ Inv-loop src from dst₀ to n i₀ dst i = (i ≤ n) × (length dst ≡ length d
 abbrev μ-loop : tie.MeasureT-loop
 μ-loop src from dst₀ to n i₀ dst i = n - i
 
-loop-holds : tie.Need-loop-holds Inv-loop μ-loop
-loop-holds c = (omega arith, refl, sym (put-nil _ _))
-
 loop-again : tie.Need-loop-again Inv-loop μ-loop
 loop-again c = (
   omega arith,
@@ -33,5 +30,7 @@ returns c = all-laid _ _ _ _ (length-part _ _ _ (omega arith)) (c .loop-test .le
 
 pub copy-between-spec : {M : Type 1} → statement M
 copy-between-spec =
-    tie.close (tie.spec Inv-loop μ-loop loop-holds (λ c. omega arith) (λ c. omega arith) (λ c. omega arith) (λ c. omega arith)
-        (λ c. omega arith) (λ c. omega arith) loop-again (λ c. search needs) returns)
+    tie.close (tie.spec Inv-loop μ-loop
+        (λ c. (omega arith, refl, sym (put-nil _ _)))
+        (λ c. omega arith) (λ c. omega arith) (λ c. omega arith) (λ c. omega arith) (λ c. omega arith) (λ c. omega arith) loop-again
+        (λ c. search needs) returns)

@@ -16,19 +16,15 @@ Inv-loop a₀ at n b i₀ a i = (i ≤ n) × (length a ≡ length a₀) × (a �
 abbrev μ-loop : tie.MeasureT-loop
 μ-loop a₀ at n b i₀ a i = n - i
 
-loop-holds : tie.Need-loop-holds Inv-loop μ-loop
-loop-holds c = (omega arith, refl, sym (put-nil _ _))
-
 loop-again : tie.Need-loop-again Inv-loop μ-loop
 loop-again c =
     let l = c .before .loop in
     let n = c .before .before .args .n in
     (omega arith, search needs, one-more _ _ _ _ (length-replicate n _) (omega arith) (sym (getD-replicate n (l .i) _ 0 (omega arith))) (l .inv .2))
 
-returns : tie.Need-returns Inv-loop μ-loop
-returns c = all-laid _ _ _ _ (length-replicate _ _) (c .loop-test .left) (c .before .loop .inv .2)
-
 pub fill-spec : {M : Type 1} → statement M
 fill-spec =
-    tie.close (tie.spec Inv-loop μ-loop loop-holds (λ c. omega arith) (λ c. omega arith) (λ c. omega arith) (λ c. omega arith) loop-again
-        (λ c. search needs) returns)
+    tie.close (tie.spec Inv-loop μ-loop
+        (λ c. (omega arith, refl, sym (put-nil _ _)))
+        (λ c. omega arith) (λ c. omega arith) (λ c. omega arith) (λ c. omega arith) loop-again (λ c. search needs)
+        (λ c. all-laid _ _ _ _ (length-replicate _ _) (c .loop-test .left) (c .before .loop .inv .2)))

@@ -5,9 +5,7 @@ use borrow.Author.Needs.{needs}
 use Rattle.area.proofs.load.Statement.{statement}
 use Rattle.area.proofs.load.Tie as tie
 
-returns : tie.Need-returns
-returns c = halves _ _ 4 _ _ (omega arith) (c .before .load4 .ensures .0) (c .load42 .ensures .0)
-
 pub load-spec : {M : Type 1} → statement M
 load-spec =
-    tie.close (tie.spec (λ c κs. search needs) (λ c. search needs) (λ c κs. search needs) (λ c. search needs) (λ c. search needs) returns)
+    tie.close (tie.spec (λ c κs. search needs) (λ c. search needs) (λ c κs. search needs) (λ c. search needs) (λ c. search needs)
+        (λ c. halves _ _ 4 _ _ (omega arith) (c .before .load4 .ensures .0) (c .load42 .ensures .0)))

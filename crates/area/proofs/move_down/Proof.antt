@@ -20,9 +20,6 @@ Inv-loop a₀ from to n i₀ a i = (i ≤ n) × (length a ≡ length a₀) × (a
 abbrev μ-loop : tie.MeasureT-loop
 μ-loop a₀ from to n i₀ a i = n - i
 
-loop-holds : tie.Need-loop-holds Inv-loop μ-loop
-loop-holds c = (omega arith, refl, sym (put-nil _ _))
-
 loop-again : tie.Need-loop-again Inv-loop μ-loop
 loop-again c =
     let l = c .before .before .loop in
@@ -37,5 +34,7 @@ returns c = all-laid _ _ _ _ (length-part _ _ _ (omega arith)) (c .loop-test .le
 
 pub move-down-spec : {M : Type 1} → statement M
 move-down-spec =
-    tie.close (tie.spec Inv-loop μ-loop loop-holds (λ c. omega arith) (λ c. omega arith) (λ c. omega arith) (λ c. omega arith)
-        (λ c. omega arith) (λ c. omega arith) loop-again (λ c. search needs) returns)
+    tie.close (tie.spec Inv-loop μ-loop
+        (λ c. (omega arith, refl, sym (put-nil _ _)))
+        (λ c. omega arith) (λ c. omega arith) (λ c. omega arith) (λ c. omega arith) (λ c. omega arith) (λ c. omega arith) loop-again
+        (λ c. search needs) returns)

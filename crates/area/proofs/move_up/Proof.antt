@@ -19,9 +19,6 @@ Inv-loop a₀ from to n i₀ a i = (i ≤ n) × (length a ≡ length a₀) × (a
 abbrev μ-loop : tie.MeasureT-loop
 μ-loop a₀ from to n i₀ a i = i
 
-loop-holds : tie.Need-loop-holds Inv-loop μ-loop
-loop-holds c = (omega arith, refl, none-laid-up _ _ _ (length-part _ _ _ (omega arith)))
-
 loop-again : tie.Need-loop-again Inv-loop μ-loop
 loop-again c =
     let l = c .before .before .loop in
@@ -32,10 +29,10 @@ loop-again c =
       one-more-up _ _ _ (l .i) _ (length-part _ _ _ (omega arith)) (omega arith) (omega arith) (read ∙ sym (getD-part _ _ _ _ (omega arith))) (l .inv .2),
     )
 
-returns : tie.Need-returns Inv-loop μ-loop
-returns c = all-laid-up _ _ _ _ (c .loop-test .left) (c .before .loop .inv .2)
-
 pub move-up-spec : {M : Type 1} → statement M
 move-up-spec =
-    tie.close (tie.spec Inv-loop μ-loop loop-holds (λ c. omega arith) (λ c. omega arith) (λ c. omega arith) (λ c. omega arith)
-        (λ c. omega arith) (λ c. omega arith) loop-again (λ c. search needs) returns)
+    tie.close (tie.spec Inv-loop μ-loop
+        (λ c. (omega arith, refl, none-laid-up _ _ _ (length-part _ _ _ (omega arith))))
+        (λ c. omega arith) (λ c. omega arith) (λ c. omega arith) (λ c. omega arith) (λ c. omega arith) (λ c. omega arith) loop-again
+        (λ c. search needs)
+        (λ c. all-laid-up _ _ _ _ (c .loop-test .left) (c .before .loop .inv .2)))

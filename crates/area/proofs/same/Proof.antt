@@ -17,12 +17,6 @@ Inv-loop a b all₀ i₀ all i = (i ≤ length a) × (length a ≡ length b) × 
 abbrev μ-loop : tie.MeasureT-loop
 μ-loop a b all₀ i₀ all i = length a - i
 
-returns : tie.Need-returns Inv-loop μ-loop
-returns c = same-lengths _ _ (c .if1 .taken)
-
-loop-holds : tie.Need-loop-holds Inv-loop μ-loop
-loop-holds c = (omega arith, c .if1 .left, yes _ _ _ refl refl)
-
 loop-again : tie.Need-loop-again Inv-loop μ-loop
 loop-again c =
     let at-loop = c .before .before .before .before in
@@ -40,5 +34,7 @@ returns-2 c =
 
 pub same-spec : {M : Type 1} → statement M
 same-spec =
-    tie.close (tie.spec Inv-loop μ-loop returns loop-holds (λ c. omega arith) (λ c. omega arith) (λ c. omega arith) (λ c. omega arith)
-        loop-again returns-2)
+    tie.close (tie.spec Inv-loop μ-loop
+        (λ c. same-lengths _ _ (c .if1 .taken))
+        (λ c. (omega arith, c .if1 .left, yes _ _ _ refl refl))
+        (λ c. omega arith) (λ c. omega arith) (λ c. omega arith) (λ c. omega arith) loop-again returns-2)

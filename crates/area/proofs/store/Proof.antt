@@ -28,10 +28,8 @@ loop-again c =
     let next = bytes-left _ (l .i) _ _ (omega arith) (l .inv .3) in
     (omega arith, search needs, one-more _ _ _ _ (length-bytes _ _) (omega arith) (next .0) (l .inv .2), next .1)
 
-returns : tie.Need-returns Inv-loop μ-loop
-returns c = all-laid _ _ _ _ (length-bytes _ _) (c .loop-test .left) (c .before .loop .inv .2)
-
 pub store-spec : {M : Type 1} → statement M
 store-spec =
     tie.close (tie.spec Inv-loop μ-loop loop-holds (λ c. search needs) (λ c. omega arith) (λ c. omega arith) (λ c. omega arith)
-        (λ c. omega arith) loop-again (λ c. search needs) returns)
+        (λ c. omega arith) loop-again (λ c. search needs)
+        (λ c. all-laid _ _ _ _ (length-bytes _ _) (c .loop-test .left) (c .before .loop .inv .2)))

@@ -15,9 +15,6 @@ Inv-loop a₀ one two n i₀ a i = (i ≤ n) × (length a ≡ length a₀) × (a
 abbrev μ-loop : tie.MeasureT-loop
 μ-loop a₀ one two n i₀ a i = n - i
 
-loop-holds : tie.Need-loop-holds Inv-loop μ-loop
-loop-holds c = (omega arith, refl, none-swapped _ _ _)
-
 slice-write-a-2 : tie.Need-slice-write-a-2 Inv-loop μ-loop
 slice-write-a-2 c =
     let l = c .before .before .before in
@@ -29,11 +26,10 @@ loop-again c =
     let l = c .before .before .before in
     (omega arith, search needs, one-swapped _ _ _ _ _ (l .before .pre .0) (omega arith) (omega arith) (omega arith) (l .loop .inv .1) (l .loop .inv .2))
 
-returns : tie.Need-returns Inv-loop μ-loop
-returns c = all-swapped _ _ _ _ _ (c .before .loop .inv .0) (c .loop-test .left) (c .before .loop .inv .2)
-
 pub swap-apart-spec : {M : Type 1} → statement M
 swap-apart-spec =
-    tie.close (tie.spec Inv-loop μ-loop loop-holds (λ c. omega arith) (λ c. omega arith) (λ c. omega arith) (λ c. omega arith)
-        (λ c. omega arith) (λ c. omega arith) (λ c. omega arith) slice-write-a-2 (λ c. omega arith) (λ c. omega arith) loop-again
-        (λ c. search needs) returns)
+    tie.close (tie.spec Inv-loop μ-loop
+        (λ c. (omega arith, refl, none-swapped _ _ _))
+        (λ c. omega arith) (λ c. omega arith) (λ c. omega arith) (λ c. omega arith) (λ c. omega arith) (λ c. omega arith) (λ c. omega arith)
+        slice-write-a-2 (λ c. omega arith) (λ c. omega arith) loop-again (λ c. search needs)
+        (λ c. all-swapped _ _ _ _ _ (c .before .loop .inv .0) (c .loop-test .left) (c .before .loop .inv .2)))

@@ -6,18 +6,6 @@ use Rattle.area.proofs.Laws.Exchange.{met-below, met-above}
 use Rattle.area.proofs.swap_within.Statement.{statement}
 use Rattle.area.proofs.swap_within.Tie as tie
 
-swap-apart-requires : tie.Need-swap-apart-requires
-swap-apart-requires c κs = (inl (omega arith), (omega arith, omega arith))
-
-swap-apart-requires-2 : tie.Need-swap-apart-requires-2
-swap-apart-requires-2 c κs = (inl (omega arith), search needs)
-
-swap-apart-requires-3 : tie.Need-swap-apart-requires-3
-swap-apart-requires-3 c κs = (inr (omega arith), (omega arith, omega arith))
-
-swap-apart-requires-4 : tie.Need-swap-apart-requires-4
-swap-apart-requires-4 c κs = (inr (omega arith), search needs)
-
 returns-2 : tie.Need-returns-2
 returns-2 c =
     met-below _ _ _ _ _ _ (omega arith) (omega arith) (omega arith) (c .before .before .before .before .before .before .move-down .ensures)
@@ -30,7 +18,13 @@ returns-4 c =
 
 pub swap-within-spec : {M : Type 1} → statement M
 swap-within-spec =
-    tie.close (tie.spec swap-apart-requires (λ c. search needs) (λ c κs. search needs) (λ c. search needs) (λ c. search needs)
-        swap-apart-requires-2 (λ c. search needs) swap-apart-requires-3 (λ c. search needs) (λ c. search needs) (λ c κs. search needs)
-        swap-apart-requires-4 (λ c. search needs) (λ c. search needs) (λ c. search needs) returns-2 (λ c. search needs) (λ c. search needs)
-        (λ c. search needs) returns-4)
+    tie.close (tie.spec
+        (λ c κs. (inl (omega arith), (omega arith, omega arith)))
+        (λ c. search needs) (λ c κs. search needs) (λ c. search needs) (λ c. search needs)
+        (λ c κs. (inl (omega arith), search needs))
+        (λ c. search needs)
+        (λ c κs. (inr (omega arith), (omega arith, omega arith)))
+        (λ c. search needs) (λ c. search needs) (λ c κs. search needs)
+        (λ c κs. (inr (omega arith), search needs))
+        (λ c. search needs) (λ c. search needs) (λ c. search needs) returns-2 (λ c. search needs) (λ c. search needs) (λ c. search needs)
+        returns-4)

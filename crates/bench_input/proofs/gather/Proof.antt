@@ -16,16 +16,6 @@ Inv-loop left follows all₀ turn₀ all turn = (length all₀ ≡ 68810) × (Ca
 abbrev μ-loop : tie.MeasureT-loop
 μ-loop left follows all₀ turn₀ all turn = turn .left
 
-returns : tie.Need-returns Inv-loop μ-loop
-returns c = gathered-none _
-
-loop-holds : tie.Need-loop-holds Inv-loop μ-loop
-loop-holds c = (c .before .if1 .left, (came-none _ (c .new .ensures), search needs))
-
-read-once-requires : tie.Need-read-once-requires Inv-loop μ-loop
-unfolding readsOn
-read-once-requires c κs = ltb-true 0 _ (both-left _ _ (sym (c .before .before .more .ensures) ∙ c .before .if2 .taken))
-
 loop-again : tie.Need-loop-again Inv-loop μ-loop
 loop-again c =
     let s = c .before .before .before in
@@ -38,6 +28,10 @@ returns-2 c =
     gathered (s .before .loop .inv .0) (s .before .loop .inv .1 .0) (c .held .ensures)
 
 pub gather-spec : {M : Type 1} → statement M
+unfolding readsOn
 gather-spec =
-    tie.close (tie.spec Inv-loop μ-loop returns (λ c κs. search needs) loop-holds (λ c κs. search needs) read-once-requires
+    tie.close (tie.spec Inv-loop μ-loop (λ c. gathered-none _) (λ c κs. search needs)
+        (λ c. (c .before .if1 .left, (came-none _ (c .new .ensures), search needs)))
+        (λ c κs. search needs)
+        (λ c κs. ltb-true 0 _ (both-left _ _ (sym (c .before .before .more .ensures) ∙ c .before .if2 .taken)))
         (λ c. search needs) loop-again (λ c κs. search needs) (λ c. search needs) returns-2)

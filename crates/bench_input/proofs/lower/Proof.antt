@@ -5,12 +5,6 @@ use Rattle.bench_input.proofs.Laws.Laying.{stands-whole, lowers-not, lo
 use Rattle.bench_input.proofs.lower.Statement.{statement}
 use Rattle.bench_input.proofs.lower.Tie as tie
 
-returns : tie.Need-returns
-returns c = lowers-not _ _ _ (c .before .number-to .ensures) (c .if1 .taken)
-
-sub-store : tie.Need-sub-store
-sub-store c = stands-whole _ _ (c .before .before .number-to .ensures) (c .before .if1 .left) .0
-
 store-requires : tie.Need-store-requires
 store-requires c κs =
     let whole = stands-whole _ _ (c .before .before .number-to .ensures) (c .before .if1 .left) in
@@ -23,4 +17,7 @@ returns-2 c =
 
 pub lower-spec : {M : Type 1} → statement M
 lower-spec =
-    tie.close (tie.spec (λ c κs. search needs) (λ c. search needs) returns sub-store store-requires (λ c. search needs) returns-2)
+    tie.close (tie.spec (λ c κs. search needs) (λ c. search needs)
+        (λ c. lowers-not _ _ _ (c .before .number-to .ensures) (c .if1 .taken))
+        (λ c. stands-whole _ _ (c .before .before .number-to .ensures) (c .before .if1 .left) .0)
+        store-requires (λ c. search needs) returns-2)

@@ -8,18 +8,14 @@ use Rattle.bench_input.specs.Reader.{numberTo}
 use Rattle.bench_input.proofs.number_to.Statement.{statement}
 use Rattle.bench_input.proofs.number_to.Tie as tie
 
-returns : tie.Need-returns
-unfolding numberTo
-returns c = yes _ _ _ (lt-ltb _ 8 (c .if1 .taken)) refl
-
-returns-2 : tie.Need-returns-2
-unfolding numberTo
-returns-2 c = no _ _ _ (le-ltb _ 8 (c .before .if1 .left)) (yes _ _ _ (lt-ltb _ _ (c .if2 .taken)) refl)
-
 returns-3 : tie.Need-returns-3
 unfolding numberTo numberAt
 returns-3 c = no _ _ _ (le-ltb _ 8 (c .before .before .if1 .left)) (no _ _ _ (le-ltb _ _ (c .before .if2 .left)) (c .load .ensures))
 
 pub number-to-spec : {M : Type 1} → statement M
+unfolding numberTo
 number-to-spec =
-    tie.close (tie.spec returns returns-2 (λ c κs. search needs) returns-3)
+    tie.close (tie.spec
+        (λ c. yes _ _ _ (lt-ltb _ 8 (c .if1 .taken)) refl)
+        (λ c. no _ _ _ (le-ltb _ 8 (c .before .if1 .left)) (yes _ _ _ (lt-ltb _ _ (c .if2 .taken)) refl))
+        (λ c κs. search needs) returns-3)

@@ -12,14 +12,8 @@ returns c =
     let then1 = c .before .before .before in let at-wrong = then1 .before in
     answered-nine _ _ _ _ _ _ (sym (at-wrong .wrong .ensures) ∙ then1 .if1 .taken) (c .before .before .fresh .ensures) (c .refused .ensures)
 
-prices-requires : tie.Need-prices-requires
-prices-requires c κs = (sym (c .before .wrong .ensures) ∙ c .if1 .left)
-
 load-requires : tie.Need-load-requires
 load-requires c κs = let r = right _ (sym (c .before .before .wrong .ensures) ∙ c .before .if1 .left) in omega (arith, r .front, r .past, r .sized, r .ends)
-
-ids-end-requires : tie.Need-ids-end-requires
-ids-end-requires c κs = (sym (c .before .before .before .wrong .ensures) ∙ c .before .before .if1 .left)
 
 add-from : tie.Need-add-from
 add-from c =
@@ -94,7 +88,10 @@ returns-2 c =
 
 pub answer-spec : {M : Type 1} → statement M
 answer-spec =
-    tie.close (tie.spec (λ c κs. search needs) (λ c κs. search needs) (λ c κs. search needs) returns prices-requires load-requires
-        ids-end-requires add-from head-end-requires sub-run part-run-start part-run-end sub-run-2 part-run-start-2 part-run-end-2 sub-run-3
-        part-run-start-3 (λ c. search needs) (λ c κs. search needs) (λ c. search needs) (λ c. search needs) (λ c. search needs)
-        (λ c. search needs) returns-2)
+    tie.close (tie.spec (λ c κs. search needs) (λ c κs. search needs) (λ c κs. search needs) returns
+        (λ c κs. (sym (c .before .wrong .ensures) ∙ c .if1 .left))
+        load-requires
+        (λ c κs. (sym (c .before .before .before .wrong .ensures) ∙ c .before .before .if1 .left))
+        add-from head-end-requires sub-run part-run-start part-run-end sub-run-2 part-run-start-2 part-run-end-2 sub-run-3 part-run-start-3
+        (λ c. search needs) (λ c κs. search needs) (λ c. search needs) (λ c. search needs) (λ c. search needs) (λ c. search needs)
+        returns-2)

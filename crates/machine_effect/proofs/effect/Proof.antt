@@ -32,14 +32,6 @@ resized-requires c κs =
     let s = at-shared-slice-known .before in
     (lent-alone _ _ _ (s .pre .0 .lent), sized-alone _ _ _ _ _ (s .pre .0 .truncate (c .before .enum-told6 .given .1)))
 
-returns : tie.Need-returns
-unfolding effect
-returns c = arm _ _ _ _ _ (c .enum-told .given .1) refl
-
-returns-2 : tie.Need-returns-2
-unfolding effect
-returns-2 c = arm _ _ _ _ _ (c .enum-told2 .given .1) refl
-
 returns-3 : tie.Need-returns-3
 unfolding effect
 returns-3 c =
@@ -64,12 +56,12 @@ returns-6 c =
     let at-resized = c .before .before in let at-enum-told6 = at-resized .before .before in
     arm _ _ _ _ _ (at-enum-told6 .enum-told6 .given .1) (resized-alone _ _ _ _ _ (at-resized .resized .ensures))
 
-returns-7 : tie.Need-returns-7
-unfolding effect
-returns-7 c = arm _ _ _ _ _ (c .enum-told7 .given .1) refl
-
 pub effect-spec : {M : Type 1} → statement M
+unfolding effect
 effect-spec =
     tie.close (tie.spec (λ c. search needs) (λ c. search needs) (λ c. search needs) write-requires (λ c. search needs) copy-requires
-        (λ c. search needs) swap-requires (λ c. search needs) resized-requires (λ c. search needs) returns returns-2 (λ c. search needs)
-        returns-3 (λ c. search needs) returns-4 (λ c. search needs) returns-5 (λ c. search needs) returns-6 returns-7)
+        (λ c. search needs) swap-requires (λ c. search needs) resized-requires (λ c. search needs)
+        (λ c. arm _ _ _ _ _ (c .enum-told .given .1) refl)
+        (λ c. arm _ _ _ _ _ (c .enum-told2 .given .1) refl)
+        (λ c. search needs) returns-3 (λ c. search needs) returns-4 (λ c. search needs) returns-5 (λ c. search needs) returns-6
+        (λ c. arm _ _ _ _ _ (c .enum-told7 .given .1) refl))

@@ -3,10 +3,7 @@ use Rattle.machine_rules.specs.Run.{going}
 use Rattle.machine_step.proofs.going.Statement.{statement}
 use Rattle.machine_step.proofs.going.Tie as tie
 
-returns : tie.Need-returns
-unfolding going
-returns c = c .goes-on .ensures
-
 pub going-spec : {M : Type 1} → statement M
+unfolding going
 going-spec =
-    tie.close (tie.spec (λ c κs. tt) returns)
+    tie.close (tie.spec (λ c κs. tt) (λ c. c .goes-on .ensures))

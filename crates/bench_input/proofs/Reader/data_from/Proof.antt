@@ -4,10 +4,7 @@ use Rattle.bench_input.specs.Reader.{dataFrom}
 use Rattle.bench_input.proofs.Reader.data_from.Statement.{statement}
 use Rattle.bench_input.proofs.Reader.data_from.Tie as tie
 
-returns : tie.Need-returns
-unfolding dataFrom
-returns c = refl
-
 pub data-from-spec : {M : Type 1} → statement M
+unfolding dataFrom
 data-from-spec =
-    tie.close (tie.spec returns)
+    tie.close (tie.spec (λ c. refl))

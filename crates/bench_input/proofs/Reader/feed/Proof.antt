@@ -17,19 +17,14 @@ Inv-loop bytes all₀ reader₀ i₀ all reader i =
 abbrev μ-loop : tie.MeasureT-loop
 μ-loop bytes all₀ reader₀ i₀ all reader i = length bytes - i
 
-loop-holds : tie.Need-loop-holds Inv-loop μ-loop
-loop-holds c = (refl, (omega arith, refl))
-
 loop-again : tie.Need-loop-again Inv-loop μ-loop
 loop-again c =
     let s = c .before .before .before in
     let b = s .before .before .before in
     (b .loop .inv .0 ∙ further _ _ _ (s .before .before .loop-test .taken) (c .before .before .feed-byte .ensures), (search needs, search needs))
 
-returns : tie.Need-returns Inv-loop μ-loop
-returns c = all-fed _ _ _ (c .loop-test .left) ∙ sym (c .before .loop .inv .0)
-
 pub feed-spec : {M : Type 1} → statement M
 feed-spec =
-    tie.close (tie.spec Inv-loop μ-loop loop-holds (λ c. search needs) (λ c κs. search needs) (λ c. search needs) (λ c. search needs)
-        loop-again (λ c. search needs) returns)
+    tie.close (tie.spec Inv-loop μ-loop (λ c. (refl, (omega arith, refl))) (λ c. search needs) (λ c κs. search needs) (λ c. search needs)
+        (λ c. search needs) loop-again (λ c. search needs)
+        (λ c. all-fed _ _ _ (c .loop-test .left) ∙ sym (c .before .loop .inv .0)))

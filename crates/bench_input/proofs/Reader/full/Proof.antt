@@ -6,14 +6,9 @@ use Rattle.bench_input.specs.Reader.{full}
 use Rattle.bench_input.proofs.Reader.full.Statement.{statement}
 use Rattle.bench_input.proofs.Reader.full.Tie as tie
 
-returns : tie.Need-returns
-unfolding full
-returns c = yes _ _ _ (sym (c .before .before .in-data .ensures) ∙ c .before .if1 .taken) refl
-
-returns-2 : tie.Need-returns-2
-unfolding full
-returns-2 c = no _ _ _ (sym (c .before .in-data .ensures) ∙ c .if1 .left) refl
-
 pub full-spec : {M : Type 1} → statement M
+unfolding full
 full-spec =
-    tie.close (tie.spec (λ c κs. search needs) returns returns-2)
+    tie.close (tie.spec (λ c κs. search needs)
+        (λ c. yes _ _ _ (sym (c .before .before .in-data .ensures) ∙ c .before .if1 .taken) refl)
+        (λ c. no _ _ _ (sym (c .before .in-data .ensures) ∙ c .if1 .left) refl))

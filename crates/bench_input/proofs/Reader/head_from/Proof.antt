@@ -9,10 +9,6 @@ use Rattle.bench_input.specs.declared.Section.the-variants.{Head}
 use Rattle.bench_input.proofs.Reader.head_from.Statement.{statement}
 use Rattle.bench_input.proofs.Reader.head_from.Tie as tie
 
-returns : tie.Need-returns
-unfolding headFrom
-returns c = yes _ _ _ (eq-eqb _ 0 (c .before .if1 .taken)) (c .data-from .ensures)
-
 returns-2 : tie.Need-returns-2
 unfolding headFrom
 returns-2 c =
@@ -20,5 +16,8 @@ returns-2 c =
     no _ _ _ (ne-eqb _ 0 (c .before .if1 .left)) (ap (λ (m : ℕ). reader Head 0 (given .n) m (given .at)) (c .least .ensures))
 
 pub head-from-spec : {M : Type 1} → statement M
+unfolding headFrom
 head-from-spec =
-    tie.close (tie.spec (λ c κs. search needs) returns (λ c κs. search needs) returns-2)
+    tie.close (tie.spec (λ c κs. search needs)
+        (λ c. yes _ _ _ (eq-eqb _ 0 (c .before .if1 .taken)) (c .data-from .ensures))
+        (λ c κs. search needs) returns-2)

@@ -6,14 +6,9 @@ use Rattle.bench_input.specs.Reader.{held}
 use Rattle.bench_input.proofs.Reader.held.Statement.{statement}
 use Rattle.bench_input.proofs.Reader.held.Tie as tie
 
-returns : tie.Need-returns
-unfolding held
-returns c = yes _ _ _ (sym (c .before .in-data .ensures) ∙ c .if1 .taken) refl
-
-returns-2 : tie.Need-returns-2
-unfolding held
-returns-2 c = no _ _ _ (sym (c .before .in-data .ensures) ∙ c .if1 .left) refl
-
 pub held-spec : {M : Type 1} → statement M
+unfolding held
 held-spec =
-    tie.close (tie.spec (λ c κs. search needs) returns returns-2)
+    tie.close (tie.spec (λ c κs. search needs)
+        (λ c. yes _ _ _ (sym (c .before .in-data .ensures) ∙ c .if1 .taken) refl)
+        (λ c. no _ _ _ (sym (c .before .in-data .ensures) ∙ c .if1 .left) refl))

@@ -7,14 +7,10 @@ use Rattle.bench_input.specs.Reader.{idsFrom}
 use Rattle.bench_input.proofs.Reader.ids_from.Statement.{statement}
 use Rattle.bench_input.proofs.Reader.ids_from.Tie as tie
 
-returns : tie.Need-returns
-unfolding idsFrom
-returns c = yes _ _ _ (eq-eqb _ 0 (c .if1 .taken)) refl
-
-returns-2 : tie.Need-returns-2
-unfolding idsFrom
-returns-2 c = no _ _ _ (ne-eqb _ 0 (c .if1 .left)) refl
-
 pub ids-from-spec : {M : Type 1} → statement M
+unfolding idsFrom
 ids-from-spec =
-    tie.close (tie.spec returns (λ c. search needs) returns-2)
+    tie.close (tie.spec
+        (λ c. yes _ _ _ (eq-eqb _ 0 (c .if1 .taken)) refl)
+        (λ c. search needs)
+        (λ c. no _ _ _ (ne-eqb _ 0 (c .if1 .left)) refl))

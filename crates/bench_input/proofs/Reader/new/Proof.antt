@@ -4,10 +4,7 @@ use Rattle.bench_input.specs.Reader.{fresh}
 use Rattle.bench_input.proofs.Reader.new.Statement.{statement}
 use Rattle.bench_input.proofs.Reader.new.Tie as tie
 
-returns : tie.Need-returns
-unfolding fresh
-returns c = refl
-
 pub new-spec : {M : Type 1} → statement M
+unfolding fresh
 new-spec =
-    tie.close (tie.spec returns)
+    tie.close (tie.spec (λ c. refl))

@@ -25,12 +25,6 @@ loop-holds c =
     let e : length ids / 32 ≡ length ids / 32 - 0 = omega arith in
     ap (λ (n : ℕ). formedInTurn (c .before .args .host) (tab 0 n (λ k. part ids (k * 32) 32))) e
 
-mul-id-at : tie.Need-mul-id-at Inv-loop μ-loop
-mul-id-at c = omega (arith, div-add-mod' (length (c .before .before .before .args .ids .now)) 32)
-
-id-at-requires : tie.Need-id-at-requires Inv-loop μ-loop
-id-at-requires c κs = omega (arith, div-add-mod' (length (c .before .before .before .args .ids .now)) 32)
-
 returns : tie.Need-returns Inv-loop μ-loop
 unfolding idsIn
 returns c =
@@ -44,11 +38,11 @@ loop-again c =
     at-loop .loop .inv ∙ turn-formed _ _ _ _ (in-loop .loop-test .taken) (else1 .before .before .form .ensures
         ∙ ap (formed _) (at-id-at .id-at .ensures)) (else1 .if1 .left)
 
-returns-2 : tie.Need-returns-2 Inv-loop μ-loop
-unfolding idsIn
-returns-2 c = turn-none _ _ _ _ (c .loop-test .left) ∙ sym (c .before .loop .inv)
-
 pub form-in-turn-spec : {M : Type 1} → statement M
+unfolding idsIn
 form-in-turn-spec =
-    tie.close (tie.spec Inv-loop μ-loop loop-holds mul-id-at id-at-requires (λ c κs. search needs) returns (λ c. omega arith)
-        (λ c. omega arith) loop-again returns-2)
+    tie.close (tie.spec Inv-loop μ-loop loop-holds
+        (λ c. omega (arith, div-add-mod' (length (c .before .before .before .args .ids .now)) 32))
+        (λ c κs. omega (arith, div-add-mod' (length (c .before .before .before .args .ids .now)) 32))
+        (λ c κs. search needs) returns (λ c. omega arith) (λ c. omega arith) loop-again
+        (λ c. turn-none _ _ _ _ (c .loop-test .left) ∙ sym (c .before .loop .inv)))

@@ -5,10 +5,6 @@ use borrow.Author.Needs.{needs}
 use Rattle.bench_program.proofs.reading.cut_short.Statement.{statement}
 use Rattle.bench_program.proofs.reading.cut_short.Tie as tie
 
-returns : tie.Need-returns
-unfolding numberAt
-returns c = ids-short _ (c .before .before .before .pre) (c .before .load .ensures) (c .if1 .taken)
-
 returns-2 : tie.Need-returns-2
 unfolding numberAt
 returns-2 c =
@@ -22,6 +18,8 @@ returns-3 c =
     head-short _ (start .pre) (else1 .before .load .ensures) (c .before .if2 .left) (c .load2 .ensures)
 
 pub cut-short-spec : {M : Type 1} → statement M
+unfolding numberAt
 cut-short-spec =
-    tie.close (tie.spec (λ c. search needs) (λ c κs. search needs) returns (λ c. search needs) (λ c. search needs) returns-2
-        (λ c. search needs) (λ c κs. search needs) returns-3)
+    tie.close (tie.spec (λ c. search needs) (λ c κs. search needs)
+        (λ c. ids-short _ (c .before .before .before .pre) (c .before .load .ensures) (c .if1 .taken))
+        (λ c. search needs) (λ c. search needs) returns-2 (λ c. search needs) (λ c κs. search needs) returns-3)

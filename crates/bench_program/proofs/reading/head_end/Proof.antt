@@ -8,12 +8,6 @@ use borrow.Author.Needs.{needs}
 use Rattle.bench_program.proofs.reading.head_end.Statement.{statement}
 use Rattle.bench_program.proofs.reading.head_end.Tie as tie
 
-load-requires : tie.Need-load-requires
-load-requires c κs = omega (arith, right _ (c .before .before .pre) .head, c .ids-end .ensures)
-
-add-result : tie.Need-add-result
-add-result c = omega (arith, right _ (c .before .before .before .pre) .head, c .before .ids-end .ensures)
-
 add-result-2 : tie.Need-add-result-2
 unfolding numberAt
 add-result-2 c = let n = c .load .ensures ∙ ap (numberAt (c .before .before .before .args .all .now)) (c .before .ids-end .ensures) in
@@ -26,4 +20,7 @@ returns c = ap₂ (λ (at n : ℕ). at + 8 + n) (c .before .ids-end .ensures) (c
 
 pub head-end-spec : {M : Type 1} → statement M
 head-end-spec =
-    tie.close (tie.spec (λ c κs. search needs) load-requires add-result add-result-2 returns)
+    tie.close (tie.spec (λ c κs. search needs)
+        (λ c κs. omega (arith, right _ (c .before .before .pre) .head, c .ids-end .ensures))
+        (λ c. omega (arith, right _ (c .before .before .before .pre) .head, c .before .ids-end .ensures))
+        add-result-2 returns)

@@ -7,21 +7,11 @@ use Rattle.bench_program.proofs.Laws.Input.{right}
 use Rattle.bench_program.proofs.reading.ids_end.Statement.{statement}
 use Rattle.bench_program.proofs.reading.ids_end.Tie as tie
 
-load-requires : tie.Need-load-requires
-load-requires c κs = right _ (c .before .pre) .front
-
-mul-result : tie.Need-mul-result
-unfolding numberAt
-mul-result c = omega (arith, right _ (c .before .before .pre) .ids, c .load .ensures)
-
-add-result : tie.Need-add-result
-unfolding numberAt
-add-result c = omega (arith, right _ (c .before .before .pre) .ids, c .load .ensures)
-
-returns : tie.Need-returns
-unfolding numberAt idsEnd
-returns c = ap (λ (n : ℕ). 80 + n * 32) (c .load .ensures)
-
 pub ids-end-spec : {M : Type 1} → statement M
+unfolding numberAt idsEnd
 ids-end-spec =
-    tie.close (tie.spec load-requires mul-result add-result returns)
+    tie.close (tie.spec
+        (λ c κs. right _ (c .before .pre) .front)
+        (λ c. omega (arith, right _ (c .before .before .pre) .ids, c .load .ensures))
+        (λ c. omega (arith, right _ (c .before .before .pre) .ids, c .load .ensures))
+        (λ c. ap (λ (n : ℕ). 80 + n * 32) (c .load .ensures)))

@@ -18,13 +18,6 @@ Inv-loop all i₀ i = pricesRight all ≡ every (λ n. leb n 65535) (tab i (7 - 
 abbrev μ-loop : tie.MeasureT-loop
 μ-loop all i₀ i = 7 - i
 
-loop-holds : tie.Need-loop-holds Inv-loop μ-loop
-unfolding pricesRight
-loop-holds c = refl
-
-load-requires : tie.Need-load-requires Inv-loop μ-loop
-load-requires c κs = omega (arith, c .before .before .before .pre)
-
 returns : tie.Need-returns Inv-loop μ-loop
 unfolding numberAt
 returns c =
@@ -40,10 +33,10 @@ loop-again c =
     at-loop .loop .inv ∙ tab-further _ _ (at-loop .loop .i) 7 (c .before .before .loop-test .taken)
         (le-leb (numberAt (start .args .all .now) (8 + at-loop .loop .i * 8)) 65535 (omega (arith, c .if1 .left, c .before .load .ensures)))
 
-returns-2 : tie.Need-returns-2 Inv-loop μ-loop
-returns-2 c = tab-done _ _ (c .before .loop .i) 7 (omega arith) ∙ sym (c .before .loop .inv)
-
 pub prices-right-spec : {M : Type 1} → statement M
+unfolding pricesRight
 prices-right-spec =
-    tie.close (tie.spec Inv-loop μ-loop loop-holds (λ c. omega arith) (λ c. omega arith) load-requires returns (λ c. omega arith)
-        (λ c. omega arith) loop-again returns-2)
+    tie.close (tie.spec Inv-loop μ-loop (λ c. refl) (λ c. omega arith) (λ c. omega arith)
+        (λ c κs. omega (arith, c .before .before .before .pre))
+        returns (λ c. omega arith) (λ c. omega arith) loop-again
+        (λ c. tab-done _ _ (c .before .loop .i) 7 (omega arith) ∙ sym (c .before .loop .inv)))

@@ -8,10 +8,6 @@ use borrow.Author.Needs.{needs}
 use Rattle.bench_program.proofs.reading.wrong.Statement.{statement}
 use Rattle.bench_program.proofs.reading.wrong.Tie as tie
 
-returns : tie.Need-returns
-unfolding wrong
-returns c = yes _ _ _ (lt-ltb _ 80 (c .if1 .taken)) refl
-
 returns-2 : tie.Need-returns-2
 unfolding wrong numberAt
 returns-2 c = no _ _ _ (le-ltb _ 80 (c .before .before .if1 .left)) (yes _ _ _ (ap not (ne-eqb _ 7 (λ q. c .if2 .taken (c .before .load .ensures ∙ q)))) refl)
@@ -34,5 +30,8 @@ returns-4 c =
     (c .cut-short .ensures)))
 
 pub wrong-spec : {M : Type 1} → statement M
+unfolding wrong
 wrong-spec =
-    tie.close (tie.spec returns (λ c κs. search needs) returns-2 (λ c κs. search needs) returns-3 (λ c κs. search needs) returns-4)
+    tie.close (tie.spec
+        (λ c. yes _ _ _ (lt-ltb _ 80 (c .if1 .taken)) refl)
+        (λ c κs. search needs) returns-2 (λ c κs. search needs) returns-3 (λ c κs. search needs) returns-4)

@@ -35,9 +35,6 @@ reached c = let a = start (c .before) .args in c .running-pair .ensures ∙ runn
 
 -- ---- the needs
 
-starting-pair-requires : tie.Need-starting-pair-requires
-starting-pair-requires c κs = c .before .before .pre .order
-
 running-pair-requires : tie.Need-running-pair-requires
 running-pair-requires c κs = let asked = c .before .before .before .pre in (asked .order, asked .live)
 
@@ -74,5 +71,7 @@ returns-3 c =
 
 pub agree-to-spec : {M : Type 1} → statement M
 agree-to-spec =
-    tie.close (tie.spec starting-pair-requires running-pair-requires (λ c κs. search needs) (λ c κs. search needs) returns
-        (λ c κs. search needs) (λ c κs. search needs) returns-2 (λ c κs. search needs) (λ c. search needs) returns-3)
+    tie.close (tie.spec
+        (λ c κs. c .before .before .pre .order)
+        running-pair-requires (λ c κs. search needs) (λ c κs. search needs) returns (λ c κs. search needs) (λ c κs. search needs) returns-2
+        (λ c κs. search needs) (λ c. search needs) returns-3)

@@ -7,10 +7,6 @@ use borrow.Author.Needs.{needs}
 use Rattle.machine.proofs.closing.same_pair.Statement.{statement}
 use Rattle.machine.proofs.closing.same_pair.Tie as tie
 
-returns : tie.Need-returns
-unfolding samePair
-returns c = no _ _ _ (ne-eqb _ _ (c .if1 .taken)) refl
-
 returns-2 : tie.Need-returns-2
 unfolding samePair
 returns-2 c =
@@ -18,5 +14,8 @@ returns-2 c =
     yes _ _ _ (eq-eqb _ _ (roots .before .before .if1 .left)) (c .same .ensures)
 
 pub same-pair-spec : {M : Type 1} → statement M
+unfolding samePair
 same-pair-spec =
-    tie.close (tie.spec returns (λ c. search needs) (λ c. search needs) (λ c κs. search needs) returns-2)
+    tie.close (tie.spec
+        (λ c. no _ _ _ (ne-eqb _ _ (c .if1 .taken)) refl)
+        (λ c. search needs) (λ c. search needs) (λ c κs. search needs) returns-2)

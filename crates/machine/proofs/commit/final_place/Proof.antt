@@ -4,10 +4,7 @@ use Rattle.host.specs.With.{withSize, withSlots}
 use Rattle.machine.proofs.commit.final_place.Statement.{statement}
 use Rattle.machine.proofs.commit.final_place.Tie as tie
 
-returns : tie.Need-returns
-unfolding withSlots withSize
-returns c = refl
-
 pub final-place-spec : {M : Type 1} → statement M
+unfolding withSlots withSize
 final-place-spec =
-    tie.close (tie.spec returns)
+    tie.close (tie.spec (λ c. refl))

@@ -6,12 +6,6 @@ use Rattle.machine.proofs.Laws.Filled.{final-made}
 use Rattle.machine.proofs.commit.final_slots.Statement.{statement}
 use Rattle.machine.proofs.commit.final_slots.Tie as tie
 
-marked-requires : tie.Need-marked-requires
-marked-requires c κs = c .slots-taken .ensures .1
-
-first-requires : tie.Need-first-requires
-first-requires c κs = c .before .count .ensures .1
-
 returns : tie.Need-returns
 returns c =
     let at-count = c .before .before .before in
@@ -26,5 +20,6 @@ returns c =
 
 pub final-slots-spec : {M : Type 1} → statement M
 final-slots-spec =
-    tie.close (tie.spec (λ c κs. tt) (λ c κs. tt) (λ c κs. search needs) marked-requires (λ c κs. search needs) first-requires
+    tie.close (tie.spec (λ c κs. tt) (λ c κs. tt) (λ c κs. search needs) (λ c κs. c .slots-taken .ensures .1) (λ c κs. search needs)
+        (λ c κs. c .before .count .ensures .1)
         (λ c. search needs) (λ c κs. search needs) returns)

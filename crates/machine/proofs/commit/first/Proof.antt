@@ -18,9 +18,6 @@ Inv-loop n slots after₀ i₀ after i = (i ≤ n) × (after ≡ put after₀ 0 
 abbrev μ-loop : tie.MeasureT-loop
 μ-loop n slots after₀ i₀ after i = n - i
 
-loop-holds : tie.Need-loop-holds Inv-loop μ-loop
-loop-holds c = (omega arith, sym (put-nil _ _))
-
 loop-again : tie.Need-loop-again Inv-loop μ-loop
 loop-again c =
     let l = c .before .loop in
@@ -41,5 +38,6 @@ returns c =
 
 pub first-spec : {M : Type 1} → statement M
 first-spec =
-    tie.close (tie.spec Inv-loop μ-loop loop-holds (λ c. omega arith) (λ c. omega arith) (λ c. omega arith) (λ c. omega arith) loop-again
-        returns)
+    tie.close (tie.spec Inv-loop μ-loop
+        (λ c. (omega arith, sym (put-nil _ _)))
+        (λ c. omega arith) (λ c. omega arith) (λ c. omega arith) (λ c. omega arith) loop-again returns)

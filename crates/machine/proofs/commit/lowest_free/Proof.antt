@@ -16,9 +16,6 @@ Inv-loop disk flags i₀ i = (i ≤ disk) × (lowest (unmarked flags) 0 disk ≡
 abbrev μ-loop : tie.MeasureT-loop
 μ-loop disk flags i₀ i = disk - i
 
-loop-holds : tie.Need-loop-holds Inv-loop μ-loop
-loop-holds c = (omega arith, ap (lowest _ 0) (sym (sub-zero _)))
-
 returns : tie.Need-returns Inv-loop μ-loop
 returns c =
     let l = c .before .before .loop in
@@ -39,4 +36,6 @@ returns-2 c =
 
 pub lowest-free-spec : {M : Type 1} → statement M
 lowest-free-spec =
-    tie.close (tie.spec Inv-loop μ-loop loop-holds (λ c. omega arith) returns (λ c. omega arith) (λ c. omega arith) loop-again returns-2)
+    tie.close (tie.spec Inv-loop μ-loop
+        (λ c. (omega arith, ap (lowest _ 0) (sym (sub-zero _))))
+        (λ c. omega arith) returns (λ c. omega arith) (λ c. omega arith) loop-again returns-2)

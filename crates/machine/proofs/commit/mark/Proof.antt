@@ -6,9 +6,8 @@ use borrow.Author.Needs.{needs}
 use Rattle.machine.proofs.commit.mark.Statement.{statement}
 use Rattle.machine.proofs.commit.mark.Tie as tie
 
-returns : tie.Need-returns
-returns c = sym (set-out _ _ _ (omega (arith, c .before .good .0 .1 .0 .1)))
-
 pub mark-spec : {M : Type 1} → statement M
 mark-spec =
-    tie.close (tie.spec returns (λ c. search needs) (λ c. search needs))
+    tie.close (tie.spec
+        (λ c. sym (set-out _ _ _ (omega (arith, c .before .good .0 .1 .0 .1))))
+        (λ c. search needs) (λ c. search needs))

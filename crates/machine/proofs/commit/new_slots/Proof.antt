@@ -14,12 +14,6 @@ Inv-loop disk from end used₀ after₀ i₀ used after i = put after₀ from (n
 abbrev μ-loop : tie.MeasureT-loop
 μ-loop disk from end used₀ after₀ i₀ used after i = end - i
 
-lowest-free-requires : tie.Need-lowest-free-requires Inv-loop μ-loop
-lowest-free-requires c κs = c .before .before .pre .0
-
-cast-after : tie.Need-cast-after Inv-loop μ-loop
-cast-after c = omega (arith, c .before .lowest-free .ensures .1)
-
 loop-again : tie.Need-loop-again Inv-loop μ-loop
 loop-again c =
     let l = c .before .before .before .loop in
@@ -32,5 +26,6 @@ returns c =
 
 pub new-slots-spec : {M : Type 1} → statement M
 new-slots-spec =
-    tie.close (tie.spec Inv-loop μ-loop (λ c. refl) lowest-free-requires (λ c κs. tt) cast-after (λ c. omega arith) (λ c. omega arith)
-        (λ c. omega arith) loop-again returns)
+    tie.close (tie.spec Inv-loop μ-loop (λ c. refl) (λ c κs. c .before .before .pre .0) (λ c κs. tt)
+        (λ c. omega (arith, c .before .lowest-free .ensures .1))
+        (λ c. omega arith) (λ c. omega arith) (λ c. omega arith) loop-again returns)

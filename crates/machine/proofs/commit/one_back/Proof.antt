@@ -7,12 +7,6 @@ use borrow.Author.Needs.{needs}
 use Rattle.machine.proofs.commit.one_back.Statement.{statement}
 use Rattle.machine.proofs.commit.one_back.Tie as tie
 
-returns : tie.Need-returns
-returns c = sym (laid-none _ _ _ _ _ (eq-eqb _ _ (c .if1 .taken)))
-
-mul-copy-between : tie.Need-mul-copy-between
-mul-copy-between c = omega (arith, c .before .before .before .pre .source (ne-eqb _ 255 (c .if1 .left)))
-
 mul-copy-between-2 : tie.Need-mul-copy-between-2
 mul-copy-between-2 c = let test = c .before in omega (arith, test .before .before .before .pre .target (ne-eqb _ 255 (test .if1 .left)))
 
@@ -29,4 +23,7 @@ returns-2 c =
 
 pub one-back-spec : {M : Type 1} → statement M
 one-back-spec =
-    tie.close (tie.spec returns mul-copy-between mul-copy-between-2 copy-between-requires (λ c. search needs) returns-2)
+    tie.close (tie.spec
+        (λ c. sym (laid-none _ _ _ _ _ (eq-eqb _ _ (c .if1 .taken))))
+        (λ c. omega (arith, c .before .before .before .pre .source (ne-eqb _ 255 (c .if1 .left))))
+        mul-copy-between-2 copy-between-requires (λ c. search needs) returns-2)

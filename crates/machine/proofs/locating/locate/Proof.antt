@@ -18,9 +18,6 @@ returns : tie.Need-returns
 unfolding locatedBy
 returns c = yes _ _ _ (ap not (sym (c .before .before .in-order .ensures)) ∙ c .before .if1 .taken) (c .not-located .ensures)
 
-sought-requires : tie.Need-sought-requires
-sought-requires c κs = in-order c
-
 returns-2 : tie.Need-returns-2
 unfolding locatedBy rootOf rootBy settingBy
 returns-2 c =
@@ -29,4 +26,4 @@ returns-2 c =
 
 pub locate-spec : {M : Type 1} → statement M
 locate-spec =
-    tie.close (tie.spec (λ c κs. tt) (λ c κs. search needs) returns sought-requires (λ c κs. search needs) returns-2)
+    tie.close (tie.spec (λ c κs. tt) (λ c κs. search needs) returns (λ c κs. in-order c) (λ c κs. search needs) returns-2)

@@ -7,10 +7,6 @@ use Rattle.machine_rules.specs.declared.Located.{Located}
 use Rattle.machine.proofs.locating.located_at.Statement.{statement}
 use Rattle.machine.proofs.locating.located_at.Tie as tie
 
-returns : tie.Need-returns
-unfolding locatedAt
-returns c = c .not-located .ensures ∙ sym (ap locatedAt (c .before .enum-told .given .1))
-
 returns-2 : tie.Need-returns-2
 unfolding locatedAt
 returns-2 c =
@@ -20,5 +16,8 @@ returns-2 c =
     ap answer (c .is-staged .ensures) ∙ sym (ap locatedAt (at-seat .sought .given .1))
 
 pub located-at-spec : {M : Type 1} → statement M
+unfolding locatedAt
 located-at-spec =
-    tie.close (tie.spec (λ c. search needs) (λ c. search needs) (λ c κs. search needs) returns (λ c κs. search needs) returns-2)
+    tie.close (tie.spec (λ c. search needs) (λ c. search needs) (λ c κs. search needs)
+        (λ c. c .not-located .ensures ∙ sym (ap locatedAt (c .before .enum-told .given .1)))
+        (λ c κs. search needs) returns-2)

@@ -7,13 +7,12 @@ use borrow.Author.Needs.{needs}
 use Rattle.machine.proofs.opening.absent.Statement.{statement}
 use Rattle.machine.proofs.opening.absent.Tie as tie
 
-returns : tie.Need-returns
-returns c = no _ _ _ (ap not (sym (c .before .is-read-only .ensures) ∙ c .if1 .taken)) refl
-
 returns-2 : tie.Need-returns-2
 returns-2 c = yes _ _ _ (ap not (sym (c .before .before .before .is-read-only .ensures) ∙ c .before .before .if1 .left))
     (ap (λ (p : Place). not (p .held)) (c .before .place-of .ensures))
 
 pub absent-spec : {M : Type 1} → statement M
 absent-spec =
-    tie.close (tie.spec (λ c κs. search needs) returns (λ c κs. search needs) returns-2)
+    tie.close (tie.spec (λ c κs. search needs)
+        (λ c. no _ _ _ (ap not (sym (c .before .is-read-only .ensures) ∙ c .if1 .taken)) refl)
+        (λ c κs. search needs) returns-2)

@@ -6,14 +6,9 @@ use Rattle.machine_rules.specs.Calls.{roomRight}
 use Rattle.machine.proofs.opening.room_right.Statement.{statement}
 use Rattle.machine.proofs.opening.room_right.Tie as tie
 
-returns : tie.Need-returns
-unfolding roomRight
-returns c = no _ _ _ (lt-leb _ _ (c .if1 .taken)) refl
-
-returns-2 : tie.Need-returns-2
-unfolding roomRight
-returns-2 c = yes _ _ _ (le-leb _ _ (c .if1 .left)) refl
-
 pub room-right-spec : {M : Type 1} → statement M
+unfolding roomRight
 room-right-spec =
-    tie.close (tie.spec returns returns-2)
+    tie.close (tie.spec
+        (λ c. no _ _ _ (lt-leb _ _ (c .if1 .taken)) refl)
+        (λ c. yes _ _ _ (le-leb _ _ (c .if1 .left)) refl))

@@ -4,10 +4,7 @@ use Rattle.host.specs.Empty.{started}
 use Rattle.machine.proofs.opening.started.Statement.{statement}
 use Rattle.machine.proofs.opening.started.Tie as tie
 
-returns : tie.Need-returns
-unfolding started
-returns c = refl
-
 pub started-spec : {M : Type 1} → statement M
+unfolding started
 started-spec =
-    tie.close (tie.spec returns)
+    tie.close (tie.spec (λ c. refl))

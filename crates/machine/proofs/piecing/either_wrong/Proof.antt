@@ -5,12 +5,11 @@ use borrow.Author.Needs.{needs}
 use Rattle.machine.proofs.piecing.either_wrong.Statement.{statement}
 use Rattle.machine.proofs.piecing.either_wrong.Tie as tie
 
-returns : tie.Need-returns
-returns c = wrong-first _ _ _ (sym (c .before .wrong .ensures) ∙ c .if1 .taken)
-
 returns-2 : tie.Need-returns-2
 returns-2 c = c .wrong2 .ensures ∙ wrong-second _ _ _ (sym (c .before .before .wrong .ensures) ∙ c .before .if1 .left)
 
 pub either-wrong-spec : {M : Type 1} → statement M
 either-wrong-spec =
-    tie.close (tie.spec (λ c κs. search needs) returns (λ c κs. search needs) returns-2)
+    tie.close (tie.spec (λ c κs. search needs)
+        (λ c. wrong-first _ _ _ (sym (c .before .wrong .ensures) ∙ c .if1 .taken))
+        (λ c κs. search needs) returns-2)

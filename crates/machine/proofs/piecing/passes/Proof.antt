@@ -4,9 +4,6 @@ use borrow.Author.Needs.{needs}
 use Rattle.machine.proofs.piecing.passes.Statement.{statement}
 use Rattle.machine.proofs.piecing.passes.Tie as tie
 
-returns : tie.Need-returns
-returns c = rest-less _ _ _ (c .pre)
-
 pub passes-spec : {M : Type 1} → statement M
 passes-spec =
-    tie.close (tie.spec (λ c. search needs) returns)
+    tie.close (tie.spec (λ c. search needs) (λ c. rest-less _ _ _ (c .pre)))

@@ -7,15 +7,9 @@ use Rattle.machine_step.proofs.Laws.Hosts.{running-any}
 use Rattle.machine.proofs.reaching.reach.Statement.{statement}
 use Rattle.machine.proofs.reaching.reach.Tie as tie
 
-starting-pair-requires : tie.Need-starting-pair-requires
-starting-pair-requires c κs = c .before .before .before .pre .0
-
 returns : tie.Need-returns
 unfolding reachedPairBy
 returns c = ap (reachedAt 0) (c .before .starting-pair .ensures ∙ yes _ _ _ (c .before .before .if1 .taken) refl)
-
-running-pair-requires : tie.Need-running-pair-requires
-running-pair-requires c κs = c .before .before .before .pre
 
 returns-2 : tie.Need-returns-2
 unfolding reachedPairBy
@@ -26,4 +20,8 @@ returns-2 c =
 
 pub reach-spec : {M : Type 1} → statement M
 reach-spec =
-    tie.close (tie.spec starting-pair-requires returns running-pair-requires returns-2)
+    tie.close (tie.spec
+        (λ c κs. c .before .before .before .pre .0)
+        returns
+        (λ c κs. c .before .before .before .pre)
+        returns-2)

@@ -4,10 +4,7 @@ use Rattle.machine_rules.specs.Calls.{noPair}
 use Rattle.machine.proofs.reaching.unreached.Statement.{statement}
 use Rattle.machine.proofs.reaching.unreached.Tie as tie
 
-returns : tie.Need-returns
-unfolding noPair
-returns c = refl
-
 pub unreached-spec : {M : Type 1} → statement M
+unfolding noPair
 unreached-spec =
-    tie.close (tie.spec returns)
+    tie.close (tie.spec (λ c. refl))

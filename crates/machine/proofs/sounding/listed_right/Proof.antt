@@ -21,9 +21,6 @@ all-right-requires c κs =
     let at-items = c .before in let start = at-items .before .before .before in
     start .pre .1
 
-returns : tie.Need-returns
-returns c = c .all-right .ensures
-
 pub listed-right-spec : {M : Type 1} → statement M
 listed-right-spec =
-    tie.close (tie.spec array-share-prefix-items slice-aggregate-all-right all-right-requires returns)
+    tie.close (tie.spec array-share-prefix-items slice-aggregate-all-right all-right-requires (λ c. c .all-right .ensures))

@@ -6,17 +6,14 @@ use Rattle.machine.proofs.Laws.Beside.{beside-holds}
 use Rattle.machine.proofs.sounding.position_right.Statement.{statement}
 use Rattle.machine.proofs.sounding.position_right.Tie as tie
 
-returns : tie.Need-returns
-returns c = yes _ _ _ (eq-eqb _ _ (c .if1 .taken)) refl
-
 slot-right-requires : tie.Need-slot-right-requires
 slot-right-requires c κs =
     let s = c .before .before .before in
     (s .pre .size, beside-holds _ _ _ (s .args .slot) (s .pre) (c .if1 .left))
 
-returns-2 : tie.Need-returns-2
-returns-2 c = no _ _ _ (ne-eqb _ _ (c .before .if1 .left)) (c .slot-right .ensures)
-
 pub position-right-spec : {M : Type 1} → statement M
 position-right-spec =
-    tie.close (tie.spec returns slot-right-requires returns-2)
+    tie.close (tie.spec
+        (λ c. yes _ _ _ (eq-eqb _ _ (c .if1 .taken)) refl)
+        slot-right-requires
+        (λ c. no _ _ _ (ne-eqb _ _ (c .before .if1 .left)) (c .slot-right .ensures)))

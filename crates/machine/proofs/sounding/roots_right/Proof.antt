@@ -54,10 +54,6 @@ listed-right-requires c κs =
     let beside = disk-beside h _ _ (s .pre .0) (s .pre .1) (disk-rooted h _ (s .good .0)) in
     (all .1, subst (Beside (h .sector) (s .args .disk .now) (h .diskroots)) (sym (all .0)) beside)
 
-returns : tie.Need-returns
-unfolding rootsRight
-returns c = no _ _ _ (disk-told (c .before) ∙ not-true _ (c .if1 .taken)) refl
-
 returns-2 : tie.Need-returns-2
 unfolding rootsRight
 returns-2 c =
@@ -94,6 +90,8 @@ returns-3 c =
     yes _ _ _ (disk-told (at-if1 .before) ∙ not-false _ (at-if1 .if1 .left)) (no _ _ _ (at-if2 .if2 .left) (c .all-right .ensures))
 
 pub roots-right-spec : {M : Type 1} → statement M
+unfolding rootsRight
 roots-right-spec =
-    tie.close (tie.spec slots-taken-requires slice-aggregate-listed-right listed-right-requires returns returns-2 slice-aggregate-all-right
-        slice-aggregate-all-right-2 all-right-requires returns-3)
+    tie.close (tie.spec slots-taken-requires slice-aggregate-listed-right listed-right-requires
+        (λ c. no _ _ _ (disk-told (c .before) ∙ not-true _ (c .if1 .taken)) refl)
+        returns-2 slice-aggregate-all-right slice-aggregate-all-right-2 all-right-requires returns-3)

@@ -10,15 +10,14 @@ sector-root-requires : tie.Need-sector-root-requires
 unfolding lies
 sector-root-requires c κs = let s = c .before .before in (s .pre .0, s .pre .1 .0)
 
-kept-root-requires : tie.Need-kept-root-requires
-unfolding lies
-kept-root-requires c κs = c .before .before .before .pre .1 .1
-
 returns : tie.Need-returns
 returns c =
     let kept = c .before .before in
     c .same .ensures ∙ right-is _ _ _ _ (kept .kept-root .ensures .0) (kept .before .sector-root .ensures)
 
 pub slot-right-spec : {M : Type 1} → statement M
+unfolding lies
 slot-right-spec =
-    tie.close (tie.spec sector-root-requires kept-root-requires (λ c. search needs) (λ c κs. search needs) returns)
+    tie.close (tie.spec sector-root-requires
+        (λ c κs. c .before .before .before .pre .1 .1)
+        (λ c. search needs) (λ c κs. search needs) returns)

@@ -28,19 +28,12 @@ areas c = sym (c .areas-right .ensures)
 
 -- ---- the needs
 
-returns : tie.Need-returns
-unfolding sounded
-returns c = yes _ _ _ (ap not (sym (c .before .in-order .ensures)) ∙ c .if1 .taken) refl
-
 areas-right-requires : tie.Need-areas-right-requires
 areas-right-requires c κs = let o = order-facts _ (in-order c) in (o .size, (o .diskMost, omega (arith, o .stageMost)))
 
 returns-2 : tie.Need-returns-2
 unfolding sounded
 returns-2 c = no _ _ _ (ap not (in-order (c .before .before))) (yes _ _ _ (ap not (areas (c .before)) ∙ c .if2 .taken) refl)
-
-roots-right-requires : tie.Need-roots-right-requires
-roots-right-requires c κs = (in-order (c .before .before), areas (c .before) ∙ not-false _ (c .if2 .left))
 
 returns-3 : tie.Need-returns-3
 unfolding sounded
@@ -50,5 +43,10 @@ returns-3 c =
     (no _ _ _ (ap not (areas (at-if2 .before)) ∙ at-if2 .if2 .left) (ap (soundedAt 0) (c .roots-right .ensures)))
 
 pub sound-spec : {M : Type 1} → statement M
+unfolding sounded
 sound-spec =
-    tie.close (tie.spec (λ c κs. tt) returns areas-right-requires returns-2 roots-right-requires returns-3)
+    tie.close (tie.spec (λ c κs. tt)
+        (λ c. yes _ _ _ (ap not (sym (c .before .in-order .ensures)) ∙ c .if1 .taken) refl)
+        areas-right-requires returns-2
+        (λ c κs. (in-order (c .before .before), areas (c .before) ∙ not-false _ (c .if2 .left)))
+        returns-3)

@@ -28,14 +28,6 @@ rehash-new-requires c κs =
     let at-match-keys6 = c .before .before in let s = at-match-keys6 .before .before .before in
     (s .pre .whole, asked-new (s .pre) (c .before .enum-told6 .given .1))
 
-returns : tie.Need-returns
-unfolding touched rehashed
-returns c = arm _ _ _ _ _ (c .enum-told .given .1) refl
-
-returns-2 : tie.Need-returns-2
-unfolding touched rehashed
-returns-2 c = arm _ _ _ _ _ (c .enum-told2 .given .1) refl
-
 returns-3 : tie.Need-returns-3
 unfolding touched
 returns-3 c =
@@ -62,13 +54,13 @@ returns-6 c =
     let told = at-enum-told6 .enum-told6 .given .1 in
     arm _ _ _ _ _ told (new-laid _ _ _ _ _ (s .pre .new told) (at-rehash-new .rehash-new .ensures))
 
-returns-7 : tie.Need-returns-7
-unfolding touched rehashed
-returns-7 c = arm _ _ _ _ _ (c .enum-told7 .given .1) refl
-
 pub rehash-spec : {M : Type 1} → statement M
+unfolding touched rehashed
 rehash-spec =
     tie.close (tie.spec (λ c. search needs) (λ c. search needs) (λ c. search needs) (λ c. search needs) rehash-one-requires
         (λ c. search needs) (λ c. search needs) rehash-one-requires-2 (λ c. search needs) (λ c. search needs) (λ c. search needs)
-        rehash-two-requires (λ c. search needs) rehash-new-requires (λ c. search needs) returns returns-2 (λ c. search needs) returns-3
-        (λ c. search needs) returns-4 (λ c. search needs) returns-5 (λ c. search needs) returns-6 returns-7)
+        rehash-two-requires (λ c. search needs) rehash-new-requires (λ c. search needs)
+        (λ c. arm _ _ _ _ _ (c .enum-told .given .1) refl)
+        (λ c. arm _ _ _ _ _ (c .enum-told2 .given .1) refl)
+        (λ c. search needs) returns-3 (λ c. search needs) returns-4 (λ c. search needs) returns-5 (λ c. search needs) returns-6
+        (λ c. arm _ _ _ _ _ (c .enum-told7 .given .1) refl))

@@ -10,12 +10,6 @@ use Rattle.machine_effect.proofs.Laws.KeptRoots.{root-laid}
 use Rattle.machine_effect.proofs.rehashing.rehash_new.Statement.{statement}
 use Rattle.machine_effect.proofs.rehashing.rehash_new.Tie as tie
 
-returns : tie.Need-returns
-returns c = no _ _ _ (le-ltb _ _ (c .if1 .taken)) refl
-
-slot-of-requires : tie.Need-slot-of-requires
-slot-of-requires c κs = c .before .before .pre .1 (c .if1 .left) .entry
-
 mul-copy-between : tie.Need-mul-copy-between
 mul-copy-between c =
     let at-slot = c .before .before .before in
@@ -39,5 +33,8 @@ returns-2 c =
 
 pub rehash-new-spec : {M : Type 1} → statement M
 rehash-new-spec =
-    tie.close (tie.spec returns (λ c. search needs) slot-of-requires (λ c κs. search needs) (λ c. search needs) mul-copy-between
-        copy-between-requires (λ c. search needs) returns-2)
+    tie.close (tie.spec
+        (λ c. no _ _ _ (le-ltb _ _ (c .if1 .taken)) refl)
+        (λ c. search needs)
+        (λ c κs. c .before .before .pre .1 (c .if1 .left) .entry)
+        (λ c κs. search needs) (λ c. search needs) mul-copy-between copy-between-requires (λ c. search needs) returns-2)

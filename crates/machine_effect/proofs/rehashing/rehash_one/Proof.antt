@@ -6,15 +6,6 @@ use Rattle.machine_effect.proofs.Laws.Asked.{slot-lies}
 use Rattle.machine_effect.proofs.rehashing.rehash_one.Statement.{statement}
 use Rattle.machine_effect.proofs.rehashing.rehash_one.Tie as tie
 
-mul-from : tie.Need-mul-from
-mul-from c = omega (arith, slot-lies _ _ _ _ (c .slot-of .ensures) (c .before .before .before .pre .1))
-
-add-root : tie.Need-add-root
-add-root c = omega (arith, slot-lies _ _ _ _ (c .slot-of .ensures) (c .before .before .before .pre .1))
-
-part-root-end : tie.Need-part-root-end
-part-root-end c = omega (arith, slot-lies _ _ _ _ (c .slot-of .ensures) (c .before .before .before .pre .1))
-
 copy-between-requires : tie.Need-copy-between-requires
 copy-between-requires c κs =
     let at-root = c .before .before .before in
@@ -35,5 +26,9 @@ returns c =
 
 pub rehash-one-spec : {M : Type 1} → statement M
 rehash-one-spec =
-    tie.close (tie.spec (λ c κs. search needs) mul-from add-root (λ c. search needs) (λ c. search needs) part-root-end
+    tie.close (tie.spec (λ c κs. search needs)
+        (λ c. omega (arith, slot-lies _ _ _ _ (c .slot-of .ensures) (c .before .before .before .pre .1)))
+        (λ c. omega (arith, slot-lies _ _ _ _ (c .slot-of .ensures) (c .before .before .before .pre .1)))
+        (λ c. search needs) (λ c. search needs)
+        (λ c. omega (arith, slot-lies _ _ _ _ (c .slot-of .ensures) (c .before .before .before .pre .1)))
         (λ c κs. search needs) (λ c. search needs) (λ c. search needs) copy-between-requires (λ c. search needs) returns)

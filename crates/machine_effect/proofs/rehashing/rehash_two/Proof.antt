@@ -4,9 +4,6 @@ use Rattle.machine_effect.proofs.Laws.KeptRoots.{two-one, two-both}
 use Rattle.machine_effect.proofs.rehashing.rehash_two.Statement.{statement}
 use Rattle.machine_effect.proofs.rehashing.rehash_two.Tie as tie
 
-returns : tie.Need-returns
-returns c = two-one _ _ _ _ _ (c .if1 .taken) (c .before .before .before .rehash-one .ensures)
-
 returns-2 : tie.Need-returns-2
 returns-2 c =
     let at-rehash-one2 = c .before .before in let test = at-rehash-one2 .before .before in
@@ -14,4 +11,6 @@ returns-2 c =
 
 pub rehash-two-spec : {M : Type 1} → statement M
 rehash-two-spec =
-    tie.close (tie.spec (λ c κs. search needs) (λ c. search needs) returns (λ c κs. search needs) (λ c. search needs) returns-2)
+    tie.close (tie.spec (λ c κs. search needs) (λ c. search needs)
+        (λ c. two-one _ _ _ _ _ (c .if1 .taken) (c .before .before .before .rehash-one .ensures))
+        (λ c κs. search needs) (λ c. search needs) returns-2)

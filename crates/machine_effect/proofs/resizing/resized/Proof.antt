@@ -19,18 +19,10 @@ returns c =
     let at-new-zeros = c .before .before in let then1 = at-new-zeros .before .before in
     yes _ _ _ (lt-ltb _ _ (then1 .if1 .taken)) (at-new-zeros .new-zeros .ensures)
 
-array-write-after : tie.Need-array-write-after
-array-write-after c = c .before .before .before .pre .1 .less (c .if2 .taken)
-
-returns-2 : tie.Need-returns-2
-unfolding resized
-returns-2 c = no _ _ _ (le-ltb _ _ (c .before .if1 .left)) (yes _ _ _ (lt-ltb _ _ (c .if2 .taken)) refl)
-
-returns-3 : tie.Need-returns-3
-unfolding resized
-returns-3 c = no _ _ _ (le-ltb _ _ (c .before .if1 .left)) (no _ _ _ (le-ltb _ _ (c .if2 .left)) refl)
-
 pub resized-spec : {M : Type 1} → statement M
+unfolding resized
 resized-spec =
-    tie.close (tie.spec (λ c. search needs) new-zeros-requires (λ c. search needs) returns (λ c. search needs) array-write-after returns-2
-        returns-3)
+    tie.close (tie.spec (λ c. search needs) new-zeros-requires (λ c. search needs) returns (λ c. search needs)
+        (λ c. c .before .before .before .pre .1 .less (c .if2 .taken))
+        (λ c. no _ _ _ (le-ltb _ _ (c .before .if1 .left)) (yes _ _ _ (lt-ltb _ _ (c .if2 .taken)) refl))
+        (λ c. no _ _ _ (le-ltb _ _ (c .before .if1 .left)) (no _ _ _ (le-ltb _ _ (c .if2 .left)) refl)))

@@ -9,10 +9,6 @@ use Rattle.machine_effect.proofs.Laws.Copies.{copied-old, laid-copy}
 use Rattle.machine_effect.proofs.staging.copied.Statement.{statement}
 use Rattle.machine_effect.proofs.staging.copied.Tie as tie
 
-returns : tie.Need-returns
-unfolding bare
-returns c = sym (copied-old _ _ _ _ (sym (c .before .is-bare .ensures) ∙ not-true _ (c .if1 .taken)))
-
 mul-copy-between : tie.Need-mul-copy-between
 unfolding bare
 mul-copy-between c =
@@ -51,6 +47,9 @@ returns-2 c =
     (at-free-copy .free-copy .ensures) (at-copy-between .copy-between .ensures)
 
 pub copied-spec : {M : Type 1} → statement M
+unfolding bare
 copied-spec =
-    tie.close (tie.spec (λ c κs. search needs) returns (λ c κs. tt) (λ c. search needs) (λ c. search needs) mul-copy-between
-        mul-copy-between-2 copy-between-requires cast-after (λ c. search needs) (λ c. search needs) returns-2)
+    tie.close (tie.spec (λ c κs. search needs)
+        (λ c. sym (copied-old _ _ _ _ (sym (c .before .is-bare .ensures) ∙ not-true _ (c .if1 .taken))))
+        (λ c κs. tt) (λ c. search needs) (λ c. search needs) mul-copy-between mul-copy-between-2 copy-between-requires cast-after
+        (λ c. search needs) (λ c. search needs) returns-2)

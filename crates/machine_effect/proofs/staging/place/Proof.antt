@@ -6,9 +6,6 @@ use Rattle.machine_effect.proofs.Laws.Slots.{place-is}
 use Rattle.machine_effect.proofs.staging.place.Statement.{statement}
 use Rattle.machine_effect.proofs.staging.place.Tie as tie
 
-mul-result : tie.Need-mul-result
-mul-result c = omega (arith, slot-near _ (c .before .pre .0) (c .wide .result) (omega arith))
-
 add-result : tie.Need-add-result
 add-result c = omega (arith, slot-near _ (c .before .pre .0) (c .wide .result) (omega arith), offset-less _ (c .before .pre .0) (c .before .args .at))
 
@@ -17,4 +14,6 @@ returns c = place-is (c .before .args .z) (c .before .args .t2) (c .before .args
 
 pub place-spec : {M : Type 1} → statement M
 place-spec =
-    tie.close (tie.spec (λ c. search needs) (λ c. search needs) (λ c κs. tt) mul-result (λ c. search needs) add-result returns)
+    tie.close (tie.spec (λ c. search needs) (λ c. search needs) (λ c κs. tt)
+        (λ c. omega (arith, slot-near _ (c .before .pre .0) (c .wide .result) (omega arith)))
+        (λ c. search needs) add-result returns)

@@ -9,10 +9,6 @@ use borrow.Author.Needs.{needs}
 use Rattle.machine_inputs.proofs.decoding.data_of.Statement.{statement}
 use Rattle.machine_inputs.proofs.decoding.data_of.Tie as tie
 
-returns : tie.Need-returns
-unfolding dataOf isData
-returns c = no _ _ _ (both-not-left _ _ (lt-leb _ _ (c .if1 .taken))) refl
-
 returns-2 : tie.Need-returns-2
 returns-2 c =
     let at-if1 = c .before .before in
@@ -26,5 +22,8 @@ returns-3 c =
     data-right (s .args .part .now) _ (at-if1 .if1 .left) (c .before .load .ensures) (c .if2 .left)
 
 pub data-of-spec : {M : Type 1} → statement M
+unfolding dataOf isData
 data-of-spec =
-    tie.close (tie.spec returns (λ c. search needs) (λ c κs. search needs) returns-2 returns-3)
+    tie.close (tie.spec
+        (λ c. no _ _ _ (both-not-left _ _ (lt-leb _ _ (c .if1 .taken))) refl)
+        (λ c. search needs) (λ c κs. search needs) returns-2 returns-3)

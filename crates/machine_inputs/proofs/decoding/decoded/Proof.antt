@@ -13,9 +13,6 @@ use borrow.Author.Needs.{needs}
 use Rattle.machine_inputs.proofs.decoding.decoded.Statement.{statement}
 use Rattle.machine_inputs.proofs.decoding.decoded.Tie as tie
 
-enum-told : tie.Need-enum-told
-enum-told c = search needs
-
 read-args-requires : tie.Need-read-args-requires
 unfolding operandsOf
 read-args-requires c κs =
@@ -115,6 +112,6 @@ returns-7 c =
 
 pub decoded-spec : {M : Type 1} → statement M
 decoded-spec =
-    tie.close (tie.spec enum-told read-args-requires (λ c. search needs) read-args-requires-2 (λ c. search needs) write-args-requires
-        (λ c. search needs) span-args-requires (λ c. search needs) span-args-requires-2 (λ c. search needs) size-args-requires
-        (λ c. search needs) (λ c κs. search needs) returns returns-2 returns-3 returns-4 returns-5 returns-6 returns-7)
+    tie.close (tie.spec (λ c. search needs) read-args-requires (λ c. search needs) read-args-requires-2 (λ c. search needs)
+        write-args-requires (λ c. search needs) span-args-requires (λ c. search needs) span-args-requires-2 (λ c. search needs)
+        size-args-requires (λ c. search needs) (λ c κs. search needs) returns returns-2 returns-3 returns-4 returns-5 returns-6 returns-7)

@@ -14,10 +14,6 @@ use borrow.Author.Needs.{needs}
 use Rattle.machine_inputs.proofs.decoding.key_of.Statement.{statement}
 use Rattle.machine_inputs.proofs.decoding.key_of.Tie as tie
 
-returns : tie.Need-returns
-unfolding keyOf isKey
-returns c = no _ _ _ (ne-eqb _ _ (c .if1 .taken)) refl
-
 returns-2 : tie.Need-returns-2
 unfolding keyOf isKey
 returns-2 c =
@@ -27,5 +23,8 @@ returns-2 c =
     (put-part _ _ 0 32 refl (omega arith) (c .before .copy-between .ensures) ∙ part-whole _ 32 (sym long)))
 
 pub key-of-spec : {M : Type 1} → statement M
+unfolding keyOf isKey
 key-of-spec =
-    tie.close (tie.spec returns (λ c. search needs) (λ c κs. search needs) returns-2)
+    tie.close (tie.spec
+        (λ c. no _ _ _ (ne-eqb _ _ (c .if1 .taken)) refl)
+        (λ c. search needs) (λ c κs. search needs) returns-2)

@@ -6,9 +6,7 @@ use borrow.Author.Needs.{needs}
 use Rattle.machine_inputs.proofs.decoding.number_at.Statement.{statement}
 use Rattle.machine_inputs.proofs.decoding.number_at.Tie as tie
 
-returns : tie.Need-returns
-returns c = c .number-of .ensures ∙ ap number (part-is _ _ _ _ refl)
-
 pub number-at-spec : {M : Type 1} → statement M
 number-at-spec =
-    tie.close (tie.spec (λ c. search needs) (λ c. search needs) (λ c. search needs) (λ c. search needs) (λ c κs. search needs) returns)
+    tie.close (tie.spec (λ c. search needs) (λ c. search needs) (λ c. search needs) (λ c. search needs) (λ c κs. search needs)
+        (λ c. c .number-of .ensures ∙ ap number (part-is _ _ _ _ refl)))

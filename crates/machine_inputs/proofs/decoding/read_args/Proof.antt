@@ -29,9 +29,6 @@ number-at-requires c κs =
     let at-three = c .before .before .before in let at-one = at-three .before .before in let s = at-one .before .before in
     ends-within _ (s .args .t2) 3 1 (s .good .1 .0 .1 .0 .1) (s .pre) (omega arith) (omega arith)
 
-enum-told : tie.Need-enum-told
-enum-told c = search needs
-
 returns-2 : tie.Need-returns-2
 unfolding wellFormed three
 returns-2 c =
@@ -69,5 +66,5 @@ returns-4 c =
 pub read-args-spec : {M : Type 1} → statement M
 read-args-spec =
     tie.close (tie.spec (λ c. search needs) (λ c. search needs) (λ c. search needs) key-at-requires (λ c κs. search needs) returns
-        number-at-requires (λ c. search needs) enum-told (λ c κs. search needs) returns-2 number-at-requires-2 (λ c. search needs)
+        number-at-requires (λ c. search needs) (λ c. search needs) (λ c κs. search needs) returns-2 number-at-requires-2 (λ c. search needs)
         (λ c. search needs) (λ c κs. search needs) returns-3 returns-4)

@@ -15,9 +15,6 @@ number-at-requires c κs =
     let s = c .before .before in
     ends-within _ (s .args .t2) 1 0 (s .good .1 .0 .1 .0 .1) (s .pre) (omega arith) (omega arith)
 
-enum-told : tie.Need-enum-told
-enum-told c = search needs
-
 returns : tie.Need-returns
 unfolding wellFormed one
 returns c =
@@ -34,4 +31,5 @@ returns-2 c =
 
 pub size-args-spec : {M : Type 1} → statement M
 size-args-spec =
-    tie.close (tie.spec (λ c. search needs) number-at-requires (λ c. search needs) enum-told (λ c κs. search needs) returns returns-2)
+    tie.close (tie.spec (λ c. search needs) number-at-requires (λ c. search needs) (λ c. search needs) (λ c κs. search needs) returns
+        returns-2)

@@ -16,9 +16,6 @@ number-at-requires c κs =
     let at-one = c .before .before in let s = at-one .before .before in
     ends-within _ (s .args .t2) 3 0 (s .good .1 .0 .1 .0 .1) (s .pre) (omega arith) (omega arith)
 
-enum-told : tie.Need-enum-told
-enum-told c = search needs
-
 returns : tie.Need-returns
 unfolding wellFormed three
 returns c =
@@ -68,6 +65,7 @@ returns-4 c =
 
 pub span-args-spec : {M : Type 1} → statement M
 span-args-spec =
-    tie.close (tie.spec (λ c. search needs) (λ c. search needs) (λ c. search needs) number-at-requires (λ c. search needs) enum-told
-        (λ c κs. search needs) returns number-at-requires-2 (λ c. search needs) (λ c. search needs) (λ c κs. search needs) returns-2
-        number-at-requires-3 (λ c. search needs) (λ c. search needs) (λ c κs. search needs) returns-3 returns-4)
+    tie.close (tie.spec (λ c. search needs) (λ c. search needs) (λ c. search needs) number-at-requires (λ c. search needs)
+        (λ c. search needs) (λ c κs. search needs) returns number-at-requires-2 (λ c. search needs) (λ c. search needs)
+        (λ c κs. search needs) returns-2 number-at-requires-3 (λ c. search needs) (λ c. search needs) (λ c κs. search needs) returns-3
+        returns-4)

@@ -19,9 +19,6 @@ number-at-requires c κs =
     let s = c .before .before .before in
     ends-within _ (s .args .t2) 2 0 (s .good .1 .0 .1 .0 .1) (s .pre) (omega arith) (omega arith)
 
-enum-told : tie.Need-enum-told
-enum-told c = search needs
-
 returns : tie.Need-returns
 unfolding wellFormed two
 returns c =
@@ -69,5 +66,6 @@ returns-3 c =
 
 pub write-args-spec : {M : Type 1} → statement M
 write-args-spec =
-    tie.close (tie.spec (λ c. search needs) (λ c. search needs) number-at-requires (λ c. search needs) enum-told (λ c κs. search needs)
-        returns data-at-requires (λ c. search needs) (λ c. search needs) (λ c κs. search needs) returns-2 add-from returns-3)
+    tie.close (tie.spec (λ c. search needs) (λ c. search needs) number-at-requires (λ c. search needs) (λ c. search needs)
+        (λ c κs. search needs) returns data-at-requires (λ c. search needs) (λ c. search needs) (λ c κs. search needs) returns-2 add-from
+        returns-3)

@@ -6,12 +6,9 @@ use borrow.Author.Needs.{needs}
 use Rattle.machine_inputs.proofs.operands.end_of.Statement.{statement}
 use Rattle.machine_inputs.proofs.operands.end_of.Tie as tie
 
-returns : tie.Need-returns
-returns c = yes _ _ _ (eq-eqb _ _ (c .if1 .taken)) refl
-
-returns-2 : tie.Need-returns-2
-returns-2 c = no _ _ _ (ne-eqb _ _ (c .before .if1 .left)) refl
-
 pub end-of-spec : {M : Type 1} → statement M
 end-of-spec =
-    tie.close (tie.spec returns (λ c. search needs) returns-2)
+    tie.close (tie.spec
+        (λ c. yes _ _ _ (eq-eqb _ _ (c .if1 .taken)) refl)
+        (λ c. search needs)
+        (λ c. no _ _ _ (ne-eqb _ _ (c .before .if1 .left)) refl))

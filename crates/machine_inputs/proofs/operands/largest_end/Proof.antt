@@ -21,9 +21,6 @@ Inv-loop declared n list most₀ i₀ most i = (i ≤ n) × (some (endsPast decl
 abbrev μ-loop : tie.MeasureT-loop
 μ-loop declared n list most₀ i₀ most i = n - i
 
-loop-holds : tie.Need-loop-holds Inv-loop μ-loop
-loop-holds c = (omega arith, c .pre .1, largest-first (c .args .t2) (c .args .n))
-
 end-of-requires : tie.Need-end-of-requires Inv-loop μ-loop
 end-of-requires c κs =
     let at-loop = c .before .before in
@@ -56,5 +53,6 @@ returns c =
 
 pub largest-end-spec : {M : Type 1} → statement M
 largest-end-spec =
-    tie.close (tie.spec Inv-loop μ-loop loop-holds (λ c. search needs) (λ c. omega arith) end-of-requires (λ c κs. tt) (λ c. search needs)
-        (λ c. omega arith) loop-again returns)
+    tie.close (tie.spec Inv-loop μ-loop
+        (λ c. (omega arith, c .pre .1, largest-first (c .args .t2) (c .args .n)))
+        (λ c. search needs) (λ c. omega arith) end-of-requires (λ c κs. tt) (λ c. search needs) (λ c. omega arith) loop-again returns)

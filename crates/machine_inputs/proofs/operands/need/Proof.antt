@@ -10,10 +10,6 @@ use borrow.Author.Needs.{needs}
 use Rattle.machine_inputs.proofs.operands.need.Statement.{statement}
 use Rattle.machine_inputs.proofs.operands.need.Tie as tie
 
-returns : tie.Need-returns
-unfolding need
-returns c = yes _ _ _ (sym (c .before .ill-formed .ensures) ∙ c .if1 .taken) refl
-
 returns-2 : tie.Need-returns-2
 unfolding need
 returns-2 c =
@@ -47,6 +43,8 @@ returns-3 c =
     (c .before .listed .ensures .0))))
 
 pub need-spec : {M : Type 1} → statement M
+unfolding need
 need-spec =
-    tie.close (tie.spec (λ c κs. search needs) returns (λ c κs. search needs) returns-2 (λ c κs. search needs) largest-end-requires
-        returns-3)
+    tie.close (tie.spec (λ c κs. search needs)
+        (λ c. yes _ _ _ (sym (c .before .ill-formed .ensures) ∙ c .if1 .taken) refl)
+        (λ c κs. search needs) returns-2 (λ c κs. search needs) largest-end-requires returns-3)

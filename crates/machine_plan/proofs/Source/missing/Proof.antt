@@ -4,9 +4,7 @@ use borrow.Author.Needs.{needs}
 use Rattle.machine_plan.proofs.Source.missing.Statement.{statement}
 use Rattle.machine_plan.proofs.Source.missing.Tie as tie
 
-returns : tie.Need-returns
-returns c = shows-missing _ (c .no-sectors .ensures)
-
 pub missing-spec : {M : Type 1} → statement M
 missing-spec =
-    tie.close (tie.spec (λ c κs. search needs) returns)
+    tie.close (tie.spec (λ c κs. search needs)
+        (λ c. shows-missing _ (c .no-sectors .ensures)))

@@ -4,9 +4,7 @@ use borrow.Author.Needs.{needs}
 use Rattle.machine_plan.proofs.Source.nothing.Statement.{statement}
 use Rattle.machine_plan.proofs.Source.nothing.Tie as tie
 
-returns : tie.Need-returns
-returns c = shows-seen _ _ (c .no-sectors .ensures)
-
 pub nothing-spec : {M : Type 1} → statement M
 nothing-spec =
-    tie.close (tie.spec (λ c κs. search needs) returns)
+    tie.close (tie.spec (λ c κs. search needs)
+        (λ c. shows-seen _ _ (c .no-sectors .ensures)))

@@ -4,10 +4,7 @@ use Rattle.machine_plan.specs.Weighed.{refused}
 use Rattle.machine_plan.proofs.Weighed.refused.Statement.{statement}
 use Rattle.machine_plan.proofs.Weighed.refused.Tie as tie
 
-returns : tie.Need-returns
-unfolding refused
-returns c = refl
-
 pub refused-spec : {M : Type 1} → statement M
+unfolding refused
 refused-spec =
-    tie.close (tie.spec returns)
+    tie.close (tie.spec (λ c. refl))

@@ -79,10 +79,6 @@ valued c =
 
 -- ---- the needs
 
-returns : tie.Need-returns
-unfolding argued
-returns c = yes _ _ _ (mode (c .before .before) ∙ c .before .if1 .taken) (c .failed .ensures)
-
 source-of-requires : tie.Need-source-of-requires
 source-of-requires c κs =
     let else1 = c .before in let at-head = else1 .before .before .before in let s = at-head .before .before .before in
@@ -144,6 +140,8 @@ returns-4 c =
     })))
 
 pub argued-spec : {M : Type 1} → statement M
+unfolding argued
 argued-spec =
-    tie.close (tie.spec (λ c κs. search needs) (λ c κs. search needs) returns source-of-requires (λ c κs. search needs) returns-2
-        weighed-requires (λ c κs. search needs) returns-3 returns-4)
+    tie.close (tie.spec (λ c κs. search needs) (λ c κs. search needs)
+        (λ c. yes _ _ _ (mode (c .before .before) ∙ c .before .if1 .taken) (c .failed .ensures))
+        source-of-requires (λ c κs. search needs) returns-2 weighed-requires (λ c κs. search needs) returns-3 returns-4)

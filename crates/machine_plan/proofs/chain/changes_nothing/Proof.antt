@@ -6,9 +6,6 @@ use borrow.Author.Needs.{needs}
 use Rattle.machine_plan.proofs.chain.changes_nothing.Statement.{statement}
 use Rattle.machine_plan.proofs.chain.changes_nothing.Tie as tie
 
-returns : tie.Need-returns
-returns c = no _ _ _ (sym (c .before .changes .ensures) ∙ not-true _ (c .if1 .taken)) refl
-
 returns-2 : tie.Need-returns-2
 returns-2 c =
     let at-changes = c .before .before in
@@ -16,4 +13,6 @@ returns-2 c =
 
 pub changes-nothing-spec : {M : Type 1} → statement M
 changes-nothing-spec =
-    tie.close (tie.spec (λ c κs. search needs) returns (λ c κs. search needs) returns-2)
+    tie.close (tie.spec (λ c κs. search needs)
+        (λ c. no _ _ _ (sym (c .before .changes .ensures) ∙ not-true _ (c .if1 .taken)) refl)
+        (λ c κs. search needs) returns-2)

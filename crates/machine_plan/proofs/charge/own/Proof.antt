@@ -10,9 +10,6 @@ use borrow.Author.Needs.{needs}
 use Rattle.machine_plan.proofs.charge.own.Statement.{statement}
 use Rattle.machine_plan.proofs.charge.own.Tie as tie
 
-enum-told : tie.Need-enum-told
-enum-told c = search needs
-
 read-price-requires : tie.Need-read-price-requires
 unfolding Small
 read-price-requires c κs =
@@ -118,7 +115,7 @@ returns-7 c =
 
 pub own-spec : {M : Type 1} → statement M
 own-spec =
-    tie.close (tie.spec enum-told read-price-requires (λ c. search needs) read-price-requires-2 (λ c. search needs) write-price-requires
-        (λ c. search needs) read-price-requires-3 write-price-requires-2 (λ c. search needs) (λ c. search needs) read-price-requires-4
-        write-price-requires-3 (λ c. search needs) (λ c. search needs) (λ c. search needs) (λ c. search needs) (λ c. search needs) returns
-        returns-2 returns-3 returns-4 returns-5 returns-6 returns-7)
+    tie.close (tie.spec (λ c. search needs) read-price-requires (λ c. search needs) read-price-requires-2 (λ c. search needs)
+        write-price-requires (λ c. search needs) read-price-requires-3 write-price-requires-2 (λ c. search needs) (λ c. search needs)
+        read-price-requires-4 write-price-requires-3 (λ c. search needs) (λ c. search needs) (λ c. search needs) (λ c. search needs)
+        (λ c. search needs) returns returns-2 returns-3 returns-4 returns-5 returns-6 returns-7)

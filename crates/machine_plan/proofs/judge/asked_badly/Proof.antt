@@ -6,12 +6,9 @@ use borrow.Author.Needs.{needs}
 use Rattle.machine_plan.proofs.judge.asked_badly.Statement.{statement}
 use Rattle.machine_plan.proofs.judge.asked_badly.Tie as tie
 
-returns : tie.Need-returns
-returns c = no _ _ _ (not-true _ (c .if1 .taken)) refl
-
-returns-2 : tie.Need-returns-2
-returns-2 c = yes _ _ _ (not-false _ (c .before .if1 .left)) (c .bad-proof .ensures)
-
 pub asked-badly-spec : {M : Type 1} → statement M
 asked-badly-spec =
-    tie.close (tie.spec returns (λ c κs. search needs) returns-2)
+    tie.close (tie.spec
+        (λ c. no _ _ _ (not-true _ (c .if1 .taken)) refl)
+        (λ c κs. search needs)
+        (λ c. yes _ _ _ (not-false _ (c .before .if1 .left)) (c .bad-proof .ensures)))

@@ -71,10 +71,6 @@ short c u =
 
 -- ---- the needs
 
-returns : tie.Need-returns
-unfolding fitted
-returns c = yes _ _ _ (slots (c .before .before) ∙ c .before .if1 .taken) (c .refused .ensures)
-
 mul-sizes-fit : tie.Need-mul-sizes-fit
 mul-sizes-fit c =
     let else1 = c .before .before .before in let at-too-few = else1 .before in
@@ -96,15 +92,6 @@ returns-3 c =
     no _ _ _ (slots (at-if1 .before) ∙ at-if1 .if1 .left)
     (no _ _ _ (disk at-sizes-fit ∙ at-if2 .if2 .left) (yes _ _ _ (room at-record-above ∙ c .before .if3 .taken) (c .refused3 .ensures)))
 
-mul-count : tie.Need-mul-count
-mul-count c = omega (arith, short (c .before) (c .if3 .left))
-
-add-count : tie.Need-add-count
-add-count c = omega (arith, short (c .before) (c .if3 .left))
-
-add-count-2 : tie.Need-add-count-2
-add-count-2 c = omega (arith, short (c .before) (c .if3 .left))
-
 returns-4 : tie.Need-returns-4
 unfolding fitted recordCount
 returns-4 c =
@@ -122,7 +109,13 @@ returns-4 c =
     })))
 
 pub fitted-spec : {M : Type 1} → statement M
+unfolding fitted
 fitted-spec =
-    tie.close (tie.spec (λ c κs. search needs) (λ c κs. search needs) returns (λ c κs. search needs) mul-sizes-fit (λ c κs. search needs)
-        (λ c κs. search needs) returns-2 (λ c κs. search needs) (λ c κs. search needs) (λ c κs. search needs) (λ c κs. search needs)
-        returns-3 mul-count add-count add-count-2 returns-4)
+    tie.close (tie.spec (λ c κs. search needs) (λ c κs. search needs)
+        (λ c. yes _ _ _ (slots (c .before .before) ∙ c .before .if1 .taken) (c .refused .ensures))
+        (λ c κs. search needs) mul-sizes-fit (λ c κs. search needs) (λ c κs. search needs) returns-2 (λ c κs. search needs)
+        (λ c κs. search needs) (λ c κs. search needs) (λ c κs. search needs) returns-3
+        (λ c. omega (arith, short (c .before) (c .if3 .left)))
+        (λ c. omega (arith, short (c .before) (c .if3 .left)))
+        (λ c. omega (arith, short (c .before) (c .if3 .left)))
+        returns-4)

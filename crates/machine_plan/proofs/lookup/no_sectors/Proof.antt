@@ -5,10 +5,7 @@ use Rattle.area.specs.Area.{tab}
 use Rattle.machine_plan.proofs.lookup.no_sectors.Statement.{statement}
 use Rattle.machine_plan.proofs.lookup.no_sectors.Tie as tie
 
-returns : tie.Need-returns
-unfolding spotsOf tab
-returns c = refl
-
 pub no-sectors-spec : {M : Type 1} → statement M
+unfolding spotsOf tab
 no-sectors-spec =
-    tie.close (tie.spec returns)
+    tie.close (tie.spec (λ c. refl))

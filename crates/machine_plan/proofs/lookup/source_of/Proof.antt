@@ -16,9 +16,6 @@ source-at s o =
     sourceOf (s .args .z) (looking (s .args .places) (s .args .id)) (keptRoot (s .args .diskroots .now) (s .args .stageroots .now)) (s .args .p) o
     (s .args .key)
 
-enum-told : tie.Need-enum-told
-enum-told c = search needs
-
 contract-source-requires : tie.Need-contract-source-requires
 contract-source-requires c κs =
     let at-match = c .before .before in
@@ -72,7 +69,7 @@ returns-7 c =
 
 pub source-of-spec : {M : Type 1} → statement M
 source-of-spec =
-    tie.close (tie.spec enum-told contract-source-requires (λ c. search needs) sector-source-requires (λ c. search needs)
+    tie.close (tie.spec (λ c. search needs) contract-source-requires (λ c. search needs) sector-source-requires (λ c. search needs)
         (λ c κs. search needs) (λ c. search needs) (λ c κs. search needs) (λ c. search needs) (λ c κs. search needs) (λ c. search needs)
         (λ c κs. search needs) (λ c. search needs) (λ c κs. search needs) returns returns-2 returns-3 returns-4 returns-5 returns-6
         returns-7)

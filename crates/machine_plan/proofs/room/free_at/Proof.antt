@@ -7,12 +7,8 @@ use borrow.Author.Needs.{needs}
 use Rattle.machine_plan.proofs.room.free_at.Statement.{statement}
 use Rattle.machine_plan.proofs.room.free_at.Tie as tie
 
-returns : tie.Need-returns
-returns c = (no _ _ _ (ap not (sym (c .before .staged-in .ensures) ∙ c .if1 .taken)) refl, omega arith)
-
-returns-2 : tie.Need-returns-2
-returns-2 c = (yes _ _ _ (ap not (sym (c .before .staged-in .ensures) ∙ c .if1 .left)) refl, omega arith)
-
 pub free-at-spec : {M : Type 1} → statement M
 free-at-spec =
-    tie.close (tie.spec (λ c κs. search needs) returns returns-2)
+    tie.close (tie.spec (λ c κs. search needs)
+        (λ c. (no _ _ _ (ap not (sym (c .before .staged-in .ensures) ∙ c .if1 .taken)) refl, omega arith))
+        (λ c. (yes _ _ _ (ap not (sym (c .before .staged-in .ensures) ∙ c .if1 .left)) refl, omega arith)))

@@ -15,12 +15,6 @@ Inv-loop copies staged free₀ i₀ free i = (free ≤ i) × (i ≤ copies) × (
 abbrev μ-loop : tie.MeasureT-loop
 μ-loop copies staged free₀ i₀ free i = copies - i
 
-loop-holds : tie.Need-loop-holds Inv-loop μ-loop
-loop-holds c = (omega arith, omega arith, count-first (unused (c .args .staged)) (c .args .copies))
-
-add-free : tie.Need-add-free Inv-loop μ-loop
-add-free c = omega (arith, c .free-at .ensures .1)
-
 loop-again : tie.Need-loop-again Inv-loop μ-loop
 loop-again c =
     let at-loop = c .before .before in
@@ -38,4 +32,8 @@ returns c =
 
 pub free-copies-spec : {M : Type 1} → statement M
 free-copies-spec =
-    tie.close (tie.spec Inv-loop μ-loop loop-holds (λ c κs. tt) add-free (λ c. search needs) (λ c. omega arith) loop-again returns)
+    tie.close (tie.spec Inv-loop μ-loop
+        (λ c. (omega arith, omega arith, count-first (unused (c .args .staged)) (c .args .copies)))
+        (λ c κs. tt)
+        (λ c. omega (arith, c .free-at .ensures .1))
+        (λ c. search needs) (λ c. omega arith) loop-again returns)

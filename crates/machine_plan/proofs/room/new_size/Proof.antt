@@ -7,9 +7,6 @@ use borrow.Author.Needs.{needs}
 use Rattle.machine_plan.proofs.room.new_size.Statement.{statement}
 use Rattle.machine_plan.proofs.room.new_size.Tie as tie
 
-enum-told : tie.Need-enum-told
-enum-told c = search needs
-
 returns : tie.Need-returns
 unfolding newSize numbers
 returns c =
@@ -54,5 +51,5 @@ returns-7 c =
 
 pub new-size-spec : {M : Type 1} → statement M
 new-size-spec =
-    tie.close (tie.spec enum-told (λ c. search needs) (λ c. search needs) (λ c. search needs) (λ c. search needs) (λ c. search needs)
-        (λ c. search needs) returns returns-2 returns-3 returns-4 returns-5 returns-6 returns-7)
+    tie.close (tie.spec (λ c. search needs) (λ c. search needs) (λ c. search needs) (λ c. search needs) (λ c. search needs)
+        (λ c. search needs) (λ c. search needs) returns returns-2 returns-3 returns-4 returns-5 returns-6 returns-7)

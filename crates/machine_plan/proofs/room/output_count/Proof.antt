@@ -7,14 +7,9 @@ use borrow.Author.Needs.{needs}
 use Rattle.machine_plan.proofs.room.output_count.Statement.{statement}
 use Rattle.machine_plan.proofs.room.output_count.Tie as tie
 
-returns : tie.Need-returns
-unfolding outputCount numbers
-returns c = yes _ _ _ (sym (c .before .reads .ensures) ∙ c .if1 .taken) refl
-
-returns-2 : tie.Need-returns-2
-unfolding outputCount numbers
-returns-2 c = no _ _ _ (sym (c .before .reads .ensures) ∙ c .if1 .left) refl
-
 pub output-count-spec : {M : Type 1} → statement M
+unfolding outputCount numbers
 output-count-spec =
-    tie.close (tie.spec (λ c κs. search needs) returns returns-2)
+    tie.close (tie.spec (λ c κs. search needs)
+        (λ c. yes _ _ _ (sym (c .before .reads .ensures) ∙ c .if1 .taken) refl)
+        (λ c. no _ _ _ (sym (c .before .reads .ensures) ∙ c .if1 .left) refl))

@@ -9,13 +9,6 @@ use Rattle.machine_plan.proofs.Laws.Numbers.{sectors-many}
 use Rattle.machine_plan.proofs.room.proof_count.Statement.{statement}
 use Rattle.machine_plan.proofs.room.proof_count.Tie as tie
 
-returns : tie.Need-returns
-unfolding proofCount numbers
-returns c = no _ _ _ (not-true _ (c .if1 .taken)) refl
-
-range-count-requires : tie.Need-range-count-requires
-range-count-requires c κs = (c .before .pre .0, (c .before .pre .1 .0, c .before .pre .1 .1 (not-false _ (c .if1 .left))))
-
 returns-2 : tie.Need-returns-2
 unfolding proofCount numbers
 returns-2 c =
@@ -25,5 +18,9 @@ returns-2 c =
     (sym (sectors-many (s .args .seen))))
 
 pub proof-count-spec : {M : Type 1} → statement M
+unfolding proofCount numbers
 proof-count-spec =
-    tie.close (tie.spec returns range-count-requires returns-2)
+    tie.close (tie.spec
+        (λ c. no _ _ _ (not-true _ (c .if1 .taken)) refl)
+        (λ c κs. (c .before .pre .0, (c .before .pre .1 .0, c .before .pre .1 .1 (not-false _ (c .if1 .left)))))
+        returns-2)

@@ -14,9 +14,7 @@ returns c =
     let free = count (unused (a .p .staged)) 0 (a .copies) in
     sym (ap (ltb free) (sym (c .before .wanted .ensures) ∙ c .if1 .taken) ∙ le-ltb free 0 (omega arith))
 
-returns-2 : tie.Need-returns-2
-returns-2 c = ap₂ ltb (c .free-copies .ensures) (c .before .before .before .wanted .ensures)
-
 pub too-few-spec : {M : Type 1} → statement M
 too-few-spec =
-    tie.close (tie.spec (λ c κs. search needs) returns (λ c κs. search needs) returns-2)
+    tie.close (tie.spec (λ c κs. search needs) returns (λ c κs. search needs)
+        (λ c. ap₂ ltb (c .free-copies .ensures) (c .before .before .before .wanted .ensures)))

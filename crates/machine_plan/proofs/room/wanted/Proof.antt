@@ -11,9 +11,6 @@ use borrow.Author.Needs.{needs}
 use Rattle.machine_plan.proofs.room.wanted.Statement.{statement}
 use Rattle.machine_plan.proofs.room.wanted.Tie as tie
 
-enum-told : tie.Need-enum-told
-enum-told c = search needs
-
 returns : tie.Need-returns
 unfolding wanted touched numbers
 returns c =
@@ -65,6 +62,6 @@ returns-7 c =
 
 pub wanted-spec : {M : Type 1} → statement M
 wanted-spec =
-    tie.close (tie.spec enum-told (λ c. search needs) (λ c. search needs) (λ c. search needs) (λ c κs. search needs) (λ c. search needs)
-        (λ c. search needs) (λ c κs. search needs) (λ c. search needs) (λ c κs. search needs) (λ c. search needs) (λ c κs. search needs)
-        (λ c. search needs) returns returns-2 returns-3 returns-4 returns-5 returns-6 returns-7)
+    tie.close (tie.spec (λ c. search needs) (λ c. search needs) (λ c. search needs) (λ c. search needs) (λ c κs. search needs)
+        (λ c. search needs) (λ c. search needs) (λ c κs. search needs) (λ c. search needs) (λ c κs. search needs) (λ c. search needs)
+        (λ c κs. search needs) (λ c. search needs) returns returns-2 returns-3 returns-4 returns-5 returns-6 returns-7)

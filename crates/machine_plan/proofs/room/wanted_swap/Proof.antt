@@ -23,9 +23,6 @@ returns c =
     c .lacks .ensures .0 ∙ one-those (λ at. eqb (getD (s .args .p .staged) at none) none) _
     ∙ ap (λ (l : List ℕ). length (those (λ at. eqb (getD (s .args .p .staged) at none) none) l)) (yes _ _ _ (eq-eqb _ _ (then1 .if1 .taken)) refl)
 
-add-result : tie.Need-add-result
-add-result c = omega (arith, c .before .lacks2 .ensures .1, c .lacks3 .ensures .1)
-
 returns-2 : tie.Need-returns-2
 unfolding wanted touched numbers
 returns-2 c =
@@ -36,4 +33,5 @@ returns-2 c =
 pub wanted-swap-spec : {M : Type 1} → statement M
 wanted-swap-spec =
     tie.close (tie.spec (λ c. search needs) (λ c. search needs) (λ c κs. search needs) returns (λ c κs. search needs) (λ c κs. search needs)
-        add-result returns-2)
+        (λ c. omega (arith, c .before .lacks2 .ensures .1, c .lacks3 .ensures .1))
+        returns-2)

@@ -5,9 +5,6 @@ use borrow.Author.Needs.{needs}
 use Rattle.machine_plan.proofs.spans.bad_pair.Statement.{statement}
 use Rattle.machine_plan.proofs.spans.bad_pair.Tie as tie
 
-returns : tie.Need-returns
-returns c = yes _ _ _ (sym (c .before .bad-span .ensures) ∙ c .if1 .taken) refl
-
 returns-2 : tie.Need-returns-2
 returns-2 c =
     let at-bad-span = c .before .before in
@@ -15,4 +12,6 @@ returns-2 c =
 
 pub bad-pair-spec : {M : Type 1} → statement M
 bad-pair-spec =
-    tie.close (tie.spec (λ c κs. search needs) returns (λ c κs. search needs) returns-2)
+    tie.close (tie.spec (λ c κs. search needs)
+        (λ c. yes _ _ _ (sym (c .before .bad-span .ensures) ∙ c .if1 .taken) refl)
+        (λ c κs. search needs) returns-2)

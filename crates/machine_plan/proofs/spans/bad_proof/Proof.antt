@@ -9,10 +9,6 @@ use borrow.Author.Needs.{needs}
 use Rattle.machine_plan.proofs.spans.bad_proof.Statement.{statement}
 use Rattle.machine_plan.proofs.spans.bad_proof.Tie as tie
 
-returns : tie.Need-returns
-unfolding badProof numbers
-returns c = yes _ _ _ (ap not (sym (c .before .reads .ensures)) ∙ c .if1 .taken) refl
-
 returns-2 : tie.Need-returns-2
 unfolding badProof numbers
 returns-2 c =
@@ -28,5 +24,8 @@ returns-3 c =
     no _ _ _ (ap not (sym (at-reads .reads .ensures)) ∙ at-if1 .if1 .left) (no _ _ _ (ap not (eq-eqb _ _ (c .before .if2 .left))) refl)
 
 pub bad-proof-spec : {M : Type 1} → statement M
+unfolding badProof numbers
 bad-proof-spec =
-    tie.close (tie.spec (λ c κs. search needs) returns returns-2 returns-3)
+    tie.close (tie.spec (λ c κs. search needs)
+        (λ c. yes _ _ _ (ap not (sym (c .before .reads .ensures)) ∙ c .if1 .taken) refl)
+        returns-2 returns-3)

@@ -8,10 +8,6 @@ use borrow.Author.Needs.{needs}
 use Rattle.machine_plan.proofs.spans.bad_size.Statement.{statement}
 use Rattle.machine_plan.proofs.spans.bad_size.Tie as tie
 
-returns : tie.Need-returns
-unfolding badSize
-returns c = yes _ _ _ (ap not (ne-eqb _ _ (c .if1 .taken))) refl
-
 returns-2 : tie.Need-returns-2
 unfolding badSize
 returns-2 c =
@@ -26,5 +22,8 @@ returns-3 c =
     no _ _ _ (ap not (eq-eqb _ _ (at-if1 .if1 .left))) (no _ _ _ (sym (at-far-above .far-above .ensures) ∙ c .before .if2 .left) (c .far-above2 .ensures))
 
 pub bad-size-spec : {M : Type 1} → statement M
+unfolding badSize
 bad-size-spec =
-    tie.close (tie.spec (λ c. search needs) returns (λ c κs. search needs) returns-2 (λ c κs. search needs) returns-3)
+    tie.close (tie.spec (λ c. search needs)
+        (λ c. yes _ _ _ (ap not (ne-eqb _ _ (c .if1 .taken))) refl)
+        (λ c κs. search needs) returns-2 (λ c κs. search needs) returns-3)

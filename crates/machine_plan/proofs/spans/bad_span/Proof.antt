@@ -10,10 +10,6 @@ use borrow.Author.Needs.{needs}
 use Rattle.machine_plan.proofs.spans.bad_span.Statement.{statement}
 use Rattle.machine_plan.proofs.spans.bad_span.Tie as tie
 
-returns : tie.Need-returns
-unfolding badSpan
-returns c = yes _ _ _ (eq-eqb _ _ (c .if1 .taken)) refl
-
 returns-2 : tie.Need-returns-2
 unfolding badSpan
 returns-2 c =
@@ -33,5 +29,8 @@ returns-3 c =
     no _ _ _ (ne-eqb _ _ (at-if1 .if1 .left)) (no _ _ _ (sym (c .before .above .ensures) ∙ c .if2 .left) refl)
 
 pub bad-span-spec : {M : Type 1} → statement M
+unfolding badSpan
 bad-span-spec =
-    tie.close (tie.spec returns (λ c κs. search needs) returns-2 (λ c. search needs) add-result returns-3)
+    tie.close (tie.spec
+        (λ c. yes _ _ _ (eq-eqb _ _ (c .if1 .taken)) refl)
+        (λ c κs. search needs) returns-2 (λ c. search needs) add-result returns-3)

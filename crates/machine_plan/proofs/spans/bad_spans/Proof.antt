@@ -10,9 +10,6 @@ use Rattle.sia.specs.declared.Op.{Op}
 use Rattle.machine_plan.proofs.spans.bad_spans.Statement.{statement}
 use Rattle.machine_plan.proofs.spans.bad_spans.Tie as tie
 
-enum-told : tie.Need-enum-told
-enum-told c = search needs
-
 mul-bad-span : tie.Need-mul-bad-span
 mul-bad-span c = let s = c .before .before in omega (arith, mul-le-mul (s .pre .1) (s .pre .0 .most))
 
@@ -69,6 +66,6 @@ returns-7 c =
 
 pub bad-spans-spec : {M : Type 1} → statement M
 bad-spans-spec =
-    tie.close (tie.spec enum-told mul-bad-span (λ c κs. search needs) (λ c. search needs) mul-bad-span-2 (λ c κs. search needs)
+    tie.close (tie.spec (λ c. search needs) mul-bad-span (λ c κs. search needs) (λ c. search needs) mul-bad-span-2 (λ c κs. search needs)
         (λ c. search needs) (λ c κs. search needs) (λ c. search needs) (λ c κs. search needs) (λ c. search needs) (λ c κs. search needs)
         (λ c. search needs) (λ c κs. search needs) (λ c. search needs) returns returns-2 returns-3 returns-4 returns-5 returns-6 returns-7)

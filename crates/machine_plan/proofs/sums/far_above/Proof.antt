@@ -3,12 +3,6 @@ use Rattle.machine_plan.proofs.Laws.Sums.{not-far, far}
 use Rattle.machine_plan.proofs.sums.far_above.Statement.{statement}
 use Rattle.machine_plan.proofs.sums.far_above.Tie as tie
 
-returns : tie.Need-returns
-returns c = not-far _ _ _ (c .if1 .taken)
-
-returns-2 : tie.Need-returns-2
-returns-2 c = far _ _ _ (c .if1 .left)
-
 pub far-above-spec : {M : Type 1} → statement M
 far-above-spec =
-    tie.close (tie.spec returns returns-2)
+    tie.close (tie.spec (λ c. not-far _ _ _ (c .if1 .taken)) (λ c. far _ _ _ (c .if1 .left)))

@@ -14,9 +14,6 @@ kept-root-requires c κs =
     let at-slots = c .before .before in let s = at-slots .before .before .before in
     seen-lies _ _ _ _ _ (s .pre .0 .spots) (s .pre .1) (c .spot-of .ensures)
 
-copy-between-requires : tie.Need-copy-between-requires
-copy-between-requires c κs = (omega (arith, c .before .kept-root .ensures .1), omega arith)
-
 returns : tie.Need-returns
 returns c =
     let at-kept-root = c .before .before .before in let at-spot = at-kept-root .before in let at-slots = at-spot .before .before in
@@ -27,4 +24,6 @@ returns c =
 
 pub first-root-spec : {M : Type 1} → statement M
 first-root-spec =
-    tie.close (tie.spec (λ c κs. omega arith) kept-root-requires (λ c. search needs) copy-between-requires returns)
+    tie.close (tie.spec (λ c κs. omega arith) kept-root-requires (λ c. search needs)
+        (λ c κs. (omega (arith, c .before .kept-root .ensures .1), omega arith))
+        returns)

@@ -20,9 +20,6 @@ Inv-loop diskroots stageroots slots staged count roots₀ i₀ roots i =
 abbrev μ-loop : tie.MeasureT-loop
 μ-loop diskroots stageroots slots staged count roots₀ i₀ roots i = count - i
 
-loop-holds : tie.Need-loop-holds Inv-loop μ-loop
-loop-holds c = (omega arith, refl, none-gathered _ _)
-
 spot-of-requires : tie.Need-spot-of-requires Inv-loop μ-loop
 spot-of-requires c κs =
     let at-loop = c .before in let at-slots = at-loop .before .before in let start = at-slots .before .before .before in
@@ -88,5 +85,7 @@ returns c =
 
 pub kept-roots-spec : {M : Type 1} → statement M
 kept-roots-spec =
-    tie.close (tie.spec Inv-loop μ-loop loop-holds spot-of-requires kept-root-requires slice-aggregate-copy-between mul-copy-between
-        copy-between-requires add-i loop-less loop-again returns)
+    tie.close (tie.spec Inv-loop μ-loop
+        (λ c. (omega arith, refl, none-gathered _ _))
+        spot-of-requires kept-root-requires slice-aggregate-copy-between mul-copy-between copy-between-requires add-i loop-less loop-again
+        returns)

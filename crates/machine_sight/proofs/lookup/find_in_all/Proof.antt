@@ -6,9 +6,6 @@ use Rattle.machine_sight.proofs.Laws.Lookup.{seeks-none, seats-none}
 use Rattle.machine_sight.proofs.lookup.find_in_all.Statement.{statement}
 use Rattle.machine_sight.proofs.lookup.find_in_all.Tie as tie
 
-find-root-requires : tie.Need-find-root-requires
-find-root-requires c κs = seeks-none _ _ _ (c .before .before .pre) _ _ _
-
 returns : tie.Need-returns
 returns c =
     let s = c .before .before .before in
@@ -17,4 +14,6 @@ returns c =
 
 pub find-in-all-spec : {M : Type 1} → statement M
 find-in-all-spec =
-    tie.close (tie.spec find-root-requires returns)
+    tie.close (tie.spec
+        (λ c κs. seeks-none _ _ _ (c .before .before .pre) _ _ _)
+        returns)

@@ -28,9 +28,6 @@ abbrev μ-loop : tie.MeasureT-loop
 abbrev start : tie.After-staged Inv-loop μ-loop → tie.Start Inv-loop μ-loop
 start c = let at-slices = c .before .before in at-slices .before .before
 
-loop-holds : tie.Need-loop-holds Inv-loop μ-loop
-loop-holds c = position-all _ _ _ _ _
-
 spot-of-requires : tie.Need-spot-of-requires Inv-loop μ-loop
 spot-of-requires c κs =
     let s = start (c .before .before) in
@@ -54,12 +51,6 @@ returns c =
     ∙ position-here f (a .key) (a .place) g (a .seen .count) (l .loop .position) (at-spot .before .loop-test .taken) has
     ∙ sym (l .loop .inv)
 
-add-position : tie.Need-add-position Inv-loop μ-loop
-add-position c = omega (arith, c .before .before .before .loop-test .taken)
-
-loop-less : tie.Need-loop-less Inv-loop μ-loop
-loop-less c = omega (arith, c .before .before .before .loop-test .taken)
-
 loop-again : tie.Need-loop-again Inv-loop μ-loop
 loop-again c =
     let at-spot = c .before .before in
@@ -81,4 +72,7 @@ returns-2 c =
 
 pub first-in-spec : {M : Type 1} → statement M
 first-in-spec =
-    tie.close (tie.spec Inv-loop μ-loop loop-holds spot-of-requires has-root-requires returns add-position loop-less loop-again returns-2)
+    tie.close (tie.spec Inv-loop μ-loop (λ c. position-all _ _ _ _ _) spot-of-requires has-root-requires returns
+        (λ c. omega (arith, c .before .before .before .loop-test .taken))
+        (λ c. omega (arith, c .before .before .before .loop-test .taken))
+        loop-again returns-2)

@@ -4,10 +4,7 @@ use Rattle.machine_rules.specs.Roots.{keptRoot}
 use Rattle.machine_sight.proofs.sector_roots.kept_root.Statement.{statement}
 use Rattle.machine_sight.proofs.sector_roots.kept_root.Tie as tie
 
-returns : tie.Need-returns
-unfolding keptRoot
-returns c = c .sector .ensures
-
 pub kept-root-spec : {M : Type 1} → statement M
+unfolding keptRoot
 kept-root-spec =
-    tie.close (tie.spec (λ c κs. search needs) returns)
+    tie.close (tie.spec (λ c κs. search needs) (λ c. c .sector .ensures))

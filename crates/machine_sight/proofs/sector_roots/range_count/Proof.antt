@@ -8,9 +8,6 @@ use Rattle.machine_rules.specs.Roots.{segments}
 use Rattle.machine_sight.proofs.sector_roots.range_count.Statement.{statement}
 use Rattle.machine_sight.proofs.sector_roots.range_count.Tie as tie
 
-mul-segments : tie.Need-mul-segments
-mul-segments c = omega (arith, segments-few _ (c .pre .0) (c .args .sectors) (omega arith))
-
 add-count : tie.Need-add-count
 add-count c =
     let inside = c .pre .1 .1 .inside in
@@ -29,4 +26,6 @@ returns c =
 
 pub range-count-spec : {M : Type 1} → statement M
 range-count-spec =
-    tie.close (tie.spec mul-segments add-count (λ c κs. search needs) returns)
+    tie.close (tie.spec
+        (λ c. omega (arith, segments-few _ (c .pre .0) (c .args .sectors) (omega arith)))
+        add-count (λ c κs. search needs) returns)

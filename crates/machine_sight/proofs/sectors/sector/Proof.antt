@@ -18,24 +18,6 @@ stage-holds : (c : lts.After-known-told2 reads.Pre reads.Post) → let a = c .be
     c .before .spot2 .given .0 .0 * a .z + a .z ≤ length (a .stage .now)
 stage-holds c = in-stage _ _ _ _ (c .before .spot2 .given .1) (c .before .before .before .pre)
 
-mul-from : tie.Need-mul-from
-mul-from c = omega (arith, disk-holds c)
-
-add-result : tie.Need-add-result
-add-result c = omega (arith, disk-holds c)
-
-part-result-end : tie.Need-part-result-end
-part-result-end c = omega (arith, disk-holds c)
-
-mul-from-2 : tie.Need-mul-from-2
-mul-from-2 c = omega (arith, stage-holds c)
-
-add-result-2 : tie.Need-add-result-2
-add-result-2 c = omega (arith, stage-holds c)
-
-part-result-end-2 : tie.Need-part-result-end-2
-part-result-end-2 c = omega (arith, stage-holds c)
-
 returns : tie.Need-returns
 returns c =
     let at-match-keys1 = c .before .before .before in let start = at-match-keys1 .before in
@@ -48,5 +30,6 @@ returns-2 c =
 
 pub sector-spec : {M : Type 1} → statement M
 sector-spec =
-    tie.close (tie.spec (λ c. search needs) mul-from add-result (λ c. search needs) (λ c. search needs) part-result-end (λ c. search needs)
-        mul-from-2 add-result-2 (λ c. search needs) (λ c. search needs) part-result-end-2 returns returns-2)
+    tie.close (tie.spec (λ c. search needs) (λ c. omega (arith, disk-holds c)) (λ c. omega (arith, disk-holds c)) (λ c. search needs)
+        (λ c. search needs) (λ c. omega (arith, disk-holds c)) (λ c. search needs) (λ c. omega (arith, stage-holds c))
+        (λ c. omega (arith, stage-holds c)) (λ c. search needs) (λ c. search needs) (λ c. omega (arith, stage-holds c)) returns returns-2)

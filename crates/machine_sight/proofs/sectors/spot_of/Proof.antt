@@ -4,12 +4,9 @@ use Rattle.machine_sight.proofs.Laws.Sectors.{spot-disk, spot-stage}
 use Rattle.machine_sight.proofs.sectors.spot_of.Statement.{statement}
 use Rattle.machine_sight.proofs.sectors.spot_of.Tie as tie
 
-returns : tie.Need-returns
-returns c = spot-disk _ _ _ 64 (c .before .good .1 .0 .1 .0 .1) (c .before .pre) (c .if1 .taken)
-
-returns-2 : tie.Need-returns-2
-returns-2 c = spot-stage _ _ _ 64 (c .before .good .1 .0 .1 .0 .1) (c .before .pre) (c .if1 .left)
-
 pub spot-of-spec : {M : Type 1} → statement M
 spot-of-spec =
-    tie.close (tie.spec (λ c. search needs) (λ c. search needs) (λ c. search needs) returns (λ c. search needs) returns-2)
+    tie.close (tie.spec (λ c. search needs) (λ c. search needs) (λ c. search needs)
+        (λ c. spot-disk _ _ _ 64 (c .before .good .1 .0 .1 .0 .1) (c .before .pre) (c .if1 .taken))
+        (λ c. search needs)
+        (λ c. spot-stage _ _ _ 64 (c .before .good .1 .0 .1 .0 .1) (c .before .pre) (c .if1 .left)))

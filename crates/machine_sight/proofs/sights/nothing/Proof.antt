@@ -6,10 +6,7 @@ use Rattle.machine_sight.specs.Seen.{spotsOf}
 use Rattle.machine_sight.proofs.sights.nothing.Statement.{statement}
 use Rattle.machine_sight.proofs.sights.nothing.Tie as tie
 
-returns : tie.Need-returns
-unfolding spotsOf tab
-returns c = (refl, omega arith)
-
 pub nothing-spec : {M : Type 1} → statement M
+unfolding spotsOf tab
 nothing-spec =
-    tie.close (tie.spec returns)
+    tie.close (tie.spec (λ c. (refl, omega arith)))

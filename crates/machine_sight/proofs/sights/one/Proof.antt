@@ -19,20 +19,9 @@ on-disk c = subst Narrow (c .before .spot .given .1) (c .before .before .before 
 in-stage : (c : tie.After-known-told2) → Narrow (InStage (c .before .spot2 .given .0 .0))
 in-stage c = subst Narrow (c .before .spot2 .given .1) (c .before .before .before .pre)
 
-cast-slots : tie.Need-cast-slots
-cast-slots c = omega (arith, on-disk c)
-
-cast-staged : tie.Need-cast-staged
-cast-staged c = omega (arith, in-stage c)
-
-returns : tie.Need-returns
-unfolding spotsOf tab
-returns c = ap (λ (x : Spot). x ∷ []) (one-on-disk _ ∙ sym (c .before .spot .given .1))
-
-returns-2 : tie.Need-returns-2
-unfolding spotsOf tab
-returns-2 c = ap (λ (x : Spot). x ∷ []) (one-in-stage _ 0 (in-stage c) ∙ sym (c .before .spot2 .given .1))
-
 pub one-spec : {M : Type 1} → statement M
+unfolding spotsOf tab
 one-spec =
-    tie.close (tie.spec (λ c. search needs) cast-slots (λ c. search needs) cast-staged returns returns-2)
+    tie.close (tie.spec (λ c. search needs) (λ c. omega (arith, on-disk c)) (λ c. search needs) (λ c. omega (arith, in-stage c))
+        (λ c. ap (λ (x : Spot). x ∷ []) (one-on-disk _ ∙ sym (c .before .spot .given .1)))
+        (λ c. ap (λ (x : Spot). x ∷ []) (one-in-stage _ 0 (in-stage c) ∙ sym (c .before .spot2 .given .1))))

@@ -35,10 +35,8 @@ returns c =
     lay-same _ 0 _ (at-copy-between .copy-between .ensures)
     (part-whole _ _ (sym (read .1)) ∙ read .0 ∙ sym (picks _ _ [] (at-span .before .if1 .taken)))
 
-returns-2 : tie.Need-returns-2
-unfolding shownBytes
-returns-2 c = sym (ap (put _ 0) (skips _ _ [] (c .if1 .left)) ∙ put-nil _ 0)
-
 pub put-bytes-spec : {M : Type 1} → statement M
+unfolding shownBytes
 put-bytes-spec =
-    tie.close (tie.spec span-requires copy-between-requires (λ c. search needs) returns returns-2)
+    tie.close (tie.spec span-requires copy-between-requires (λ c. search needs) returns
+        (λ c. sym (ap (put _ 0) (skips _ _ [] (c .if1 .left)) ∙ put-nil _ 0)))

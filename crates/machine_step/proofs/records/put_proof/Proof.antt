@@ -28,10 +28,8 @@ returns c =
     let at-range-proof = c .before .before in let then1 = at-range-proof .before .before in
     lay-same _ 0 _ (at-range-proof .range-proof .ensures) (sym (picks _ _ [] (then1 .if1 .taken)))
 
-returns-2 : tie.Need-returns-2
-unfolding shownProof
-returns-2 c = sym (ap (put _ 0) (skips _ _ [] (c .if1 .left)) ∙ put-nil _ 0)
-
 pub put-proof-spec : {M : Type 1} → statement M
+unfolding shownProof
 put-proof-spec =
-    tie.close (tie.spec range-proof-requires (λ c. search needs) returns returns-2)
+    tie.close (tie.spec range-proof-requires (λ c. search needs) returns
+        (λ c. sym (ap (put _ 0) (skips _ _ [] (c .if1 .left)) ∙ put-nil _ 0)))

@@ -36,9 +36,6 @@ put-proof-requires c κs =
     let out = c .before .before .before .put-front .last .1 .1 .1 .1 .1 .0 in
     (shows .known, (shows .lies, (shows .ranged, omega (arith, shows .count, shows .room, rest-long out 64))))
 
-add-put-bytes : tie.Need-add-put-bytes
-add-put-bytes c = omega (arith, at-start (at-front (at-proof (c .before .before))))
-
 put-bytes-requires : tie.Need-put-bytes-requires
 put-bytes-requires c κs =
     let start = at-start (at-front (at-proof (c .before .before .before))) in
@@ -65,5 +62,6 @@ returns c =
 pub put-success-spec : {M : Type 1} → statement M
 put-success-spec =
     tie.close (tie.spec (λ c κs. search needs) (λ c. search needs) (λ c. search needs) (λ c. search needs) put-proof-requires
-        (λ c. search needs) (λ c. search needs) (λ c κs. search needs) (λ c κs. search needs) add-put-bytes (λ c. search needs)
-        (λ c. search needs) (λ c. search needs) put-bytes-requires (λ c. search needs) returns)
+        (λ c. search needs) (λ c. search needs) (λ c κs. search needs) (λ c κs. search needs)
+        (λ c. omega (arith, at-start (at-front (at-proof (c .before .before)))))
+        (λ c. search needs) (λ c. search needs) (λ c. search needs) put-bytes-requires (λ c. search needs) returns)

@@ -11,9 +11,7 @@ contract-root-requires c κs =
     let told = c .before .committed-seen .ensures in
     committed-known _ _ _ _ _ (told .0) (told .1) (c .before .before .before .pre)
 
-returns : tie.Need-returns
-returns c = c .contract-root .ensures ∙ ap (contractRoot _) (c .before .before .committed-seen .ensures .0)
-
 pub committed-root-spec : {M : Type 1} → statement M
 committed-root-spec =
-    tie.close (tie.spec (λ c κs. search needs) (λ c. search needs) contract-root-requires returns)
+    tie.close (tie.spec (λ c κs. search needs) (λ c. search needs) contract-root-requires
+        (λ c. c .contract-root .ensures ∙ ap (contractRoot _) (c .before .before .committed-seen .ensures .0)))

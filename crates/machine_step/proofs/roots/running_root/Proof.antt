@@ -11,9 +11,7 @@ contract-root-requires c κs =
     let at-staged = c .before in let start = at-staged .before .before .before in
     running-known _ _ _ _ _ _ (c .parent-seen .ensures .0) (c .parent-seen .ensures .1) (start .pre)
 
-returns : tie.Need-returns
-returns c = c .contract-root .ensures ∙ ap (contractRoot _) (c .before .parent-seen .ensures .0)
-
 pub running-root-spec : {M : Type 1} → statement M
 running-root-spec =
-    tie.close (tie.spec (λ c κs. search needs) contract-root-requires returns)
+    tie.close (tie.spec (λ c κs. search needs) contract-root-requires
+        (λ c. c .contract-root .ensures ∙ ap (contractRoot _) (c .before .parent-seen .ensures .0)))

@@ -64,12 +64,6 @@ within c =
     let at-reads = c .before .before .before in let at-running-root = at-reads .before in
     let s = at-start (at-effect (at-rehash (at-advanced (at-running-root)))) in omega (arith, s .pre .written)
 
-sub-put-success : tie.Need-sub-put-success
-sub-put-success c = within c
-
-part-put-success-start : tie.Need-part-put-success-start
-part-put-success-start c = within c
-
 put-success-requires : tie.Need-put-success-requires
 unfolding stageAfter rootsAfter
 put-success-requires c κs =
@@ -94,5 +88,5 @@ returns c =
 
 pub succeed-spec : {M : Type 1} → statement M
 succeed-spec =
-    tie.close (tie.spec effect-requires rehash-requires advanced-requires running-root-requires (λ c κs. search needs) sub-put-success
-        part-put-success-start (λ c. search needs) put-success-requires (λ c. search needs) (λ c. search needs) (λ c. search needs) returns)
+    tie.close (tie.spec effect-requires rehash-requires advanced-requires running-root-requires (λ c κs. search needs) (λ c. within c)
+        (λ c. within c) (λ c. search needs) put-success-requires (λ c. search needs) (λ c. search needs) (λ c. search needs) returns)

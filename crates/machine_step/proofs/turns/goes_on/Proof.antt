@@ -5,12 +5,8 @@ use Rattle.area.proofs.Laws.Pick.{yes, no}
 use Rattle.machine_step.proofs.turns.goes_on.Statement.{statement}
 use Rattle.machine_step.proofs.turns.goes_on.Tie as tie
 
-returns : tie.Need-returns
-returns c = no _ _ _ (ap not (c .if1 .taken)) refl
-
-returns-2 : tie.Need-returns-2
-returns-2 c = yes _ _ _ (ap not (c .before .if1 .left)) refl
-
 pub goes-on-spec : {M : Type 1} → statement M
 goes-on-spec =
-    tie.close (tie.spec returns returns-2)
+    tie.close (tie.spec
+        (λ c. no _ _ _ (ap not (c .if1 .taken)) refl)
+        (λ c. yes _ _ _ (ap not (c .before .if1 .left)) refl))

@@ -6,9 +6,7 @@ use borrow.Author.Needs.{needs}
 use Rattle.machine_step.proofs.turns.ready.Statement.{statement}
 use Rattle.machine_step.proofs.turns.ready.Tie as tie
 
-returns : tie.Need-returns
-returns c = ap (λ (n : ℕ). leb n (c .before .args .k)) (c .need .ensures)
-
 pub ready-spec : {M : Type 1} → statement M
 ready-spec =
-    tie.close (tie.spec (λ c κs. search needs) returns)
+    tie.close (tie.spec (λ c κs. search needs)
+        (λ c. ap (λ (n : ℕ). leb n (c .before .args .k)) (c .need .ensures)))

@@ -65,12 +65,6 @@ loop-holds c =
     let start = at-shared-slice-known .before in
     record { ends = refl; kept = start .pre }
 
-mul-i : tie.Need-mul-i Inv-loop μ-loop
-mul-i c = omega (arith, below c)
-
-element-copy-out-i : tie.Need-element-copy-out-i Inv-loop μ-loop
-element-copy-out-i c = below c
-
 same-length : tie.Need-same-length Inv-loop μ-loop
 same-length c = let o = c .before .before .before in o .before .before .loop .inv .kept .stageroots ∙ sym (at-start o .pre .stageroots)
 
@@ -115,15 +109,6 @@ loop-again c =
 abbrev start-of : tie.Else1 Inv-loop μ-loop → tie.Start Inv-loop μ-loop
 start-of c = let head = c .before .before .before in head .before .before .before .before .before .before .before
 
-same-length-4 : tie.Need-same-length-4 Inv-loop μ-loop
-same-length-4 c = c .before .before .loop .inv .kept .stageroots ∙ sym (start-of c .pre .stageroots)
-
-same-length-5 : tie.Need-same-length-5 Inv-loop μ-loop
-same-length-5 c = c .before .before .loop .inv .kept .stage ∙ sym (start-of c .pre .stage)
-
-same-length-6 : tie.Need-same-length-6 Inv-loop μ-loop
-same-length-6 c = c .before .before .loop .inv .kept .output ∙ sym (start-of c .pre .output)
-
 returns-2 : tie.Need-returns-2 Inv-loop μ-loop
 unfolding going
 returns-2 c =
@@ -132,5 +117,9 @@ returns-2 c =
 
 pub run-spec : {M : Type 1} → statement M
 run-spec =
-    tie.close (tie.spec Inv-loop μ-loop loop-holds (λ c κs. tt) mul-i element-copy-out-i (λ c κs. search needs) same-length same-length-2
-        same-length-3 returns step-requires loop-less loop-again same-length-4 same-length-5 same-length-6 returns-2)
+    tie.close (tie.spec Inv-loop μ-loop loop-holds (λ c κs. tt) (λ c. omega (arith, below c)) (λ c. below c) (λ c κs. search needs)
+        same-length same-length-2 same-length-3 returns step-requires loop-less loop-again
+        (λ c. c .before .before .loop .inv .kept .stageroots ∙ sym (start-of c .pre .stageroots))
+        (λ c. c .before .before .loop .inv .kept .stage ∙ sym (start-of c .pre .stage))
+        (λ c. c .before .before .loop .inv .kept .output ∙ sym (start-of c .pre .output))
+        returns-2)
