@@ -13,7 +13,7 @@ use Rattle.area.proofs.Laws.Pick.{by, picks, skips}
 use Rattle.area.proofs.Laws.Puts.{length-put}
 use Rattle.host.specs.Empty.{none}
 use Rattle.host.specs.Order.{slotInOrder}
-use Rattle.machine_rules.specs.Inputs.{Args}
+use Rattle.machine_rules.specs.declared.Args.{Args}
 use Rattle.machine_rules.specs.Plan.{touched}
 use Rattle.machine_rules.specs.Effect.{Ground, Staging, newCopy, copied, laid, spanWritten, resized, effect, rehashed}
 use Rattle.machine_rules.proofs.Laws.Staged.{slot-none}
@@ -123,34 +123,34 @@ module _ (z : ℕ) (e : Ground) (g : Staging) (roots : List ℕ) (size : ℕ) (a
         ∙ own-read z e g (size / z) lent (sized .free more) (zeros z) entry (length-replicate {A = ℕ} z 0))
 
   -- by the instruction
-  each : (op : Op) → Stands z e size op a g → Each (Beside z (effect z e size op a g) roots) (touched z size op a)
+  each : (op : Op) (d : List ℕ) → Stands z e size op a g → Each (Beside z (effect z e size op a d g) roots) (touched z size op a)
   unfolding effect touched
-  each Read s = tt
-  each ReadSector s = tt
-  each Write s = (one _ _ (s .write refl), tt)
-  each Copy s = (one _ _ (s .copy refl), tt)
-  each Swap s =
+  each Read d s = tt
+  each ReadSector d s = tt
+  each Write d s = (one _ _ (s .write refl), tt)
+  each Copy d s = (one _ _ (s .copy refl), tt)
+  each Swap d s =
       let b = two _ _ (s .swap refl) in
       let same = eqb (a .first / z) (a .second / z) in
       by same
       (λ t. subst (Each _) (sym (picks same (a .second / z ∷ []) (a .second / z ∷ a .first / z ∷ []) t)) (b .0, tt))
       (λ t. subst (Each _) (sym (skips same (a .second / z ∷ []) (a .second / z ∷ a .first / z ∷ []) t)) (b .0, (b .1, tt)))
-  each Truncate s =
+  each Truncate d s =
       let more = ltb size (a .first) in
       by more
       (λ t. subst (Each _) (sym (picks more (size / z ∷ []) [] t)) (new (s .truncate refl) (ltb-true size (a .first) t), tt))
       (λ t. subst (Each _) (sym (skips more (size / z ∷ []) [] t)) tt)
-  each Unknown s = tt
+  each Unknown d s = tt
 
-  grows : (op : Op) → Stands z e size op a g → op ≡ Truncate → size < a .first
-      → let h = effect z e size op a g in part (h .bytes) (getD (h .staged) (size / z) none * z) z ≡ zeros z
+  grows : (op : Op) (d : List ℕ) → Stands z e size op a g → op ≡ Truncate → size < a .first
+      → let h = effect z e size op a d g in part (h .bytes) (getD (h .staged) (size / z) none * z) z ≡ zeros z
   unfolding effect
-  grows op s o more =
-      subst (λ (x : Op). let h = effect z e size x a g in part (h .bytes) (getD (h .staged) (size / z) none * z) z ≡ zeros z) (sym o)
+  grows op d s o more =
+      subst (λ (x : Op). let h = effect z e size x a d g in part (h .bytes) (getD (h .staged) (size / z) none * z) z ≡ zeros z) (sym o)
       (new-zeros (s .truncate o) more)
 
 -- the two offsets tell the positions
-pub touched-args : (z size : ℕ) (op : Op) (a : Args) → touched z size op (args (a .first) (a .second) 0 []) ≡ touched z size op a
+pub touched-args : (z size : ℕ) (op : Op) (a : Args) → touched z size op (args (a .first) (a .second) 0) ≡ touched z size op a
 unfolding touched
 touched-args z size Read a = refl
 touched-args z size ReadSector a = refl
@@ -161,17 +161,17 @@ touched-args z size Truncate a = refl
 touched-args z size Unknown a = refl
 
 -- what `rehash` asks, with what the effect left
-pub rehashes : (z : ℕ) (e : Ground) (size : ℕ) (op : Op) (a : Args) (g h : Staging) (roots : List ℕ) → length (g .staged) ≡ 64
-    → length roots ≡ 512 → Stands z e size op a g → h ≡ effect z e size op a g
-    → Rehashes z size op (args (a .first) (a .second) 0 []) h roots
-rehashes z e size op a g h roots entries long s q =
-    subst (λ (x : Staging). Rehashes z size op (args (a .first) (a .second) 0 []) x roots) (sym q) (record {
+pub rehashes : (z : ℕ) (e : Ground) (size : ℕ) (op : Op) (a : Args) (d : List ℕ) (g h : Staging) (roots : List ℕ) → length (g .staged) ≡ 64
+    → length roots ≡ 512 → Stands z e size op a g → h ≡ effect z e size op a d g
+    → Rehashes z size op (args (a .first) (a .second) 0) h roots
+rehashes z e size op a d g h roots entries long s q =
+    subst (λ (x : Staging). Rehashes z size op (args (a .first) (a .second) 0) x roots) (sym q) (record {
       whole = s .lent .size;
-      each = subst (Each _) (sym (touched-args z size op a)) (each z e g roots size a (s .lent) entries long op s);
-      new = grows z e g roots size a (s .lent) entries long op s;
+      each = subst (Each _) (sym (touched-args z size op a)) (each z e g roots size a (s .lent) entries long op d s);
+      new = grows z e g roots size a (s .lent) entries long op d s;
     })
 
 -- what it leaves is what the definition says
 pub rehashed-with : {after : List ℕ} (z size : ℕ) (op : Op) (a : Args) (h : Staging) (roots : List ℕ)
-    → after ≡ rehashed z h (touched z size op (args (a .first) (a .second) 0 [])) roots → after ≡ rehashed z h (touched z size op a) roots
+    → after ≡ rehashed z h (touched z size op (args (a .first) (a .second) 0)) roots → after ≡ rehashed z h (touched z size op a) roots
 rehashed-with z size op a h roots q = q ∙ ap (λ (l : List ℕ). rehashed z h l roots) (touched-args z size op a)

@@ -9,7 +9,7 @@ use Rattle.sia.specs.Encode.{every}
 use Rattle.host.specs.Lists.{count, unused}
 use Rattle.host.specs.Empty.{none}
 use Rattle.host.specs.Order.{slotInOrder}
-use Rattle.machine_rules.specs.Inputs.{Args}
+use Rattle.machine_rules.specs.declared.Args.{Args}
 use Rattle.machine_rules.specs.Effect.{Ground, Staging, copied}
 use Rattle.sia.specs.declared.Op.{Op}
 use Rattle.sia.specs.declared.Op.the-variants.{Write, Copy, Swap, Truncate}

@@ -6,7 +6,7 @@ use lib.ListN.{length, getD}
 use Rattle.area.specs.Area.{part, zeros}
 use Rattle.area.specs.Slots.{Size}
 use Rattle.host.specs.Empty.{none}
-use Rattle.machine_rules.specs.Inputs.{Args}
+use Rattle.machine_rules.specs.declared.Args.{Args}
 use Rattle.machine_rules.specs.Plan.{touched}
 use Rattle.machine_rules.specs.Effect.{Staging}
 use Rattle.sia.specs.declared.Op.{Op}

@@ -37,10 +37,10 @@ pub fn effect(
     input: &[u8],
     from: usize,
 ) -> [u8; 64]
-    requires { ⌜ Stands z (ground copies slots (now disk)) size op (args first second len (part (now input) from len)) (staging staged (now stage)) ⌝ }
+    requires { ⌜ Stands z (ground copies slots (now disk)) size op (args first second len) (staging staged (now stage)) ⌝ }
     requires { ⌜ (op ≡ Write → from + len ≤ length (now input)) ⌝ }
     ensures { λ r. ⌜ staging r (now (stage .exit)) ≡
-        Says.effect z (ground copies slots (now (disk .entry))) size op (args first second len (part (now (input .entry)) from len))
+        Says.effect z (ground copies slots (now (disk .entry))) size op (args first second len) (part (now (input .entry)) from len)
         (staging staged (now (stage .entry))) ⌝ }
 {
     match op {

@@ -87,9 +87,9 @@ pub fn rehash(
     second: usize,
     stageroots: &mut [u8],
 )
-    requires { ⌜ Rehashes z size op (args first second 0 []) (staging staged (now stage)) (now stageroots) ⌝ }
+    requires { ⌜ Rehashes z size op (args first second 0) (staging staged (now stage)) (now stageroots) ⌝ }
     ensures { λ _. ⌜ now (stageroots .exit) ≡
-        rehashed z (staging staged (now (stage .entry))) (touched z size op (args first second 0 [])) (now (stageroots .entry)) ⌝ }
+        rehashed z (staging staged (now (stage .entry))) (touched z size op (args first second 0)) (now (stageroots .entry)) ⌝ }
 {
     match op {
         Op::Read => {}

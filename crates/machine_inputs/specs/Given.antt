@@ -8,12 +8,11 @@ use Rattle.area.specs.Area.{part, zeros}
 use Rattle.sia.specs.Empty.{noOperand}
 use Rattle.sia.specs.Number.{Decoded, decoded}
 use Rattle.machine_rules.specs.Inputs.{isKey, isData, wellFormed, argsOf}
-use Rattle.machine_rules.specs.Inputs as Says
 use Rattle.sia.specs.declared.Operand.{Operand}
 use Rattle.sia.specs.declared.Instruction.{Instruction}
 use Rattle.sia.specs.declared.Op.{Op}
 use Rattle.sia.specs.declared.Op.the-variants.{Read, ReadSector, Write, Copy, Swap, Truncate, Unknown}
-use Rattle.machine_inputs.specs.declared.Args.{Args}
+use Rattle.machine_rules.specs.declared.Args.{Args}
 use Rattle.machine_inputs.specs.declared.Given.{Given}
 use Rattle.machine_inputs.specs.declared.Key.{Key}
 
@@ -42,20 +41,16 @@ dataOf b = pick (isData b) (decoded 0 (length b - 8)) (decoded 23 0)
 
 -- ---- all inputs
 
--- the arguments, with the place where Write's data begins instead of its bytes
-unfoldable pub placed : Says.Args → ℕ → Args
-placed a from = record { key = a .key; first = a .first; second = a .second; len = a .len; from = from }
-
 -- 23: no arguments
 abbrev pub noArgs : Args
-noArgs = record { key = zeros 32; first = 0; second = 0; len = 0; from = 0 }
+noArgs = record { key = zeros 32; first = 0; second = 0; len = 0 }
 
 unfoldable pub malformed : Given
-malformed = record { told = false; args = noArgs }
+malformed = record { told = false; args = noArgs; from = 0 }
 
 -- the arguments, or 23
 unfoldable pub given : Op → List (List ℕ) → ℕ → Given
-given op l from = pick (wellFormed op l) (record { told = true; args = placed (argsOf op l) from }) malformed
+given op l from = pick (wellFormed op l) (record { told = true; args = argsOf op l; from = from }) malformed
 
 -- where the data begin in the input area: behind their count
 abbrev pub dataFrom : List Operand → ℕ
@@ -70,17 +65,3 @@ fromOf Copy i = 0
 fromOf Swap i = 0
 fromOf Truncate i = 0
 fromOf Unknown i = 0
-
--- Write's data
-unfoldable pub bytesGiven : Op → List ℕ → Args → List ℕ
-bytesGiven Read area a = []
-bytesGiven ReadSector area a = []
-bytesGiven Write area a = part area (a .from) (a .len)
-bytesGiven Copy area a = []
-bytesGiven Swap area a = []
-bytesGiven Truncate area a = []
-bytesGiven Unknown area a = []
-
--- the definitions' arguments: Write's data are the bytes from that place on
-unfoldable pub argsGiven : Op → List ℕ → Args → Says.Args
-argsGiven op area a = record { key = a .key; first = a .first; second = a .second; len = a .len; bytes = bytesGiven op area a }

@@ -1,6 +1,6 @@
 // What an instruction's inputs say, and check 23. An operand selects a part of the input area, which is passed on to the decoder of its kind.
 // These are inner functions: what they require, their callers prove.
-use crate::Args;
+use machine_rules::Args;
 use crate::Given;
 use crate::Key;
 use sia::Instruction;
@@ -101,9 +101,12 @@ fn read_args(input: &[u8], list: [Operand; 4]) -> Given
         first,
         second: 0,
         len,
-        from: 0,
     };
-    Given { told: true, args }
+    Given {
+        told: true,
+        args,
+        from: 0,
+    }
 }
 
 // Of Copy and Swap: destination or offset 1, source or offset 2, size.
@@ -129,9 +132,12 @@ fn span_args(input: &[u8], list: [Operand; 4]) -> Given
         first,
         second,
         len,
-        from: 0,
     };
-    Given { told: true, args }
+    Given {
+        told: true,
+        args,
+        from: 0,
+    }
 }
 
 // Of Write: offset, data. The data begin behind their count.
@@ -154,9 +160,12 @@ fn write_args(input: &[u8], list: [Operand; 4]) -> Given
         first,
         second: 0,
         len,
-        from,
     };
-    Given { told: true, args }
+    Given {
+        told: true,
+        args,
+        from,
+    }
 }
 
 // Of Truncate: new size.
@@ -174,9 +183,12 @@ fn size_args(input: &[u8], list: [Operand; 4]) -> Given
         first,
         second: 0,
         len: 0,
-        from: 0,
     };
-    Given { told: true, args }
+    Given {
+        told: true,
+        args,
+        from: 0,
+    }
 }
 
 // What the inputs of a well-formed instruction say, or 23.

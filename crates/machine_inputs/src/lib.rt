@@ -4,44 +4,37 @@ ghost use mathlib.Core.Path.{_≡_};
 ghost use Rattle.machine_inputs.specs.Given.{noArgs, malformed};
 
 mod decoding; // decoding.rt: what the inputs say, and check 23
+mod kinds; // kinds.rt: what kinds of instructions differ in
 mod operands; // operands.rt: checks 21 and 22, and the need
 mod sums; // sums.rt: a sum against a limit
 
 pub use decoding::decoded;
+pub use kinds::kind;
+pub use kinds::reads;
 pub use operands::ill_formed;
 pub use operands::need;
 pub use operands::past_end;
 pub use sums::above;
+use machine_rules::Args;
 
-// What an instruction's inputs say: an id or root, zeros where there is none; two offsets, the first also Truncate's new size; a
-// length; and where Write's data begins in the input area, 0 where there is none.
-pub struct Args {
-    pub key: [u8; 32],
-    pub first: u64,
-    pub second: u64,
-    pub len: u64,
-    pub from: u64,
-}
-
-impl Args {
-    pub fn none() -> Args
-        ensures { λ r. ⌜ r ≡ noArgs ⌝ }
-    {
-        let key = [0u8; 32];
-        Args {
-            key,
-            first: 0,
-            second: 0,
-            len: 0,
-            from: 0,
-        }
+// No arguments.
+pub fn no_args() -> Args
+    ensures { λ r. ⌜ r ≡ noArgs ⌝ }
+{
+    let key = [0u8; 32];
+    Args {
+        key,
+        first: 0,
+        second: 0,
+        len: 0,
     }
 }
 
-// The decoder's answer: the arguments, or nothing told, which is 23.
+// The decoder's answer: the arguments, and where Write's data begin in the input area, 0 for all others; or nothing told, which is 23.
 pub struct Given {
     pub told: bool,
     pub args: Args,
+    pub from: u64,
 }
 
 impl Given {
@@ -49,8 +42,12 @@ impl Given {
     pub fn malformed() -> Given
         ensures { λ r. ⌜ r ≡ malformed ⌝ }
     {
-        let args = Args::none();
-        Given { told: false, args }
+        let args = no_args();
+        Given {
+            told: false,
+            args,
+            from: 0,
+        }
     }
 }
 

@@ -1,46 +1,16 @@
 // Checks 21 and 22, and the need of an instruction.
+use crate::kinds::kind;
 use crate::sums::above;
 use sia::Instruction;
-use sia::Op;
 use sia::Operand;
 ghost use mathlib.Core.Path.{_≡_};
 ghost use mathlib.Core.Bool.{false};
 ghost use Prim.Native.Nat.{_+_, _≤_, _<_, _^_, max, min};
 ghost use lib.ListN.{take};
 ghost use Rattle.host.specs.Lists.{some};
-ghost use Rattle.machine_rules.specs.Inputs.{operandsOf, illFormed, pastEnd, largest};
+ghost use Rattle.machine_rules.specs.Inputs.{illFormed, pastEnd, largest};
 ghost use Rattle.machine_rules.specs.Inputs as Says;
 ghost use Rattle.machine_inputs.specs.Ends.{endsPast, endOf};
-
-// Whether there is such an instruction.
-fn known(op: Op) -> bool
-    ensures { λ r. ⌜ r ≡ Says.known op ⌝ }
-{
-    match op {
-        Op::Read => true,
-        Op::ReadSector => true,
-        Op::Write => true,
-        Op::Copy => true,
-        Op::Swap => true,
-        Op::Truncate => true,
-        Op::Unknown => false,
-    }
-}
-
-// How many operands it has.
-fn operands_of(op: Op) -> u64
-    ensures { λ r. ⌜ r ≡ operandsOf op ⌝ }
-{
-    match op {
-        Op::Read => 3,
-        Op::ReadSector => 3,
-        Op::Write => 2,
-        Op::Copy => 3,
-        Op::Swap => 3,
-        Op::Truncate => 1,
-        Op::Unknown => 0,
-    }
-}
 
 // 21: whether the name is unknown, or the operand count wrong.
 pub fn ill_formed(i: Instruction) -> bool
@@ -48,10 +18,11 @@ pub fn ill_formed(i: Instruction) -> bool
 {
     let name = i.name;
     let op = sia::op_of(name);
-    if !known(op) {
+    let kind = kind(op);
+    if !kind.known {
         return true;
     }
-    i.count != operands_of(op)
+    i.count != kind.operands
 }
 
 // Whether an operand ends past the declared length.

@@ -3,7 +3,6 @@
 -- The laws, a file for each subject.
 pub mod Weighed
 pub mod Lookup
-pub mod Alike
 pub mod Planned
 pub mod Sums
 pub mod Numbers

@@ -1,16 +1,19 @@
 // Checks 21 to 42, in order, of one instruction, and its plan.
-use crate::Plan;
+use crate::Task;
 use crate::lookup::no_sectors;
 use crate::lookup::source_of;
 use machine_inputs::decoded;
 use host::Place;
 use host::Progress;
 use host::Terms;
-use machine_inputs::Args;
+use machine_inputs::no_args;
+use machine_rules::Args;
+use machine_rules::Plan;
 use machine_inputs::ill_formed;
 use machine_inputs::past_end;
+use crate::judge::refused;
 use crate::judge::weighed;
-use crate::kinds::changes;
+use machine_inputs::kind;
 use sia::Instruction;
 use sia::Op;
 ghost use mathlib.Core.Path.{_≡_};
@@ -21,35 +24,33 @@ ghost use Rattle.area.specs.Area.{same};
 ghost use Rattle.sia.specs.Names.{readOnly};
 ghost use Rattle.machine_rules.specs.View.{setting};
 ghost use Rattle.machine_rules.specs.Roots.{keptRoot};
-ghost use Rattle.machine_rules.specs.Plan as Says;
+ghost use Rattle.machine_rules.specs.Kinds.{changes};
 ghost use Rattle.machine_rules.specs.Facts.{Good};
 ghost use Rattle.machine_plan.specs.Planned.{Plans, said, failed, argued, planOf};
 
-impl Plan {
-    // A failure, by its number, with nothing else.
-    fn failed(op: Op, number: u64) -> Plan
-        ensures { λ r. ⌜ said r ≡ failed op number ⌝ }
+impl Task {
+    // A failure, with nothing else.
+    fn failed(op: Op, plan: Plan) -> Task
+        ensures { λ r. ⌜ said r ≡ failed op plan ⌝ }
     {
-        let args = Args::none();
+        let args = no_args();
         let seen = no_sectors();
-        Plan {
-            number,
+        Task {
+            plan,
             op,
             args,
+            from: 0,
             seen,
-            cost: 0,
-            size: 0,
-            hashes: 0,
-            count: 0,
         }
     }
 }
 
 // 24: whether an instruction would change a contract in read-only mode.
 fn changes_nothing(op: Op, id: [u8; 32]) -> bool
-    ensures { λ r. ⌜ r ≡ both (Says.changes op) (same id readOnly) ⌝ }
+    ensures { λ r. ⌜ r ≡ both (changes op) (same id readOnly) ⌝ }
 {
-    if !changes(op) {
+    let kind = kind(op);
+    if !kind.changes {
         return false;
     }
     sia::is_read_only(id)
@@ -66,39 +67,37 @@ fn argued<'a>(
     asked: bool,
     op: Op,
     args: Args,
+    from: u64,
     diskroots: &'a [u8],
     stageroots: &'a [u8],
-) -> Plan
+) -> Task
     requires { ⌜ Plans z (setting sectors copies places terms [] []) p (now diskroots) (now stageroots) ⌝ }
     requires { ⌜ Good z (setting sectors copies places terms [] []) p ⌝ }
     ensures { λ r. ⌜ said r ≡ argued z (setting sectors copies places terms [] []) (keptRoot (now (diskroots .entry)) (now (stageroots .entry))) p
-        asked op args ⌝ }
+        asked op args from ⌝ }
 {
     let head = terms.head;
     let id = head.contract;
     if changes_nothing(op, id) {
-        return Plan::failed(op, 24);
+        return Task::failed(op, refused(24));
     }
     let key = args.key;
     let source = source_of(z, diskroots, stageroots, places, id, p, op, key);
     if !source.there {
-        return Plan::failed(op, 25);
+        return Task::failed(op, refused(25));
     }
     let seen = source.seen;
     let count = seen.count as u64;
-    let w = weighed(z, sectors, copies, places, terms, p, asked, op, args, count);
-    if w.number != 0 {
-        return Plan::failed(op, w.number);
+    let plan = weighed(z, sectors, copies, places, terms, p, asked, op, args, count);
+    if plan.number != 0 {
+        return Task::failed(op, plan);
     }
-    Plan {
-        number: 0,
+    Task {
+        plan,
         op,
         args,
+        from,
         seen,
-        cost: w.cost,
-        size: w.size,
-        hashes: w.hashes,
-        count: w.count,
     }
 }
 
@@ -114,7 +113,7 @@ pub fn planned<'a>(
     diskroots: &'a [u8],
     stageroots: &'a [u8],
     input: &[u8],
-) -> Plan
+) -> Task
     requires { ⌜ Plans z (setting sectors copies places terms [] []) p (now diskroots) (now stageroots) ⌝ }
     requires { ⌜ Good z (setting sectors copies places terms [] []) p ⌝ }
     requires { ⌜ length (now input) ≡ terms .head .length ⌝ }
@@ -124,15 +123,15 @@ pub fn planned<'a>(
     let name = i.name;
     let op = sia::op_of(name);
     if ill_formed(i) {
-        return Plan::failed(op, 21);
+        return Task::failed(op, refused(21));
     }
     let head = terms.head;
     if past_end(head.length, i) {
-        return Plan::failed(op, 22);
+        return Task::failed(op, refused(22));
     }
     let given = decoded(op, i, input);
     if !given.told {
-        return Plan::failed(op, 23);
+        return Task::failed(op, refused(23));
     }
     let args = given.args;
     argued(
@@ -145,6 +144,7 @@ pub fn planned<'a>(
         i.proof,
         op,
         args,
+        given.from,
         diskroots,
         stageroots,
     )

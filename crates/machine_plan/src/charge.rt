@@ -1,24 +1,19 @@
 // Cost, fixed before an instruction runs.
 use host::Prices;
+use machine_inputs::kind;
 use sia::Op;
 ghost use mathlib.Core.Path.{_≡_};
 ghost use Prim.Native.Nat.{_+_, _*_, _^_, _≤_, _<_};
 ghost use Rattle.machine_rules.specs.Plan.{readPrice, writePrice};
+ghost use Rattle.machine_rules.specs.Kinds as Kinds;
 ghost use Rattle.machine_rules.specs.Plan as Says;
 ghost use Rattle.machine_plan.specs.Numbers.{Small};
 
 fn time(op: Op) -> u64
-    ensures { λ r. ⌜ (r ≡ Says.time op) × (r ≤ 30) ⌝ }
+    ensures { λ r. ⌜ (r ≡ Kinds.time op) × (r ≤ 30) ⌝ }
 {
-    match op {
-        Op::Read => 10,
-        Op::ReadSector => 10,
-        Op::Write => 20,
-        Op::Copy => 20,
-        Op::Swap => 30,
-        Op::Truncate => 5,
-        Op::Unknown => 0,
-    }
+    let kind = kind(op);
+    kind.time
 }
 
 // A base price and a price for each of n bytes.

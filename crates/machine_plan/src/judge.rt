@@ -1,11 +1,11 @@
 // Checks 26 to 42, in order, of an instruction whose inputs are told and whose sectors are found.
-use crate::Weighed;
 use crate::spans::bad_proof;
 use crate::spans::bad_spans;
 use host::Place;
 use host::Progress;
 use host::Terms;
-use machine_inputs::Args;
+use machine_rules::Args;
+use machine_rules::Plan;
 use machine_inputs::above;
 use crate::charge::cost;
 use crate::room::new_size;
@@ -23,27 +23,24 @@ ghost use Rattle.area.specs.Slots.{Size};
 ghost use Rattle.machine_rules.specs.View.{setting};
 ghost use Rattle.machine_rules.specs.Plan.{badProof};
 ghost use Rattle.machine_sight.specs.Seen.{Ranged};
-ghost use Rattle.machine_plan.specs.Numbers.{sectorsOf, numbers};
-ghost use Rattle.machine_plan.specs.Weighed as Says;
+ghost use Rattle.machine_rules.specs.Plan as Says;
 
-impl Weighed {
-    // A failure, by its number.
-    pub fn refused(number: u64) -> Weighed
-        ensures { λ r. ⌜ r ≡ Says.refused number ⌝ }
-    {
-        Weighed {
-            number,
-            cost: 0,
-            size: 0,
-            hashes: 0,
-            count: 0,
-        }
+// A failure, by its number.
+pub fn refused(number: u64) -> Plan
+    ensures { λ r. ⌜ r ≡ Says.refused number ⌝ }
+{
+    Plan {
+        number,
+        cost: 0,
+        size: 0,
+        hashes: 0,
+        count: 0,
     }
 }
 
 // 27: whether a proof is asked that cannot be made.
 fn asked_badly(asked: bool, op: Op, args: Args) -> bool
-    ensures { λ r. ⌜ r ≡ both asked (badProof op (numbers args)) ⌝ }
+    ensures { λ r. ⌜ r ≡ both asked (badProof op args) ⌝ }
 {
     if !asked {
         return false;
@@ -64,30 +61,30 @@ fn fitted(
     args: Args,
     seen: u64,
     cost: u64,
-) -> Weighed
+) -> Plan
     requires { ⌜ Size z ⌝ }
     requires { ⌜ sectors ≤ 64 ⌝ }
     requires { ⌜ seen ≤ 64 ⌝ }
     requires { ⌜ terms .room ≤ 65536 ⌝ }
     requires { ⌜ (asked ≡ true → Ranged z seen (args .first) (args .len)) ⌝ }
-    ensures { λ r. ⌜ r ≡ Says.fitted z (setting sectors copies places terms [] []) p asked (sectorsOf seen) op (numbers args) cost ⌝ }
+    ensures { λ r. ⌜ r ≡ Says.fitted z (setting sectors copies places terms [] []) p asked seen op args cost ⌝ }
 {
     if too_few(z, copies, p, op, args) {
-        return Weighed::refused(40);
+        return refused(40);
     }
     let head = terms.head;
     let id = head.contract;
     let size = new_size(p.size, op, args);
     if !host::sizes_fit(places, id, size, sectors * z) {
-        return Weighed::refused(41);
+        return refused(41);
     }
     let hashes = proof_count(z, asked, seen, args);
     let output = output_count(op, args);
     if record_above(terms.room, p.written, hashes, output) {
-        return Weighed::refused(42);
+        return refused(42);
     }
     let count = 72 + 32 * hashes + output;
-    Weighed {
+    Plan {
         number: 0,
         cost,
         size,
@@ -108,25 +105,25 @@ pub fn weighed(
     op: Op,
     args: Args,
     seen: u64,
-) -> Weighed
+) -> Plan
     requires { ⌜ Size z ⌝ }
     requires { ⌜ sectors ≤ 64 ⌝ }
     requires { ⌜ seen ≤ 64 ⌝ }
     requires { ⌜ terms .head .length ≤ 65536 ⌝ }
     requires { ⌜ terms .room ≤ 65536 ⌝ }
-    ensures { λ r. ⌜ r ≡ Says.weighed z (setting sectors copies places terms [] []) p asked (sectorsOf seen) op (numbers args) ⌝ }
+    ensures { λ r. ⌜ r ≡ Says.weighed z (setting sectors copies places terms [] []) p asked seen op args ⌝ }
 {
     if bad_spans(z, p.size, seen, op, args) {
-        return Weighed::refused(26);
+        return refused(26);
     }
     if asked_badly(asked, op, args) {
-        return Weighed::refused(27);
+        return refused(27);
     }
     let head = terms.head;
     let prices = terms.prices;
     let cost = cost(head.length, prices, op, args.len);
     if above(terms.budget, p.tally, cost) {
-        return Weighed::refused(28);
+        return refused(28);
     }
     fitted(
         z,

@@ -5,26 +5,16 @@
 mod chain; // chain.rt: checks 21 to 42, and the plan of an instruction
 mod charge; // charge.rt: what an instruction is charged
 mod judge; // judge.rt: checks 26 to 42, in order
-mod kinds; // kinds.rt: which instructions change, and which read
 mod lookup; // lookup.rt: what is read, and check 25
 mod room; // room.rt: what checks 40, 41 and 42 count
 mod spans; // spans.rt: checks 26 and 27
 mod sums; // sums.rt: sums against a limit
 
 pub use chain::planned;
-pub use kinds::reads;
-use machine_inputs::Args;
+use machine_rules::Args;
+use machine_rules::Plan;
 use machine_sight::Seen;
 use sia::Op;
-
-// Checks 26 to 42: the failure's number, or 0 with the cost, the new size, the hashes of the proof and the length of the record.
-pub struct Weighed {
-    pub number: u64,
-    pub cost: u64,
-    pub size: u64,
-    pub hashes: u64,
-    pub count: u64,
-}
 
 // What is read: whether it is there, and its sectors.
 pub struct Source {
@@ -32,15 +22,12 @@ pub struct Source {
     pub seen: Seen,
 }
 
-// The plan of an instruction: the failure's number, or 0 with its arguments, what it reads, its cost, the new size, the hashes of the
-// proof and the length of the record. A failure has nothing else.
-pub struct Plan {
-    pub number: u64,
+// An instruction's plan and, where it can run, what it starts from: its arguments, where Write's data begin in the input area, and what it reads. A failure
+// has nothing of these.
+pub struct Task {
+    pub plan: Plan,
     pub op: Op,
     pub args: Args,
+    pub from: u64,
     pub seen: Seen,
-    pub cost: u64,
-    pub size: u64,
-    pub hashes: u64,
-    pub count: u64,
 }

@@ -1,7 +1,7 @@
 // What checks 40, 41 and 42 count: stage slots, the new size, and the record's length.
-use crate::kinds::reads;
+use machine_inputs::kind;
 use host::Progress;
-use machine_inputs::Args;
+use machine_rules::Args;
 use sia::Op;
 ghost use mathlib.Core.Path.{_≡_};
 ghost use mathlib.Core.Bool.{true};
@@ -15,7 +15,6 @@ ghost use Rattle.host.specs.Lists.{count, unused};
 ghost use Rattle.host.specs.Empty.{none};
 ghost use Rattle.machine_rules.specs.Plan.{newSize, proofCount, outputCount};
 ghost use Rattle.machine_rules.specs.Plan as Says;
-ghost use Rattle.machine_plan.specs.Numbers.{sectorsOf, numbers};
 ghost use Rattle.machine_sight.specs.Seen.{Ranged};
 
 // One for a stage slot that no position has.
@@ -57,7 +56,7 @@ fn lacks(staged: [u8; 64], at: u64) -> u64
 // Of Swap: offset 2's position first.
 fn wanted_swap(z: u64, p: Progress, args: Args) -> u64
     requires { ⌜ Size z ⌝ }
-    ensures { λ r. ⌜ r ≡ Says.wanted z p Swap (numbers args) ⌝ }
+    ensures { λ r. ⌜ r ≡ Says.wanted z p Swap args ⌝ }
 {
     let staged = p.staged;
     let one = args.first / z;
@@ -71,7 +70,7 @@ fn wanted_swap(z: u64, p: Progress, args: Args) -> u64
 // Of Truncate: the position that growth adds.
 fn wanted_size(z: u64, p: Progress, args: Args) -> u64
     requires { ⌜ Size z ⌝ }
-    ensures { λ r. ⌜ r ≡ Says.wanted z p Truncate (numbers args) ⌝ }
+    ensures { λ r. ⌜ r ≡ Says.wanted z p Truncate args ⌝ }
 {
     let staged = p.staged;
     if p.size < args.first {
@@ -83,7 +82,7 @@ fn wanted_size(z: u64, p: Progress, args: Args) -> u64
 // 40: how many stage slots an instruction needs.
 fn wanted(z: u64, p: Progress, op: Op, args: Args) -> u64
     requires { ⌜ Size z ⌝ }
-    ensures { λ r. ⌜ r ≡ Says.wanted z p op (numbers args) ⌝ }
+    ensures { λ r. ⌜ r ≡ Says.wanted z p op args ⌝ }
 {
     let staged = p.staged;
     match op {
@@ -100,7 +99,7 @@ fn wanted(z: u64, p: Progress, op: Op, args: Args) -> u64
 // 40: whether an instruction needs more stage slots than are free. For one that needs none they are not counted.
 pub fn too_few(z: u64, copies: u64, p: Progress, op: Op, args: Args) -> bool
     requires { ⌜ Size z ⌝ }
-    ensures { λ r. ⌜ r ≡ ltb (count (unused (p .staged)) 0 copies) (Says.wanted z p op (numbers args)) ⌝ }
+    ensures { λ r. ⌜ r ≡ ltb (count (unused (p .staged)) 0 copies) (Says.wanted z p op args) ⌝ }
 {
     let want = wanted(z, p, op, args);
     if want == 0 {
@@ -112,7 +111,7 @@ pub fn too_few(z: u64, copies: u64, p: Progress, op: Op, args: Args) -> bool
 
 // 41: the parent's size after the instruction.
 pub fn new_size(size: u64, op: Op, args: Args) -> u64
-    ensures { λ r. ⌜ r ≡ newSize size op (numbers args) ⌝ }
+    ensures { λ r. ⌜ r ≡ newSize size op args ⌝ }
 {
     match op {
         Op::Read => size,
@@ -130,7 +129,7 @@ pub fn proof_count(z: u64, asked: bool, seen: u64, args: Args) -> u64
     requires { ⌜ Size z ⌝ }
     requires { ⌜ seen ≤ 64 ⌝ }
     requires { ⌜ (asked ≡ true → Ranged z seen (args .first) (args .len)) ⌝ }
-    ensures { λ r. ⌜ r ≡ proofCount z asked (sectorsOf seen) (numbers args) ⌝ }
+    ensures { λ r. ⌜ r ≡ proofCount z asked seen args ⌝ }
 {
     if !asked {
         return 0;
@@ -145,9 +144,10 @@ pub fn proof_count(z: u64, asked: bool, seen: u64, args: Args) -> u64
 
 // How many bytes are handed out.
 pub fn output_count(op: Op, args: Args) -> u64
-    ensures { λ r. ⌜ r ≡ outputCount op (numbers args) ⌝ }
+    ensures { λ r. ⌜ r ≡ outputCount op args ⌝ }
 {
-    if reads(op) {
+    let kind = kind(op);
+    if kind.reads {
         return args.len;
     }
     0

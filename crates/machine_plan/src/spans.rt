@@ -1,15 +1,14 @@
 // Checks 26 and 27: the spans that an instruction names. Offsets and lengths are any numbers.
-use machine_inputs::Args;
+use machine_rules::Args;
 use machine_inputs::above;
 use crate::sums::far_above;
-use crate::kinds::reads;
+use machine_inputs::kind;
 use sia::Op;
 ghost use mathlib.Core.Path.{_≡_};
 ghost use Prim.Native.Nat.{_≤_};
 ghost use Rattle.area.specs.Pick.{either};
 ghost use Rattle.area.specs.Slots.{Size};
 ghost use Rattle.machine_rules.specs.Plan.{badSpan, badSize, badSpans, badProof};
-ghost use Rattle.machine_plan.specs.Numbers.{sectorsOf, numbers};
 
 // Whether a span has length 0, is past the end, or across a sector edge.
 pub fn bad_span(z: u64, end: u64, at: u64, n: u64) -> bool
@@ -54,7 +53,7 @@ pub fn bad_size(z: u64, size: u64, new: u64) -> bool
 pub fn bad_spans(z: u64, size: u64, seen: u64, op: Op, args: Args) -> bool
     requires { ⌜ Size z ⌝ }
     requires { ⌜ seen ≤ 64 ⌝ }
-    ensures { λ r. ⌜ r ≡ badSpans z size (sectorsOf seen) op (numbers args) ⌝ }
+    ensures { λ r. ⌜ r ≡ badSpans z size seen op args ⌝ }
 {
     match op {
         Op::Read => bad_span(z, seen * z, args.first, args.len),
@@ -69,9 +68,10 @@ pub fn bad_spans(z: u64, size: u64, seen: u64, op: Op, args: Args) -> bool
 
 // 27: whether a proof is asked of what is no read, or of an offset or length that is not whole segments.
 pub fn bad_proof(op: Op, args: Args) -> bool
-    ensures { λ r. ⌜ r ≡ badProof op (numbers args) ⌝ }
+    ensures { λ r. ⌜ r ≡ badProof op args ⌝ }
 {
-    if !reads(op) {
+    let kind = kind(op);
+    if !kind.reads {
         return true;
     }
     if args.first % 64 != 0 {

@@ -18,7 +18,7 @@ use Rattle.host.specs.With.{withPlaces, withProgram, withCame, withProgress, wi
 use Rattle.host.specs.Places.{hasId, whose}
 use Rattle.host.specs.Calls.{freshed, formedAt, formed, replaced, dropped}
 use Rattle.machine_rules.specs.View.{Setting, Turn, settingOf, turnOf, withRun, parent, settingBy}
-use Rattle.machine_rules.specs.Inputs.{inputsOf, argsOf}
+use Rattle.machine_rules.specs.Inputs.{dataIn, inputsOf, argsOf}
 use Rattle.machine_rules.specs.Plan.{judged}
 use Rattle.machine_rules.specs.Effect.{groundOf}
 use Rattle.machine_rules.specs.Run.{failedProgress, failing, ranProgress, succeeding, stepped, current, step, ready, runs, run}
@@ -54,7 +54,7 @@ unfolding stepped succeeding failing ranProgress failedProgress
 stepped-entries z s i l t =
     by (eqb (judged z s (rootAt z s t) (t .progress) i l) 0)
     (λ e. ap (λ (x : Turn). length (x .progress .staged)) (picks (eqb (judged z s (rootAt z s t) (t .progress) i l) 0) _ _ e)
-    ∙ effect-length z (groundOf s) (t .progress .size) (opOf (i .name)) (argsOf (opOf (i .name)) l) _)
+    ∙ effect-length z (groundOf s) (t .progress .size) (opOf (i .name)) (argsOf (opOf (i .name)) l) (dataIn l) _)
     (λ e. ap (λ (x : Turn). length (x .progress .staged)) (skips (eqb (judged z s (rootAt z s t) (t .progress) i l) 0) _ _ e))
 
 runs-entries : (z : ℕ) (s : Setting) (a : List ℕ) (k n : ℕ) (t : Turn)

@@ -33,6 +33,7 @@ use Rattle.host.specs.Calls as HostCalls
 use Rattle.machine_rules.specs.View as RulesView
 use Rattle.machine_rules.specs.Roots as RulesRoots
 use Rattle.machine_rules.specs.Seats as RulesSeats
+use Rattle.machine_rules.specs.Kinds as RulesKinds
 use Rattle.machine_rules.specs.Inputs as RulesInputs
 use Rattle.machine_rules.specs.Plan as RulesPlan
 use Rattle.machine_rules.specs.Effect as RulesEffect
@@ -73,13 +74,14 @@ unfoldable open-rules : ℕ
 unfolding RulesView.settingBy RulesView.turnOf RulesView.withRun RulesView.diskRight RulesView.areasRight RulesView.readOnlyMode
     RulesView.parent RulesView.freeCopies RulesView.sector RulesView.spotOf RulesView.parentSpots RulesView.committedSpots
     RulesView.whole RulesRoots.contractRoot RulesRoots.rangeCount RulesSeats.seated RulesSeats.committedSeats RulesSeats.seats
-    RulesSeats.nobody RulesSeats.seatsOf RulesSeats.firstSeat RulesInputs.known RulesInputs.operandsOf
+    RulesSeats.nobody RulesSeats.seatsOf RulesSeats.firstSeat RulesKinds.kind
     RulesInputs.illFormed RulesInputs.pastEnd RulesInputs.largest RulesInputs.need RulesInputs.inputsOf RulesInputs.isTold RulesInputs.told
     RulesInputs.isNumber RulesInputs.isKey RulesInputs.isData RulesInputs.wellFormed RulesInputs.readArgs RulesInputs.spanArgs
-    RulesInputs.argsOf RulesPlan.changes RulesPlan.isThere RulesPlan.spots RulesPlan.contractSource RulesPlan.soughtSource
-    RulesPlan.sectorSource RulesPlan.sourceOf RulesPlan.badSpan RulesPlan.badSize RulesPlan.badSpans RulesPlan.reads RulesPlan.badProof
-    RulesPlan.time RulesPlan.own RulesPlan.cost RulesPlan.touched RulesPlan.wanted RulesPlan.newSize RulesPlan.proofCount
-    RulesPlan.outputCount RulesPlan.recordCount RulesPlan.judgedSource RulesPlan.judgedInputs RulesPlan.judged RulesEffect.newCopy
+    RulesInputs.argsOf RulesInputs.dataIn RulesPlan.isThere RulesPlan.spots RulesPlan.contractSource RulesPlan.soughtSource
+    RulesPlan.sectorSource RulesPlan.sourceOf RulesPlan.badSpan RulesPlan.badSize RulesPlan.badSpans RulesPlan.badProof
+    RulesPlan.own RulesPlan.cost RulesPlan.touched RulesPlan.wanted RulesPlan.newSize RulesPlan.proofCount
+    RulesPlan.outputCount RulesPlan.recordCount RulesPlan.refused RulesPlan.fitted RulesPlan.weighed RulesPlan.plannedInputs RulesPlan.plannedArgs
+        RulesPlan.planned RulesPlan.judged RulesEffect.newCopy
     RulesEffect.sectorAt RulesEffect.copied RulesEffect.spanRead RulesEffect.laid RulesEffect.spanWritten RulesEffect.resized
     RulesEffect.effect RulesRecord.pairOf RulesRecord.startingPair RulesRecord.runningPair RulesRecord.recordBytes RulesRecord.failureBytes
     RulesRecord.outputOf RulesRecord.successBytes RulesRun.failedProgress RulesRun.failing RulesRun.ranProgress RulesRun.succeeding

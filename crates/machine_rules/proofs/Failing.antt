@@ -1,6 +1,6 @@
 -- Failures and the tally: what one instruction does by its number, and a run by induction on its turns. Assumes nothing.
 use mathlib.Core.Path.{_≡_, refl, sym, ap, _∙_, subst}
-use mathlib.Core.Bool.{Bool, true, false, not}
+use mathlib.Core.Bool.{true, false, not}
 use mathlib.Core.List.{List}
 use Prim.Native.Nat.{ℕ, zero, suc, _+_, _*_, _≤_}
 use native.Mathlib.Nat.{add-assoc}
@@ -17,8 +17,8 @@ use Rattle.host.specs.Lists.{some}
 use Rattle.host.specs.Empty.{none}
 use Rattle.host.specs.With.{withWritten, withFailed}
 use Rattle.machine_rules.specs.View.{Setting, Turn}
-use Rattle.machine_rules.specs.Inputs.{argsOf, inputsOf}
-use Rattle.machine_rules.specs.Plan.{cost, touched, judgedSource, judgedInputs, judged}
+use Rattle.machine_rules.specs.Inputs.{dataIn, argsOf, inputsOf}
+use Rattle.machine_rules.specs.Plan.{cost, touched, refused, fitted, weighed, plannedInputs, plannedArgs, planned, judged}
 use Rattle.machine_rules.specs.Run.{failedProgress, failing, ranProgress, succeeding, stepped, current, step, going, ready, runs, run}
 use Rattle.machine_rules.specs.Class.{isKnown, classOf}
 use Rattle.machine_rules.specs.Trace.{charges}
@@ -33,6 +33,8 @@ use Rattle.sia.specs.declared.Instruction.{Instruction}
 use Rattle.host.specs.declared.Progress.{Progress}
 use Rattle.machine_rules.specs.declared.Spot.{Spot}
 use Rattle.machine_rules.specs.Roots.{rootAt}
+use Rattle.machine_rules.proofs.Laws.Effects.{passes}
+use Rattle.machine_rules.specs.declared.Plan.{Plan}
 
 fails : (z : ℕ) (s : Setting) (n : ℕ) (t : Turn) → Failed z s n t (failing z s n t)
 unfolding failing failedProgress withWritten withFailed
@@ -63,14 +65,9 @@ unfolding stepped succeeding ranProgress
 charged z s i l t e = ap (λ (x : Turn). x .progress .tally) (picks (eqb (judged z s (rootAt z s t) (t .progress) i l) 0) _ _ (eq-eqb _ _ e))
 
 -- a chain of checks that comes to 0 passed its first check
-passes : (b : Bool) (n x : ℕ) → pick b (suc n) x ≡ 0 → (b ≡ false) × (x ≡ 0)
-unfolding pick
-passes true n x e = absurd (omega arith)
-passes false n x e = (refl, e)
-
 paid : (z : ℕ) (s : Setting) (f : Spot → List ℕ) (p : Progress) (i : Instruction) (l : List (List ℕ)) → judged z s f p i l ≡ 0
     → p .tally + cost (s .terms .head .length) (s .terms .prices) (opOf (i .name)) (argsOf (opOf (i .name)) l .len) ≤ s .terms .budget
-unfolding judged judgedInputs judgedSource
+unfolding judged planned plannedInputs plannedArgs weighed fitted
 paid z s f p i l e =
     let inputs = passes _ 21 _ (passes _ 20 _ e .1) .1 in
     let proof = passes _ 26 _ (passes _ 25 _ (passes _ 24 _ (passes _ 23 _ (passes _ 22 _ inputs .1) .1) .1) .1) .1 in
@@ -154,9 +151,9 @@ host n lo hi = record { known = sym (ap isKnown (is-host n lo hi)) }
 
 -- down the chain of checks
 classed : (z : ℕ) (s : Setting) (i : Instruction) (l : List (List ℕ)) (t : Turn) → Classed (judged z s (rootAt z s t) (t .progress) i l)
-unfolding judged judgedInputs judgedSource
+unfolding judged planned plannedInputs plannedArgs weighed fitted refused
 classed z s i l t =
-    let way = either-way Classed in
+    let way = either-way (λ (r : Plan). Classed (r .number)) in
     way _ _ _ (λ _. invalid 21 (omega arith) (omega arith)) (λ _. way _ _ _ (λ _. invalid 22 (omega arith) (omega arith)) (λ _.
     way _ _ _ (λ _. invalid 23 (omega arith) (omega arith)) (λ _. way _ _ _ (λ _. invalid 24 (omega arith) (omega arith)) (λ _.
     way _ _ _ (λ _. invalid 25 (omega arith) (omega arith)) (λ _. way _ _ _ (λ _. invalid 26 (omega arith) (omega arith)) (λ _.
@@ -174,7 +171,7 @@ module _ (z : ℕ) (s : Setting) (i : Instruction) (l : List (List ℕ)) (t : Tu
   op = opOf (i .name)
 
   abbrev ran : Turn
-  ran = succeeding z s (i .proof) op (argsOf op l) t
+  ran = succeeding z s (i .proof) op (argsOf op l) (dataIn l) t
 
   abbrev positions : List ℕ
   positions = touched z (t .progress .size) op (argsOf op l)

@@ -18,13 +18,14 @@ use Rattle.host.specs.Lists.{each, apart, firstOf}
 use Rattle.host.specs.Places.{hasId, whose, committed, taken}
 use Rattle.host.specs.Order.{inOrder, twins, parentInOrder}
 use Rattle.host.proofs.Laws.Order.{order-facts}
-use Rattle.machine_rules.specs.View.{Way, Setting, Turn, settingBy, settingOf, turnOf, readOnlyMode, sector}
-use Rattle.machine_rules.specs.View.{parent, spotOf, parentSpots, committedSpots}
+use Rattle.machine_rules.specs.View.{Way, Setting, Turn, settingBy, settingOf, turnOf, readOnlyMode, sector, parent, spotOf, parentSpots, committedSpots}
 use Rattle.machine_rules.specs.Roots.{sectorRoot, rootBy, rootOf, rootAt}
 use Rattle.machine_rules.specs.Seats.{seated, committedSeats, seats, nobody, allSeats, seatsOf, firstSeat, seatsIn, isStaged, notLocated}
 use Rattle.machine_rules.specs.Seats.{locatedAt, locatedBy}
 use Rattle.machine_rules.specs.Inputs.{illFormed, pastEnd, wellFormed, argsOf}
-use Rattle.machine_rules.specs.Plan.{Source, missing, seen, isThere, changes, soughtSource, sectorSource, sourceOf, judgedInputs, judged}
+use Rattle.machine_rules.specs.Plan.{Source, missing, seen, isThere, soughtSource, sectorSource, sourceOf, refused, plannedInputs}
+use Rattle.machine_rules.specs.Plan.{plannedArgs, planned, judged}
+use Rattle.machine_rules.specs.Kinds.{kind}
 use Rattle.machine_rules.specs.Visit.{Areas, Sound}
 use Rattle.machine_rules.specs.StageFirst.{Search, isMine, sectorsAt, Sits, earlier, Finds, writing, reading, allSpots, firstRoot}
 use Rattle.machine_rules.specs.StageFirst.{Looks, Reads, NotFound, Locates, Held, Soundly, StageFirst}
@@ -43,6 +44,7 @@ use Rattle.machine_rules.specs.declared.Spot.the-variants.{OnDisk, InSta
 use Rattle.machine_rules.specs.declared.Seat.{Seat}
 use Rattle.machine_rules.specs.declared.Sought.{Sought}
 use Rattle.machine_rules.specs.declared.Sought.the-variants.{At, Nowhere}
+use Rattle.machine_rules.specs.declared.Plan.{Plan}
 
 -- ---- document 01's look-up
 
@@ -199,19 +201,19 @@ reads z s t key = record {
 
 -- 25, down the chain of checks
 inputs-missing : (z : ℕ) (s : Setting) (f : Spot → List ℕ) (p : Progress) (i : Instruction) (l : List (List ℕ)) → wellFormed ReadSector l ≡ true
-    → sourceOf z s f p ReadSector (argsOf ReadSector l .key) ≡ missing → judgedInputs z s f p i ReadSector l ≡ 25
-unfolding judgedInputs changes isThere pick
+    → sourceOf z s f p ReadSector (argsOf ReadSector l .key) ≡ missing → plannedInputs z s f p i ReadSector l ≡ refused 25
+unfolding plannedInputs plannedArgs kind isThere pick
 inputs-missing z s f p i l well none =
     let from = sourceOf z s f p ReadSector (argsOf ReadSector l .key) in
-    skips (not (wellFormed ReadSector l)) 23 _ (ap not well)
-    ∙ picks (not (isThere from)) 25 _ (ap (λ (x : Source). not (isThere x)) none)
+    skips (not (wellFormed ReadSector l)) (refused 23) _ (ap not well)
+    ∙ picks (not (isThere from)) (refused 25) _ (ap (λ (x : Source). not (isThere x)) none)
 
 refuses : (z : ℕ) (s : Setting) (t : Turn) → NotFound z s t
-unfolding judged
+unfolding judged planned refused
 refuses z s t i l formed within name well none =
-    skips (illFormed i) 21 _ formed ∙ skips (pastEnd (s .terms .head .length) i) 22 _ within
-    ∙ ap (λ (op : Op). judgedInputs z s (rootAt z s t) (t .progress) i op l) name
-    ∙ inputs-missing z s (rootAt z s t) (t .progress) i l well (reads z s t (argsOf ReadSector l .key) .misses none)
+    ap (λ (r : Plan). r .number) (skips (illFormed i) (refused 21) _ formed ∙ skips (pastEnd (s .terms .head .length) i) (refused 22) _ within
+    ∙ ap (λ (op : Op). plannedInputs z s (rootAt z s t) (t .progress) i op l) name
+    ∙ inputs-missing z s (rootAt z s t) (t .progress) i l well (reads z s t (argsOf ReadSector l .key) .misses none))
 
 -- ---- the call `locate`
 

@@ -9,7 +9,7 @@ use Rattle.tree.specs.Tree.{root}
 use Rattle.host.specs.Empty.{none}
 use Rattle.host.specs.Places.{freeCopy}
 use Rattle.machine_rules.specs.View.{Setting, sector, parent, spotOf}
-use Rattle.machine_rules.specs.Inputs.{Args}
+use Rattle.machine_rules.specs.declared.Args.{Args}
 use Rattle.sia.specs.declared.Op.{Op}
 use Rattle.sia.specs.declared.Op.the-variants.{Read, ReadSector, Write, Copy, Swap, Truncate, Unknown}
 
@@ -62,16 +62,16 @@ resized z e size new g =
     pick (ltb size new) more (pick (ltb new size) less g)
 
 -- "Copy reads the whole source first. Swap reads both spans, writes the first at offset 2, then the second at offset 1."
-unfoldable pub effect : ℕ → Ground → ℕ → Op → Args → Staging → Staging
-effect z e size Read a g = g
-effect z e size ReadSector a g = g
-effect z e size Write a g = spanWritten z e (a .first) (a .bytes) g
-effect z e size Copy a g = spanWritten z e (a .first) (spanRead z e (a .second) (a .len) g) g
-effect z e size Swap a g =
+unfoldable pub effect : ℕ → Ground → ℕ → Op → Args → List ℕ → Staging → Staging
+effect z e size Read a d g = g
+effect z e size ReadSector a d g = g
+effect z e size Write a d g = spanWritten z e (a .first) d g
+effect z e size Copy a d g = spanWritten z e (a .first) (spanRead z e (a .second) (a .len) g) g
+effect z e size Swap a d g =
     spanWritten z e (a .first) (spanRead z e (a .second) (a .len) g)
     (spanWritten z e (a .second) (spanRead z e (a .first) (a .len) g) g)
-effect z e size Truncate a g = resized z e size (a .first) g
-effect z e size Unknown a g = g
+effect z e size Truncate a d g = resized z e size (a .first) g
+effect z e size Unknown a d g = g
 
 -- the roots kept beside the stage's slots after it: beside the slot of each position that was written to, the root of the sector's bytes now
 unfoldable pub rehashed : ℕ → Staging → List ℕ → List ℕ → List ℕ

@@ -1,5 +1,5 @@
 -- Needs and inputs of an instruction. Assumes nothing.
-use mathlib.Core.Bool.{Bool, true, false, not}
+use mathlib.Core.Bool.{Bool, true, not}
 use mathlib.Core.List.{List, [], _∷_}
 use Prim.Native.Nat.{ℕ, _+_, _-_, max}
 use lib.ListN.{length, take, drop, getD}
@@ -10,33 +10,14 @@ use Rattle.sia.specs.Names.{opOf}
 use Rattle.sia.specs.Number.{Decoded, number}
 use Rattle.sia.specs.Encode.{operandsIn}
 use Rattle.host.specs.Lists.{some, each}
+use Rattle.machine_rules.specs.Kinds.{known, operandsOf}
+use Rattle.machine_rules.specs.declared.Args.{Args}
 use Rattle.sia.specs.declared.Operand.{Operand}
 use Rattle.sia.specs.declared.Instruction.{Instruction}
 use Rattle.sia.specs.declared.Op.{Op}
 use Rattle.sia.specs.declared.Op.the-variants.{Read, ReadSector, Write, Copy, Swap, Truncate, Unknown}
 
 -- ---- 21, 22 and the need
-
--- "Names are Read, ReadSector, Write, Copy, Swap, Truncate": every other name is unknown
-unfoldable pub known : Op → Bool
-known Read = true
-known ReadSector = true
-known Write = true
-known Copy = true
-known Swap = true
-known Truncate = true
-known Unknown = false
-
--- "Read (contract, offset, length); ReadSector (root, offset, length); Write (offset, data); Copy (destination, source, size);
--- Swap (offset 1, offset 2, size); Truncate (new size)."
-unfoldable pub operandsOf : Op → ℕ
-operandsOf Read = 3
-operandsOf ReadSector = 3
-operandsOf Write = 2
-operandsOf Copy = 3
-operandsOf Swap = 3
-operandsOf Truncate = 1
-operandsOf Unknown = 0
 
 -- 21: "unknown name, or operand count wrong"
 unfoldable pub illFormed : Instruction → Bool
@@ -96,27 +77,23 @@ wellFormed Unknown l = true
 
 -- ---- what the inputs say
 
--- an id or root, zeros where there is none; two offsets, the first also Truncate's new size; a length; Write's data without its count
-pub record Args : Type 0 where
-  pub key : List ℕ
-  pub first : ℕ
-  pub second : ℕ
-  pub len : ℕ
-  pub bytes : List ℕ
-
 -- (contract or root, offset, length)
 unfoldable pub readArgs : List (List ℕ) → Args
-readArgs l = record { key = nth l 0; first = told (number (nth l 1)); second = 0; len = told (number (nth l 2)); bytes = [] }
+readArgs l = record { key = nth l 0; first = told (number (nth l 1)); second = 0; len = told (number (nth l 2)) }
 
 -- (destination or offset 1, source or offset 2, size)
 unfoldable pub spanArgs : List (List ℕ) → Args
-spanArgs l = record { key = zeros 32; first = told (number (nth l 0)); second = told (number (nth l 1)); len = told (number (nth l 2)); bytes = [] }
+spanArgs l = record { key = zeros 32; first = told (number (nth l 0)); second = told (number (nth l 1)); len = told (number (nth l 2)) }
 
 unfoldable pub argsOf : Op → List (List ℕ) → Args
 argsOf Read l = readArgs l
 argsOf ReadSector l = readArgs l
-argsOf Write l = record { key = zeros 32; first = told (number (nth l 0)); second = 0; len = length (nth l 1) - 8; bytes = drop 8 (nth l 1) }
+argsOf Write l = record { key = zeros 32; first = told (number (nth l 0)); second = 0; len = length (nth l 1) - 8 }
 argsOf Copy l = spanArgs l
 argsOf Swap l = spanArgs l
-argsOf Truncate l = record { key = zeros 32; first = told (number (nth l 0)); second = 0; len = 0; bytes = [] }
-argsOf Unknown l = record { key = zeros 32; first = 0; second = 0; len = 0; bytes = [] }
+argsOf Truncate l = record { key = zeros 32; first = told (number (nth l 0)); second = 0; len = 0 }
+argsOf Unknown l = record { key = zeros 32; first = 0; second = 0; len = 0 }
+
+-- Write's data, without its count
+unfoldable pub dataIn : List (List ℕ) → List ℕ
+dataIn l = drop 8 (nth l 1)

@@ -1,4 +1,5 @@
 -- What the machine means: document 01's "Taking an instruction", "Instructions", "Closing" and the table of answers.
+pub mod Kinds
 pub mod View
 pub mod Roots
 pub mod Seats

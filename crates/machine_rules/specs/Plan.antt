@@ -11,28 +11,21 @@ use Rattle.sia.specs.Names.{opOf}
 use Rattle.host.specs.Lists.{those}
 use Rattle.host.specs.Empty.{none}
 use Rattle.host.specs.Places.{whose, others}
+use Rattle.machine_rules.specs.Kinds.{time, reads, changes}
 use Rattle.machine_rules.specs.View.{Setting, readOnlyMode, freeCopies, parentSpots, committedSpots}
 use Rattle.machine_rules.specs.Roots.{rangeCount}
 use Rattle.machine_rules.specs.Seats.{seatsOf, firstSeat}
-use Rattle.machine_rules.specs.Inputs.{illFormed, pastEnd, wellFormed, Args, argsOf}
+use Rattle.machine_rules.specs.Inputs.{illFormed, pastEnd, wellFormed, argsOf}
+use Rattle.machine_rules.specs.declared.Args.{Args}
 use Rattle.sia.specs.declared.Instruction.{Instruction}
 use Rattle.sia.specs.declared.Op.{Op}
 use Rattle.sia.specs.declared.Op.the-variants.{Read, ReadSector, Write, Copy, Swap, Truncate, Unknown}
 use Rattle.host.specs.declared.Prices.{Prices}
 use Rattle.host.specs.declared.Progress.{Progress}
+use Rattle.machine_rules.specs.declared.Plan.{Plan}
 use Rattle.machine_rules.specs.declared.Spot.{Spot}
 use Rattle.machine_rules.specs.declared.Sought.{Sought}
 use Rattle.machine_rules.specs.declared.Sought.the-variants.{At, Nowhere}
-
--- 24: "Write, Copy, Swap or Truncate"
-unfoldable pub changes : Op → Bool
-changes Read = false
-changes ReadSector = false
-changes Write = true
-changes Copy = true
-changes Swap = true
-changes Truncate = true
-changes Unknown = false
 
 -- ---- 25: what is read
 
@@ -85,41 +78,21 @@ badSpan z end at n = either (eqb n 0) (either (ltb end (at + n)) (ltb z (at % z 
 unfoldable pub badSize : ℕ → ℕ → ℕ → Bool
 badSize z size new = either (not (eqb (new % z) 0)) (either (ltb (size + z) new) (ltb (new + z) size))
 
--- of a read the span in what is read; Copy and Swap both spans, and Write's, in the parent
-unfoldable pub badSpans : ℕ → ℕ → Source → Op → Args → Bool
-badSpans z size from Read a = badSpan z (length (spots from) * z) (a .first) (a .len)
-badSpans z size from ReadSector a = badSpan z (length (spots from) * z) (a .first) (a .len)
-badSpans z size from Write a = badSpan z size (a .first) (a .len)
-badSpans z size from Copy a = either (badSpan z size (a .first) (a .len)) (badSpan z size (a .second) (a .len))
-badSpans z size from Swap a = either (badSpan z size (a .first) (a .len)) (badSpan z size (a .second) (a .len))
-badSpans z size from Truncate a = badSize z size (a .first)
-badSpans z size from Unknown a = false
-
--- "Read or ReadSector"
-unfoldable pub reads : Op → Bool
-reads Read = true
-reads ReadSector = true
-reads Write = false
-reads Copy = false
-reads Swap = false
-reads Truncate = false
-reads Unknown = false
+-- of a read the span in the sectors that are read; Copy and Swap both spans, and Write's, in the parent
+unfoldable pub badSpans : ℕ → ℕ → ℕ → Op → Args → Bool
+badSpans z size sectors Read a = badSpan z (sectors * z) (a .first) (a .len)
+badSpans z size sectors ReadSector a = badSpan z (sectors * z) (a .first) (a .len)
+badSpans z size sectors Write a = badSpan z size (a .first) (a .len)
+badSpans z size sectors Copy a = either (badSpan z size (a .first) (a .len)) (badSpan z size (a .second) (a .len))
+badSpans z size sectors Swap a = either (badSpan z size (a .first) (a .len)) (badSpan z size (a .second) (a .len))
+badSpans z size sectors Truncate a = badSize z size (a .first)
+badSpans z size sectors Unknown a = false
 
 -- 27: "proof asked of other than Read or ReadSector, or with offset or length no multiple of 64"
 unfoldable pub badProof : Op → Args → Bool
 badProof op a = either (not (reads op)) (either (not (eqb (a .first % 64) 0)) (not (eqb (a .len % 64) 0)))
 
 -- ---- 28: cost
-
--- "Times: Read, ReadSector 10; Write, Copy 20; Swap 30; Truncate 5."
-unfoldable pub time : Op → ℕ
-time Read = 10
-time ReadSector = 10
-time Write = 20
-time Copy = 20
-time Swap = 30
-time Truncate = 5
-time Unknown = 0
 
 -- "read R = ReadBase + ReadLength × length"
 abbrev pub readPrice : Prices → ℕ → ℕ
@@ -172,41 +145,60 @@ newSize size Unknown a = size
 
 -- ---- 42: the record's length
 
-unfoldable pub proofCount : ℕ → Bool → Source → Args → ℕ
-proofCount z asked from a = let n = rangeCount z (spots from) (a .first) (a .len) in pick asked n 0
+unfoldable pub proofCount : ℕ → Bool → ℕ → Args → ℕ
+proofCount z asked sectors a = let n = rangeCount z sectors (a .first) (a .len) in pick asked n 0
 
 -- Read and ReadSector hand out what they read
 unfoldable pub outputCount : Op → Args → ℕ
 outputCount op a = pick (reads op) (a .len) 0
 
 -- number, cost, size, root and the two counts are 72 bytes
-unfoldable pub recordCount : ℕ → Bool → Source → Op → Args → ℕ
-recordCount z asked from op a = 72 + 32 * proofCount z asked from a + outputCount op a
+unfoldable pub recordCount : ℕ → Bool → ℕ → Op → Args → ℕ
+recordCount z asked sectors op a = 72 + 32 * proofCount z asked sectors a + outputCount op a
 
--- ---- "Checks, first match wins": the failure's number, or 0 where it can run
+-- ---- "Checks, first match wins": the plan
 
--- 26 to 42, where what is read was found
-unfoldable pub judgedSource : ℕ → Setting → Progress → Bool → Source → Op → Args → ℕ
-judgedSource z s p asked from op a =
-    pick (badSpans z (p .size) from op a) 26
-    (pick (both asked (badProof op a)) 27
-    (pick (ltb (s .terms .budget) (p .tally + cost (s .terms .head .length) (s .terms .prices) op (a .len))) 28
-    (pick (ltb (freeCopies s p) (wanted z p op a)) 40
-    (pick (ltb (s .sectors * z) (newSize (p .size) op a + others (s .terms .head .contract) (s .places))) 41
-    (pick (ltb (s .terms .room) (p .written + recordCount z asked from op a + 72)) 42 0)))))
+-- a failure: its number, and nothing else
+unfoldable pub refused : ℕ → Plan
+refused n = record { number = n; cost = 0; size = 0; hashes = 0; count = 0 }
+
+-- 40 to 42 of an instruction that costs so much
+unfoldable pub fitted : ℕ → Setting → Progress → Bool → ℕ → Op → Args → ℕ → Plan
+fitted z s p asked sectors op a price =
+    let size = newSize (p .size) op a in
+    let count = recordCount z asked sectors op a in
+    pick (ltb (freeCopies s p) (wanted z p op a)) (refused 40)
+    (pick (ltb (s .sectors * z) (size + others (s .terms .head .contract) (s .places))) (refused 41)
+    (pick (ltb (s .terms .room) (p .written + count + 72)) (refused 42)
+    (record { number = 0; cost = price; size = size; hashes = proofCount z asked sectors a; count = count })))
+
+-- 26 to 42, where what is read was found: so many sectors
+unfoldable pub weighed : ℕ → Setting → Progress → Bool → ℕ → Op → Args → Plan
+weighed z s p asked sectors op a =
+    let price = cost (s .terms .head .length) (s .terms .prices) op (a .len) in
+    pick (badSpans z (p .size) sectors op a) (refused 26)
+    (pick (both asked (badProof op a)) (refused 27)
+    (pick (ltb (s .terms .budget) (p .tally + price)) (refused 28)
+    (fitted z s p asked sectors op a price)))
+
+-- 24 to 42, of arguments that are told
+unfoldable pub plannedArgs : ℕ → Setting → (Spot → List ℕ) → Progress → Bool → Op → Args → Plan
+plannedArgs z s f p asked op a =
+    let from = sourceOf z s f p op (a .key) in
+    pick (both (changes op) (readOnlyMode (s .terms))) (refused 24)
+    (pick (not (isThere from)) (refused 25)
+    (weighed z s p asked (length (spots from)) op a))
 
 -- 23 to 42, where name and operands are right
-unfoldable pub judgedInputs : ℕ → Setting → (Spot → List ℕ) → Progress → Instruction → Op → List (List ℕ) → ℕ
-judgedInputs z s f p i op l =
-    let a = argsOf op l in
-    let from = sourceOf z s f p op (a .key) in
-    pick (not (wellFormed op l)) 23
-    (pick (both (changes op) (readOnlyMode (s .terms))) 24
-    (pick (not (isThere from)) 25
-    (judgedSource z s p (i .proof) from op a)))
+unfoldable pub plannedInputs : ℕ → Setting → (Spot → List ℕ) → Progress → Instruction → Op → List (List ℕ) → Plan
+plannedInputs z s f p i op l = pick (not (wellFormed op l)) (refused 23) (plannedArgs z s f p (i .proof) op (argsOf op l))
 
+unfoldable pub planned : ℕ → Setting → (Spot → List ℕ) → Progress → Instruction → List (List ℕ) → Plan
+planned z s f p i l =
+    pick (illFormed i) (refused 21)
+    (pick (pastEnd (s .terms .head .length) i) (refused 22)
+    (plannedInputs z s f p i (opOf (i .name)) l))
+
+-- the failure's number, or 0 where it can run
 unfoldable pub judged : ℕ → Setting → (Spot → List ℕ) → Progress → Instruction → List (List ℕ) → ℕ
-judged z s f p i l =
-    pick (illFormed i) 21
-    (pick (pastEnd (s .terms .head .length) i) 22
-    (judgedInputs z s f p i (opOf (i .name)) l))
+judged z s f p i l = planned z s f p i l .number

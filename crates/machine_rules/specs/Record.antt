@@ -2,7 +2,7 @@
 use mathlib.Core.Bool.{Bool}
 use mathlib.Core.List.{List, [], _∷_, _++_}
 use Prim.Native.Nat.{ℕ, _/_, _%_}
-use lib.ListN.{getD}
+use lib.ListN.{length, getD}
 use lib.Dec.{eqb}
 use Rattle.area.specs.Pick.{pick, both}
 use Rattle.area.specs.Area.{same, part}
@@ -10,7 +10,7 @@ use Rattle.area.specs.Little.{le8}
 use Rattle.host.specs.With.{withRunning, withStaged}
 use Rattle.machine_rules.specs.View.{Setting, sector, parent, parentSpots, committedSpots}
 use Rattle.machine_rules.specs.Roots.{rootOnDisk, contractRoot, rangeProof}
-use Rattle.machine_rules.specs.Inputs.{Args}
+use Rattle.machine_rules.specs.declared.Args.{Args}
 use Rattle.machine_rules.specs.Plan.{Source, spots, proofCount, outputCount}
 use Rattle.machine_rules.specs.Effect.{Staging}
 use Rattle.sia.specs.declared.Op.{Op}
@@ -60,5 +60,5 @@ outputOf z disk stage (x ∷ xs) a = part (sector z disk stage (getD (x ∷ xs) 
 unfoldable pub successBytes : ℕ → Setting → (Spot → List ℕ) → Progress → Bool → Source → Op → Args → ℕ → ℕ → Staging → List ℕ
 successBytes z s f p asked from op a n size g =
     recordBytes 0 n (runningPair z s f (withStaged (withRunning p size) (g .staged)))
-    (proofCount z asked from a) (pick asked (rangeProof z f (s .disk) (g .bytes) (spots from) (a .first) (a .len)) [])
+    (proofCount z asked (length (spots from)) a) (pick asked (rangeProof z f (s .disk) (g .bytes) (spots from) (a .first) (a .len)) [])
     (outputCount op a) (pick (eqb (outputCount op a) 0) [] (outputOf z (s .disk) (g .bytes) (spots from) a))

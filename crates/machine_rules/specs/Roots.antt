@@ -2,7 +2,7 @@
 -- proofs take it as a function of spots. z is the sector size. Assumes nothing.
 use mathlib.Core.List.{List, [], _∷_}
 use Prim.Native.Nat.{ℕ, _+_, _*_, _/_, _%_}
-use lib.ListN.{length, getD}
+use lib.ListN.{getD}
 use Rattle.area.specs.Area.{zeros}
 use Rattle.tree.specs.Tree.{root, join}
 use Rattle.tree.specs.Walk.{count, proofIn}
@@ -54,6 +54,6 @@ rangeProof z f disk stage [] at n = []
 rangeProof z f disk stage (x ∷ xs) at n =
     proofIn (joined f (x ∷ xs)) (at / z) (sector z disk stage (getD (x ∷ xs) (at / z) x)) (at % z / 64) (at % z / 64 + n / 64)
 
--- how many hashes it has, from numbers alone
-unfoldable pub rangeCount : ℕ → List Spot → ℕ → ℕ → ℕ
-rangeCount z l at n = count (segments z (length l)) (at / 64) ((at + n) / 64)
+-- how many hashes it has, from numbers alone: of so many sectors
+unfoldable pub rangeCount : ℕ → ℕ → ℕ → ℕ → ℕ
+rangeCount z sectors at n = count (segments z sectors) (at / 64) ((at + n) / 64)

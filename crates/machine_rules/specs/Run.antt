@@ -2,16 +2,17 @@
 use mathlib.Core.Bool.{Bool, true, not}
 use mathlib.Core.List.{List}
 use Prim.Native.Nat.{ℕ, zero, suc, _+_}
-use lib.ListN.{getD}
+use lib.ListN.{length, getD}
 use lib.Dec.{leb, ltb, eqb}
 use Rattle.area.specs.Pick.{pick, both}
 use Rattle.area.specs.Area.{put}
 use Rattle.sia.specs.Names.{opOf}
 use Rattle.sia.specs.Empty.{noInstruction}
 use Rattle.machine_rules.specs.View.{Setting, Turn}
-use Rattle.machine_rules.specs.Inputs.{need, inputsOf, Args, argsOf}
+use Rattle.machine_rules.specs.Inputs.{dataIn, need, inputsOf, argsOf}
+use Rattle.machine_rules.specs.declared.Args.{Args}
 use Rattle.machine_rules.specs.Roots.{rootOf, rootAt}
-use Rattle.machine_rules.specs.Plan.{sourceOf, cost, touched, newSize, recordCount, judged}
+use Rattle.machine_rules.specs.Plan.{spots, sourceOf, cost, touched, newSize, recordCount, judged}
 use Rattle.machine_rules.specs.Effect.{groundOf, effect, rehashed}
 use Rattle.machine_rules.specs.Record.{failureBytes, successBytes}
 use Rattle.sia.specs.declared.Instruction.{Instruction}
@@ -40,16 +41,16 @@ ranProgress p cost count size staged =
     record { ran = p .ran + 1; tally = p .tally + cost; written = p .written + count; size = size; failed = p .failed; staged = staged }
 
 -- it runs: "Cost, fixed before running", its effect, the roots of the sectors that it wrote, its record
-unfoldable pub succeeding : ℕ → Setting → Bool → Op → Args → Turn → Turn
-succeeding z s asked op a t =
+unfoldable pub succeeding : ℕ → Setting → Bool → Op → Args → List ℕ → Turn → Turn
+succeeding z s asked op a d t =
     let p = t .progress in
     let from = sourceOf z s (rootAt z s t) p op (a .key) in
     let n = cost (s .terms .head .length) (s .terms .prices) op (a .len) in
     let size = newSize (p .size) op a in
-    let g = effect z (groundOf s) (p .size) op a (record { staged = p .staged; bytes = t .stage }) in
+    let g = effect z (groundOf s) (p .size) op a d (record { staged = p .staged; bytes = t .stage }) in
     let roots = rehashed z g (touched z (p .size) op a) (t .roots) in
     record {
-      progress = ranProgress p n (recordCount z asked from op a) size (g .staged);
+      progress = ranProgress p n (recordCount z asked (length (spots from)) op a) size (g .staged);
       stage = g .bytes;
       output = put (t .output) (p .written) (successBytes z s (rootOf z s (g .bytes) roots) p asked from op a n size g);
       roots = roots;
@@ -59,7 +60,7 @@ succeeding z s asked op a t =
 unfoldable pub stepped : ℕ → Setting → Instruction → List (List ℕ) → Turn → Turn
 stepped z s i l t =
     let n = judged z s (rootAt z s t) (t .progress) i l in
-    let runs = succeeding z s (i .proof) (opOf (i .name)) (argsOf (opOf (i .name)) l) t in
+    let runs = succeeding z s (i .proof) (opOf (i .name)) (argsOf (opOf (i .name)) l) (dataIn l) t in
     pick (eqb n 0) runs (failing z s n t)
 
 -- ---- in turn

@@ -12,7 +12,7 @@ use Rattle.sia.specs.Empty.{noInstruction}
 use Rattle.host.specs.Places.{whose}
 use Rattle.machine_rules.specs.View.{Way, kept, Setting, Turn, settingBy, settingOf, turnOf, withRun, parentSpots, committedSpots, whole}
 use Rattle.machine_rules.specs.Roots.{rootOf, rootAt, rootOnDisk}
-use Rattle.machine_rules.specs.Inputs.{need, inputsOf, argsOf}
+use Rattle.machine_rules.specs.Inputs.{dataIn, need, inputsOf, argsOf}
 use Rattle.machine_rules.specs.Plan.{sourceOf, cost, touched, newSize, judged}
 use Rattle.machine_rules.specs.Effect.{groundOf, effect, rehashed}
 use Rattle.machine_rules.specs.Record.{pairOf, startingPair, runningPair, failureBytes, successBytes}
@@ -84,7 +84,7 @@ recordOf z s i l t =
     let x = argsOf op l in
     let n = judged z s (rootAt z s t) p i l in
     let price = cost (s .terms .head .length) (s .terms .prices) op (x .len) in
-    let g = effect z (groundOf s) (p .size) op x (record { staged = p .staged; bytes = t .stage }) in
+    let g = effect z (groundOf s) (p .size) op x (dataIn l) (record { staged = p .staged; bytes = t .stage }) in
     let f = rootOf z s (g .bytes) (rehashed z g (touched z (p .size) op x) (t .roots)) in
     let good = successBytes z s f p (i .proof) (sourceOf z s (rootAt z s t) p op (x .key)) op x price (newSize (p .size) op x) g in
     pick (eqb n 0) good (failureBytes z s n)

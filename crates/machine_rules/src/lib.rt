@@ -4,6 +4,34 @@ pub mod class; // class.rt: the class of a record's number
 
 use host::Host;
 
+// What kinds of instructions differ in: whether there is such an instruction, how many operands it has, its time, whether it hands out what it reads,
+// and whether it changes the parent.
+pub struct Kind {
+    pub known: bool,
+    pub operands: u64,
+    pub time: u64,
+    pub reads: bool,
+    pub changes: bool,
+}
+
+// What an instruction's inputs say: an id or root, zeros where there is none; two offsets, the first also Truncate's new size; and a length.
+pub struct Args {
+    pub key: [u8; 32],
+    pub first: u64,
+    pub second: u64,
+    pub len: u64,
+}
+
+// The plan of an instruction: the number of its failure and nothing else, or 0 with its cost, the parent's new size, the hashes of its proof and the length
+// of its record.
+pub struct Plan {
+    pub number: u64,
+    pub cost: u64,
+    pub size: u64,
+    pub hashes: u64,
+    pub count: u64,
+}
+
 // Where the bytes of a sector are: in a slot of the disk, or of the stage.
 pub enum Spot {
     OnDisk(usize),

@@ -16,7 +16,7 @@ use Rattle.sia.specs.Encode.{every}
 use Rattle.tree.specs.Walk.{count}
 use Rattle.machine_rules.specs.View.{Setting, sector, spotOf, parent, parentSpots}
 use Rattle.machine_rules.specs.Roots.{segments, rangeCount}
-use Rattle.machine_rules.specs.Inputs.{Args}
+use Rattle.machine_rules.specs.declared.Args.{Args}
 use Rattle.machine_rules.specs.Plan.{badSpan, badProof}
 use Rattle.machine_rules.specs.Record.{outputOf}
 use Rattle.machine_rules.specs.Facts.{valid}
@@ -108,9 +108,9 @@ span-output z disk stage v a h = at (spotsOf v) (omega (arith, seen-count v)) (�
   at (x ∷ xs) lt f = ap (λ (y : Spot). part (sector z disk stage y) (a .first % z) (a .len)) (sym (f x))
 
 -- `range_count` is the count of hashes of a record
-pub count-range : (z : ℕ) (l : List Spot) (m at n : ℕ) → m ≡ length l → count (segments z m) (at / 64) ((at + n) / 64) ≡ rangeCount z l at n
+pub count-range : (z m at n : ℕ) → count (segments z m) (at / 64) ((at + n) / 64) ≡ rangeCount z m at n
 unfolding rangeCount
-count-range z l m at n e = ap (λ (k : ℕ). count (segments z k) (at / 64) ((at + n) / 64)) e
+count-range z m at n = refl
 
 -- `parent_seen` sees the parent
 pub parent-spots : (z : ℕ) (s : Setting) (p : Progress) (q : Place) → q ≡ parent s

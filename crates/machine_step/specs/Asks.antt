@@ -1,14 +1,14 @@
 -- What the functions of a step ask of their callers. z is the sector size. Assumes nothing.
 use mathlib.Core.Path.{_≡_}
 use mathlib.Core.Bool.{Bool, true}
-use mathlib.Core.List.{List, []}
+use mathlib.Core.List.{List}
 use Prim.Native.Nat.{ℕ, _+_, _*_, _/_, _≤_, _<_, _^_}
 use lib.ListN.{length, drop}
-use Rattle.area.specs.Area.{part, tab}
+use Rattle.area.specs.Area.{tab}
 use Rattle.area.specs.Slots.{Size}
 use Rattle.sia.specs.Encode.{every}
 use Rattle.machine_rules.specs.View.{kept, Setting, Turn, spotOf}
-use Rattle.machine_rules.specs.Plan.{reads}
+use Rattle.machine_rules.specs.Kinds.{reads}
 use Rattle.machine_rules.specs.Run.{going}
 use Rattle.machine_rules.specs.Facts.{Solid, Good}
 use Rattle.machine_sight.specs.Seen.{lies}
@@ -20,7 +20,7 @@ use Rattle.machine_step.specs.Ran.{stageAfter, progressAfter, rootsAfter
 use Rattle.host.specs.declared.Place.{Place}
 use Rattle.sia.specs.declared.Op.the-variants.{Write}
 use Rattle.host.specs.declared.Progress.{Progress}
-use Rattle.machine_plan.specs.declared.Plan.{Plan}
+use Rattle.machine_plan.specs.declared.Task.{Task}
 
 -- the parent's sectors up to its running size, a root kept beside each
 pub record Reads (z : ℕ) (diskroots stageroots : List ℕ) (p : Place) (g : Progress) : Type 0 where
@@ -43,17 +43,17 @@ pub record Steps (z : ℕ) (s : Setting) (t : Turn) (a : List ℕ) : Type 0 wher
 
 -- an instruction that can run: what its effect asks, where Write's data lies, and, after the effect, what rehashing asks, the parent within
 -- the areas and room for the record; no sum passes 64 bits
-pub record Runs (z copies : ℕ) (parent : Place) (diskroots disk input : List ℕ) (p : Plan) (asked : Bool) (t : Turn) : Type 0 where
+pub record Runs (z copies : ℕ) (parent : Place) (diskroots disk input : List ℕ) (p : Task) (asked : Bool) (t : Turn) : Type 0 where
   pub stands : Effect.Stands z (ground copies (parent .slots) disk) (t .progress .size) (p .op)
-      (args (p .args .first) (p .args .second) (p .args .len) (part input (p .args .from) (p .args .len))) (staging (t .progress .staged) (t .stage))
-  pub source : p .op ≡ Write → p .args .from + p .args .len ≤ length input
-  pub rehashes : Rehashes z (t .progress .size) (p .op) (args (p .args .first) (p .args .second) 0 [])
+      (args (p .args .first) (p .args .second) (p .args .len)) (staging (t .progress .staged) (t .stage))
+  pub source : p .op ≡ Write → p .from + p .args .len ≤ length input
+  pub rehashes : Rehashes z (t .progress .size) (p .op) (args (p .args .first) (p .args .second) 0)
       (stageAfter z copies parent disk input p (t .progress) (t .stage)) (t .roots)
   pub read : let after = stageAfter z copies parent disk input p (t .progress) (t .stage) in
       Reads z diskroots (rootsAfter z p (t .progress) after (t .roots)) parent (progressAfter p (t .progress) after)
   pub shows : let after = stageAfter z copies parent disk input p (t .progress) (t .stage) in
       Shows z diskroots (rootsAfter z p (t .progress) after (t .roots)) disk (after .bytes) (p .seen) asked (reads (p .op))
-      (p .args .first) (p .args .len) (p .hashes) (drop (t .progress .written) (t .output))
+      (p .args .first) (p .args .len) (p .plan .hashes) (drop (t .progress .written) (t .output))
   pub ran : t .progress .ran + 1 < 2 ^ 64
-  pub tally : t .progress .tally + p .cost < 2 ^ 64
-  pub written : t .progress .written + p .count ≤ length (t .output)
+  pub tally : t .progress .tally + p .plan .cost < 2 ^ 64
+  pub written : t .progress .written + p .plan .count ≤ length (t .output)

@@ -9,7 +9,8 @@ use crate::records;
 use crate::roots;
 use host::Place;
 use host::Progress;
-use machine_plan::Plan;
+use machine_plan::Task;
+use machine_rules::Plan;
 
 // The progress after it.
 fn advanced(progress: Progress, plan: Plan, staged: [u8; 64]) -> Progress
@@ -36,21 +37,22 @@ pub fn succeed<'a>(
     diskroots: &'a [u8],
     disk: &'a [u8],
     input: &[u8],
-    plan: Plan,
+    task: Task,
     asked: bool,
     progress: Progress,
     stageroots: &mut [u8],
     stage: &mut [u8],
     output: &mut [u8],
 ) -> Progress
-    requires { ⌜ Runs z copies parent (now diskroots) (now disk) (now input) plan asked (turn progress (now stage) (now output) (now stageroots)) ⌝ }
+    requires { ⌜ Runs z copies parent (now diskroots) (now disk) (now input) task asked (turn progress (now stage) (now output) (now stageroots)) ⌝ }
     ensures { λ r. ⌜ turn r (now (stage .exit)) (now (output .exit)) (now (stageroots .exit)) ≡
-        Says.ran z copies parent (now (diskroots .entry)) (now (disk .entry)) (now (input .entry)) plan asked
+        Says.ran z copies parent (now (diskroots .entry)) (now (disk .entry)) (now (input .entry)) task asked
         (turn progress (now (stage .entry)) (now (output .entry)) (now (stageroots .entry))) ⌝ }
 {
     let sector = z as usize;
-    let op = plan.op;
-    let args = plan.args;
+    let plan = task.plan;
+    let op = task.op;
+    let args = task.args;
     let first = args.first as usize;
     let second = args.second as usize;
     let len = args.len as usize;
@@ -70,14 +72,14 @@ pub fn succeed<'a>(
         second,
         len,
         input,
-        args.from as usize,
+        task.from as usize,
     );
     machine_effect::rehash(sector, op, staged, &*stage, size, first, second, stageroots);
     let after = advanced(progress, plan, staged);
     let root = roots::running_root(z, diskroots, &*stageroots, parent, after);
     let at = progress.written as usize;
-    let reads = machine_plan::reads(op);
-    let seen = plan.seen;
+    let reads = machine_inputs::reads(op);
+    let seen = task.seen;
     records::put_success(
         sector,
         plan.cost,

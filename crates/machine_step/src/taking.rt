@@ -33,7 +33,7 @@ pub fn step<'a>(
         stepped z (setting sectors copies places terms (now (disk .entry)) (now (diskroots .entry))) i (inputsOf i (now (input .entry)))
         (turn progress (now (stage .entry)) (now (output .entry)) (now (stageroots .entry))) ⌝ }
 {
-    let planned = machine_plan::planned(
+    let task = machine_plan::planned(
         z,
         sectors,
         copies,
@@ -48,8 +48,9 @@ pub fn step<'a>(
     let head = terms.head;
     let id = head.contract;
     let parent = host::place_of(places, id);
-    if planned.number != 0 {
-        return roots::fail(z, planned.number, diskroots, parent, progress, output);
+    let plan = task.plan;
+    if plan.number != 0 {
+        return roots::fail(z, plan.number, diskroots, parent, progress, output);
     }
     running::succeed(
         z,
@@ -58,7 +59,7 @@ pub fn step<'a>(
         diskroots,
         disk,
         input,
-        planned,
+        task,
         i.proof,
         progress,
         stageroots,

@@ -9,7 +9,7 @@ use borrow.Author.Tests.{lt-ltb, eqb-true}
 use Rattle.area.specs.Pick.{pick}
 use Rattle.area.proofs.Laws.Pick.{by, picks, skips}
 use Rattle.host.specs.Empty.{none}
-use Rattle.machine_rules.specs.Inputs.{Args}
+use Rattle.machine_rules.specs.declared.Args.{Args}
 use Rattle.machine_rules.specs.Plan.{touched}
 use Rattle.machine_rules.specs.Effect.{Staging, rehashed}
 use Rattle.sia.specs.declared.Op.{Op}

@@ -2,7 +2,7 @@
 use mathlib.Core.Path.{_≡_, refl, sym, ap, _∙_}
 use mathlib.Core.List.{List}
 use Prim.Native.Nat.{ℕ}
-use Rattle.machine_rules.specs.Inputs.{Args}
+use Rattle.machine_rules.specs.declared.Args.{Args}
 use Rattle.machine_rules.specs.Effect.{Ground, Staging, newCopy, resized, effect}
 use Rattle.sia.specs.declared.Op.{Op}
 use Rattle.sia.specs.declared.Op.the-variants.{Read, ReadSector, Write, Copy, Swap, Truncate, Unknown}
@@ -10,9 +10,9 @@ use Rattle.machine_effect.specs.Parts.{alone, args}
 use Rattle.machine_effect.specs.Asks.{Lent, Sized}
 
 -- the code's arm
-pub arm : {x : Staging} {op known : Op} (z : ℕ) (e : Ground) (size : ℕ) (a : Args) (g : Staging) → op ≡ known → x ≡ effect z e size known a g
-    → x ≡ effect z e size op a g
-arm z e size a g told q = q ∙ ap (λ (o : Op). effect z e size o a g) (sym told)
+pub arm : {x : Staging} {op known : Op} (z : ℕ) (e : Ground) (size : ℕ) (a : Args) (d : List ℕ) (g : Staging) → op ≡ known
+    → x ≡ effect z e size known a d g → x ≡ effect z e size op a d g
+arm z e size a d g told q = q ∙ ap (λ (o : Op). effect z e size o a d g) (sym told)
 
 -- ---- a change of size looks at the stage alone
 
@@ -27,15 +27,27 @@ pub resized-alone : {x : Staging} (z : ℕ) (e : Ground) (g : Staging) (size new
 unfolding resized newCopy
 resized-alone z e g size new q = q
 
--- ---- an effect looks at no key, and only Write's at bytes
+-- ---- an effect looks at no key
 
-pub effect-args : (z : ℕ) (e : Ground) (size : ℕ) (op : Op) (a : Args) (bs : List ℕ) (g : Staging) → (op ≡ Write → a .bytes ≡ bs)
-    → effect z e size op (args (a .first) (a .second) (a .len) bs) g ≡ effect z e size op a g
+pub effect-args : (z : ℕ) (e : Ground) (size : ℕ) (op : Op) (a : Args) (d : List ℕ) (g : Staging)
+    → effect z e size op (args (a .first) (a .second) (a .len)) d g ≡ effect z e size op a d g
 unfolding effect
-effect-args z e size Read a bs g h = refl
-effect-args z e size ReadSector a bs g h = refl
-effect-args z e size Write a bs g h = ap (λ (l : List ℕ). effect z e size Write (args (a .first) (a .second) (a .len) l) g) (sym (h refl))
-effect-args z e size Copy a bs g h = refl
-effect-args z e size Swap a bs g h = refl
-effect-args z e size Truncate a bs g h = refl
-effect-args z e size Unknown a bs g h = refl
+effect-args z e size Read a d g = refl
+effect-args z e size ReadSector a d g = refl
+effect-args z e size Write a d g = refl
+effect-args z e size Copy a d g = refl
+effect-args z e size Swap a d g = refl
+effect-args z e size Truncate a d g = refl
+effect-args z e size Unknown a d g = refl
+
+-- and only Write's at data
+pub effect-data : (z : ℕ) (e : Ground) (size : ℕ) (op : Op) (a : Args) (d l : List ℕ) (g : Staging) → (op ≡ Write → d ≡ l)
+    → effect z e size op a d g ≡ effect z e size op a l g
+unfolding effect
+effect-data z e size Read a d l g h = refl
+effect-data z e size ReadSector a d l g h = refl
+effect-data z e size Write a d l g h = ap (λ (x : List ℕ). effect z e size Write a x g) (h refl)
+effect-data z e size Copy a d l g h = refl
+effect-data z e size Swap a d l g h = refl
+effect-data z e size Truncate a d l g h = refl
+effect-data z e size Unknown a d l g h = refl

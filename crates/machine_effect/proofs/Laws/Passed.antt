@@ -15,7 +15,7 @@ use Rattle.host.specs.Lists.{those, count, unused}
 use Rattle.host.specs.Empty.{none}
 use Rattle.host.specs.Places.{whose}
 use Rattle.machine_rules.specs.View.{Setting, parent, freeCopies}
-use Rattle.machine_rules.specs.Inputs.{Args}
+use Rattle.machine_rules.specs.declared.Args.{Args}
 use Rattle.machine_rules.specs.Plan.{badSpan, badSpans, touched, wanted, newSize}
 use Rattle.machine_rules.specs.Facts.{Good, Solid}
 use Rattle.machine_rules.specs.Effect.{groundOf, Staging, copied, effect}
@@ -29,7 +29,7 @@ use Rattle.machine_rules.specs.declared.Spot.{Spot}
 use Rattle.machine_effect.specs.Parts.{ground, staging, args}
 use Rattle.machine_effect.specs.Asks.{bare, Lent, Lies, From, Over, Two, Sized, Stands}
 use Rattle.machine_effect.proofs.Laws.Kept.{lies-copied}
-use Rattle.machine_effect.proofs.Laws.Cases.{effect-args}
+use Rattle.machine_effect.proofs.Laws.Cases.{effect-args, effect-data}
 
 -- what `badSpan` rules out
 span-within : (z size at n : ℕ) → badSpan z size at n ≡ false → at % z + n ≤ z
@@ -154,9 +154,9 @@ module _ (z : ℕ) (s : Setting) (p : Progress) (bytes : List ℕ) (good : Good 
       ))
 
   -- an instruction that can run has what its effect asks
-  pub stands : {f : Spot → List ℕ} (op : Op) (a : Args) (n : ℕ) (bs : List ℕ) → Passed z s f p op a n
-      → Stands z (groundOf s) (p .size) op (args (a .first) (a .second) (a .len) bs) (staging (p .staged) bytes)
-  stands {f} op a n bs q =
+  pub stands : {f : Spot → List ℕ} (op : Op) (a : Args) (n : ℕ) → Passed z s f p op a n
+      → Stands z (groundOf s) (p .size) op (args (a .first) (a .second) (a .len)) (staging (p .staged) bytes)
+  stands {f} op a n q =
       record {
         lent = lent;
         write = λ o. writes a n (subst (λ (x : Op). Passed z s f p x a n) o q);
@@ -167,17 +167,17 @@ module _ (z : ℕ) (s : Setting) (p : Progress) (bytes : List ℕ) (good : Good 
       }
 
   -- the same where the code has the parent's disk slots
-  pub stands-with : {f : Spot → List ℕ} (slots : List ℕ) → slots ≡ parent s .slots → (op : Op) (a : Args) (n : ℕ) (bs : List ℕ)
+  pub stands-with : {f : Spot → List ℕ} (slots : List ℕ) → slots ≡ parent s .slots → (op : Op) (a : Args) (n : ℕ)
       → Passed z s f p op a n
-      → Stands z (ground (s .copies) slots (s .disk)) (p .size) op (args (a .first) (a .second) (a .len) bs) (staging (p .staged) bytes)
-  stands-with slots own op a n bs q =
-      subst (λ (l : List ℕ). Stands z (ground (s .copies) l (s .disk)) (p .size) op (args (a .first) (a .second) (a .len) bs) (staging (p .staged) bytes))
-      (sym own) (stands op a n bs q)
+      → Stands z (ground (s .copies) slots (s .disk)) (p .size) op (args (a .first) (a .second) (a .len)) (staging (p .staged) bytes)
+  stands-with slots own op a n q =
+      subst (λ (l : List ℕ). Stands z (ground (s .copies) l (s .disk)) (p .size) op (args (a .first) (a .second) (a .len)) (staging (p .staged) bytes))
+      (sym own) (stands op a n q)
 
 -- and what the code's answer is then
-pub effect-with : {x : Staging} (z : ℕ) (s : Setting) (slots : List ℕ) → slots ≡ parent s .slots → (size : ℕ) (op : Op) (a : Args) (bs : List ℕ) (g : Staging)
-    → (op ≡ Write → a .bytes ≡ bs) → x ≡ effect z (ground (s .copies) slots (s .disk)) size op (args (a .first) (a .second) (a .len) bs) g
-    → x ≡ effect z (groundOf s) size op a g
-effect-with z s slots own size op a bs g h q =
-    q ∙ ap (λ (l : List ℕ). effect z (ground (s .copies) l (s .disk)) size op (args (a .first) (a .second) (a .len) bs) g) own
-    ∙ effect-args z (groundOf s) size op a bs g h
+pub effect-with : {x : Staging} (z : ℕ) (s : Setting) (slots : List ℕ) → slots ≡ parent s .slots → (size : ℕ) (op : Op) (a : Args) (d l : List ℕ)
+    (g : Staging) → (op ≡ Write → d ≡ l) → x ≡ effect z (ground (s .copies) slots (s .disk)) size op (args (a .first) (a .second) (a .len)) d g
+    → x ≡ effect z (groundOf s) size op a l g
+effect-with z s slots own size op a d l g h q =
+    q ∙ ap (λ (y : List ℕ). effect z (ground (s .copies) y (s .disk)) size op (args (a .first) (a .second) (a .len)) d g) own
+    ∙ effect-args z (groundOf s) size op a d g ∙ effect-data z (groundOf s) size op a d l g h

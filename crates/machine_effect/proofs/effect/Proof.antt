@@ -36,32 +36,32 @@ returns-3 : tie.Need-returns-3
 unfolding effect
 returns-3 c =
     let at-write = c .before .before in let at-enum-told3 = at-write .before .before in
-    arm _ _ _ _ _ (at-enum-told3 .enum-told3 .given .1) (at-write .write .ensures)
+    arm _ _ _ _ _ _ (at-enum-told3 .enum-told3 .given .1) (at-write .write .ensures)
 
 returns-4 : tie.Need-returns-4
 unfolding effect
 returns-4 c =
     let at-copy = c .before .before in let at-enum-told4 = at-copy .before .before in
-    arm _ _ _ _ _ (at-enum-told4 .enum-told4 .given .1) (at-copy .copy .ensures)
+    arm _ _ _ _ _ _ (at-enum-told4 .enum-told4 .given .1) (at-copy .copy .ensures)
 
 returns-5 : tie.Need-returns-5
 unfolding effect
 returns-5 c =
     let at-swap = c .before .before in let at-enum-told5 = at-swap .before .before in
-    arm _ _ _ _ _ (at-enum-told5 .enum-told5 .given .1) (at-swap .swap .ensures)
+    arm _ _ _ _ _ _ (at-enum-told5 .enum-told5 .given .1) (at-swap .swap .ensures)
 
 returns-6 : tie.Need-returns-6
 unfolding effect
 returns-6 c =
     let at-resized = c .before .before in let at-enum-told6 = at-resized .before .before in
-    arm _ _ _ _ _ (at-enum-told6 .enum-told6 .given .1) (resized-alone _ _ _ _ _ (at-resized .resized .ensures))
+    arm _ _ _ _ _ _ (at-enum-told6 .enum-told6 .given .1) (resized-alone _ _ _ _ _ (at-resized .resized .ensures))
 
 pub effect-spec : {M : Type 1} → statement M
 unfolding effect
 effect-spec =
     tie.close (tie.spec (λ c. search needs) (λ c. search needs) (λ c. search needs) write-requires (λ c. search needs) copy-requires
         (λ c. search needs) swap-requires (λ c. search needs) resized-requires (λ c. search needs)
-        (λ c. arm _ _ _ _ _ (c .enum-told .given .1) refl)
-        (λ c. arm _ _ _ _ _ (c .enum-told2 .given .1) refl)
+        (λ c. arm _ _ _ _ _ _ (c .enum-told .given .1) refl)
+        (λ c. arm _ _ _ _ _ _ (c .enum-told2 .given .1) refl)
         (λ c. search needs) returns-3 (λ c. search needs) returns-4 (λ c. search needs) returns-5 (λ c. search needs) returns-6
-        (λ c. arm _ _ _ _ _ (c .enum-told7 .given .1) refl))
+        (λ c. arm _ _ _ _ _ _ (c .enum-told7 .given .1) refl))

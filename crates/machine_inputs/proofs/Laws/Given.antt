@@ -15,15 +15,15 @@ use Rattle.sia.specs.Names.{opOf}
 use Rattle.sia.specs.Number.{Decoded, decoded, number}
 use Rattle.sia.specs.Empty.{noOperand}
 use Rattle.host.specs.Lists.{some, each}
-use Rattle.machine_rules.specs.Inputs.{known, operandsOf, illFormed, pastEnd, inputsOf, nth, isTold, told, isNumber, isKey, isData, wellFormed}
-use Rattle.machine_rules.specs.Inputs.{readArgs, spanArgs, argsOf}
+use Rattle.machine_rules.specs.Inputs.{dataIn, illFormed, pastEnd, inputsOf, nth, isTold, told, isNumber, isKey, isData, wellFormed, readArgs, spanArgs, argsOf}
+use Rattle.machine_rules.specs.Kinds.{known, operandsOf, kind}
 use Rattle.sia.specs.declared.Operand.{Operand}
 use Rattle.sia.specs.declared.Instruction.{Instruction}
 use Rattle.sia.specs.declared.Op.{Op}
-use Rattle.sia.specs.declared.Op.the-variants.{Read, ReadSector, Write, Copy, Swap, Truncate, Unknown}
+use Rattle.sia.specs.declared.Op.the-variants.{Read, ReadSector, Write, Copy, Swap, Truncate}
 use Rattle.machine_inputs.specs.Ends.{endsPast}
-use Rattle.machine_inputs.specs.Given.{inputAt, one, two, three, keyOf, dataOf, placed, malformed, given, dataFrom, fromOf, bytesGiven, argsGiven}
-use Rattle.machine_inputs.specs.declared.Args.{Args}
+use Rattle.machine_inputs.specs.Given.{inputAt, one, two, three, keyOf, dataOf, malformed, given, dataFrom, fromOf}
+use Rattle.machine_rules.specs.declared.Args.{Args}
 use Rattle.machine_inputs.specs.declared.Given.{Given}
 use Rattle.machine_inputs.specs.declared.Key.{Key}
 
@@ -92,49 +92,49 @@ pub refused : (op : Op) (l : List (List ℕ)) (from : ℕ) → wellFormed op l �
 unfolding given
 refused op l from e = no _ _ _ e refl
 
-pub accepted : (op : Op) (l : List (List ℕ)) (from : ℕ) (a : Args) → wellFormed op l ≡ true → a ≡ placed (argsOf op l) from
-    → record { told = true; args = a } ≡ given op l from
+pub accepted : (op : Op) (l : List (List ℕ)) (from : ℕ) (a : Args) → wellFormed op l ≡ true → a ≡ argsOf op l
+    → record { told = true; args = a; from = from } ≡ given op l from
 unfolding given
-accepted op l from a e q = yes _ _ _ e (ap (λ (x : Args). record { told = true; args = x }) q)
+accepted op l from a e q = yes _ _ _ e (ap (λ (x : Args). record { told = true; args = x; from = from }) q)
 
 module _ (area : List ℕ) (os : List Operand) (m n : ℕ) where
   pub read-accepted : (k : Key) → k ≡ keyOf (inputAt area os 0) → k .told ≡ true
       → number (inputAt area os 1) ≡ decoded 0 m → number (inputAt area os 2) ≡ decoded 0 n
-      → record { told = true; args = record { key = k .bytes; first = m; second = 0; len = n; from = 0 } } ≡ given Read (three area os) 0
-  unfolding wellFormed three argsOf readArgs placed
+      → record { told = true; args = record { key = k .bytes; first = m; second = 0; len = n }; from = 0 } ≡ given Read (three area os) 0
+  unfolding wellFormed three argsOf readArgs
   read-accepted k e t p q =
       let right : isKey (inputAt area os 0) ≡ true = sym (key-told _ k e) ∙ t in
       let one = key-bytes _ k e right in
       let two = number-value _ m p in
       let last = number-value _ n q in
       accepted Read (three area os) 0 _ (both-join _ _ right (both-join _ _ (number-told _ m p) (number-told _ n q)))
-      (λ i. record { key = one i; first = two i; second = 0; len = last i; from = 0 })
+      (λ i. record { key = one i; first = two i; second = 0; len = last i })
 
   pub span-accepted : (k : ℕ) → number (inputAt area os 0) ≡ decoded 0 k → number (inputAt area os 1) ≡ decoded 0 m → number (inputAt area os 2) ≡ decoded 0 n
-      → record { told = true; args = record { key = zeros 32; first = k; second = m; len = n; from = 0 } } ≡ given Copy (three area os) 0
-  unfolding wellFormed three argsOf spanArgs placed
+      → record { told = true; args = record { key = zeros 32; first = k; second = m; len = n }; from = 0 } ≡ given Copy (three area os) 0
+  unfolding wellFormed three argsOf spanArgs
   span-accepted k e p q =
       let one = number-value _ k e in
       let two = number-value _ m p in
       let last = number-value _ n q in
       accepted Copy (three area os) 0 _ (both-join _ _ (number-told _ k e) (both-join _ _ (number-told _ m p) (number-told _ n q)))
-      (λ i. record { key = zeros 32; first = one i; second = two i; len = last i; from = 0 })
+      (λ i. record { key = zeros 32; first = one i; second = two i; len = last i })
 
   pub write-accepted : number (inputAt area os 0) ≡ decoded 0 m → dataOf (inputAt area os 1) ≡ decoded 0 n
-      → record { told = true; args = record { key = zeros 32; first = m; second = 0; len = n; from = dataFrom os } } ≡ given Write (two area os) (dataFrom os)
-  unfolding wellFormed two argsOf placed
+      → record { told = true; args = record { key = zeros 32; first = m; second = 0; len = n }; from = dataFrom os } ≡ given Write (two area os) (dataFrom os)
+  unfolding wellFormed two argsOf
   write-accepted p q =
       let one = number-value _ m p in
       let last = data-value _ n q in
       accepted Write (two area os) (dataFrom os) _ (both-join _ _ (number-told _ m p) (data-told _ n q))
-      (λ i. record { key = zeros 32; first = one i; second = 0; len = last i; from = dataFrom os })
+      (λ i. record { key = zeros 32; first = one i; second = 0; len = last i })
 
 pub size-accepted : (area : List ℕ) (os : List Operand) (m : ℕ) → number (inputAt area os 0) ≡ decoded 0 m
-    → record { told = true; args = record { key = zeros 32; first = m; second = 0; len = 0; from = 0 } } ≡ given Truncate (one area os) 0
-unfolding wellFormed one argsOf placed
+    → record { told = true; args = record { key = zeros 32; first = m; second = 0; len = 0 }; from = 0 } ≡ given Truncate (one area os) 0
+unfolding wellFormed one argsOf
 size-accepted area os m p =
     let new = number-value _ m p in
-    accepted Truncate (one area os) 0 _ (number-told _ m p) (λ i. record { key = zeros 32; first = new i; second = 0; len = 0; from = 0 })
+    accepted Truncate (one area os) 0 _ (number-told _ m p) (λ i. record { key = zeros 32; first = new i; second = 0; len = 0 })
 
 -- ---- operands
 
@@ -222,10 +222,10 @@ data-part area at n h g =
       whole : (l : List ℕ) (k : ℕ) → k ≡ length l → take k l ≡ l
       whole l k e = take-all k l (omega arith)
 
-data-given : (area : List ℕ) (i : Instruction) → length (i .operands) ≡ 4 → i .count ≡ operandsOf Write → pastEnd (length area) i ≡ false
+pub data-given : (area : List ℕ) (i : Instruction) → length (i .operands) ≡ 4 → i .count ≡ operandsOf Write → pastEnd (length area) i ≡ false
     → wellFormed Write (inputsOf i area) ≡ true
-    → part area (dataFrom (i .operands)) (length (nth (inputsOf i area) 1) - 8) ≡ drop 8 (nth (inputsOf i area) 1)
-unfolding operandsOf wellFormed two
+    → part area (fromOf Write i) (argsOf Write (inputsOf i area) .len) ≡ dataIn (inputsOf i area)
+unfolding kind wellFormed two argsOf dataIn fromOf
 data-given area i long right g w =
     let o = getD (i .operands) 1 noOperand in
     let l : nth (inputsOf i area) 1 ≡ inputAt area (i .operands) 1 = ap (λ (x : List (List ℕ)). nth x 1) (sym (inputs-two area i long right)) in
@@ -233,26 +233,6 @@ data-given area i long right g w =
     (omega arith) in
     let eight : 8 ≤ length (inputAt area (i .operands) 1) = rw l at (data-long (nth (inputsOf i area) 1) (both-right _ _ w)) in
     ap (λ (b : List ℕ). part area (o .offset + 8) (length b - 8)) l ∙ data-part area (o .offset) (o .len) within eight ∙ ap (drop 8) (sym l)
-
-pub given-args : (op : Op) (i : Instruction) (area : List ℕ) → op ≡ opOf (i .name) → illFormed i ≡ false → pastEnd (length area) i ≡ false
-    → length (i .operands) ≡ 4 → wellFormed op (inputsOf i area) ≡ true
-    → argsGiven op area (placed (argsOf op (inputsOf i area)) (fromOf op i)) ≡ argsOf op (inputsOf i area)
-unfolding argsGiven bytesGiven placed argsOf readArgs spanArgs fromOf
-given-args Read i area e f g long w = refl
-given-args ReadSector i area e f g long w = refl
-given-args Write i area e f g long w =
-    let bytes = data-given area i long (count-right i Write e f) g w in
-    λ k. record {
-      key = zeros 32;
-      first = told (number (nth (inputsOf i area) 0));
-      second = 0;
-      len = length (nth (inputsOf i area) 1) - 8;
-      bytes = bytes k;
-    }
-given-args Copy i area e f g long w = refl
-given-args Swap i area e f g long w = refl
-given-args Truncate i area e f g long w = refl
-given-args Unknown i area e f g long w = refl
 
 -- ---- what the decoder told
 
@@ -262,6 +242,10 @@ told-is op l from g e = ap (λ (x : Given). x .told) e ∙ by (wellFormed op l)
     (λ u. ap (λ (x : Given). x .told) (picks _ _ _ u) ∙ sym u)
     (λ u. ap (λ (x : Given). x .told) (skips _ _ _ u) ∙ sym u)
 
-pub args-are : (op : Op) (l : List (List ℕ)) (from : ℕ) (g : Given) → g ≡ given op l from → wellFormed op l ≡ true → g .args ≡ placed (argsOf op l) from
+pub args-are : (op : Op) (l : List (List ℕ)) (from : ℕ) (g : Given) → g ≡ given op l from → wellFormed op l ≡ true → g .args ≡ argsOf op l
 unfolding given
 args-are op l from g e u = ap (λ (x : Given). x .args) (e ∙ picks _ _ _ u)
+
+pub from-is : (op : Op) (l : List (List ℕ)) (from : ℕ) (g : Given) → g ≡ given op l from → wellFormed op l ≡ true → g .from ≡ from
+unfolding given
+from-is op l from g e u = ap (λ (x : Given). x .from) (e ∙ picks _ _ _ u)

@@ -12,7 +12,8 @@ use Rattle.area.proofs.Laws.Puts.{length-put}
 use Rattle.sia.specs.Names.{opOf}
 use Rattle.host.specs.Empty.{none}
 use Rattle.machine_rules.specs.View.{Setting, Turn}
-use Rattle.machine_rules.specs.Inputs.{Args, argsOf, inputsOf}
+use Rattle.machine_rules.specs.Inputs.{dataIn, argsOf, inputsOf}
+use Rattle.machine_rules.specs.declared.Args.{Args}
 use Rattle.machine_rules.specs.Plan.{judged}
 use Rattle.machine_rules.specs.Effect.{Ground, groundOf, Staging, newCopy, copied, laid, spanWritten, resized, effect, rehashed}
 use Rattle.machine_rules.specs.Run.{failing, succeeding, stepped, current, step, ready, runs}
@@ -51,15 +52,16 @@ resized-length z n now to g =
     (λ d. ap (λ (x : Staging). length (x .bytes)) (skips (ltb now to) _ _ e ∙ picks (ltb to now) _ _ d))
     (λ d. ap (λ (x : Staging). length (x .bytes)) (skips (ltb now to) _ _ e ∙ skips (ltb to now) _ _ d)))
 
-pub effect-bytes : (z : ℕ) (n : Ground) (size : ℕ) (op : Op) (a : Args) (g : Staging) → length (effect z n size op a g .bytes) ≡ length (g .bytes)
+pub effect-bytes : (z : ℕ) (n : Ground) (size : ℕ) (op : Op) (a : Args) (d : List ℕ) (g : Staging) → length (effect z n size op a d g .bytes)
+    ≡ length (g .bytes)
 unfolding effect
-effect-bytes z n size Read a g = refl
-effect-bytes z n size ReadSector a g = refl
-effect-bytes z n size Write a g = written-length z n (a .first) _ g
-effect-bytes z n size Copy a g = written-length z n (a .first) _ g
-effect-bytes z n size Swap a g = written-length z n (a .first) _ _ ∙ written-length z n (a .second) _ g
-effect-bytes z n size Truncate a g = resized-length z n size (a .first) g
-effect-bytes z n size Unknown a g = refl
+effect-bytes z n size Read a d g = refl
+effect-bytes z n size ReadSector a d g = refl
+effect-bytes z n size Write a d g = written-length z n (a .first) _ g
+effect-bytes z n size Copy a d g = written-length z n (a .first) _ g
+effect-bytes z n size Swap a d g = written-length z n (a .first) _ _ ∙ written-length z n (a .second) _ g
+effect-bytes z n size Truncate a d g = resized-length z n size (a .first) g
+effect-bytes z n size Unknown a d g = refl
 
 pub rehashed-length : (z : ℕ) (g : Staging) (l copies : List ℕ) → length (rehashed z g l copies) ≡ length copies
 unfolding rehashed
@@ -77,7 +79,7 @@ unfolding stepped succeeding failing
 stepped-alike z s i l t =
     by (eqb (judged z s (rootAt z s t) (t .progress) i l) 0)
     (λ e. subst (λ (x : Turn). Alike x t) (sym (picks (eqb (judged z s (rootAt z s t) (t .progress) i l) 0) _ _ e))
-    (record { stage = effect-bytes z (groundOf s) (t .progress .size) (opOf (i .name)) (argsOf (opOf (i .name)) l) _;
+    (record { stage = effect-bytes z (groundOf s) (t .progress .size) (opOf (i .name)) (argsOf (opOf (i .name)) l) (dataIn l) _;
         output = length-put (t .output) _ _; roots = rehashed-length z _ _ (t .roots) }))
     (λ e. subst (λ (x : Turn). Alike x t) (sym (skips (eqb (judged z s (rootAt z s t) (t .progress) i l) 0) _ _ e))
         (record { stage = refl; output = length-put (t .output) _ _; roots = refl }))

@@ -20,9 +20,11 @@ use Rattle.host.specs.Empty.{none}
 use Rattle.host.specs.Places.{others, freeCopy}
 use Rattle.host.specs.Facts.{Staged}
 use Rattle.machine_rules.specs.View.{Setting, readOnlyMode, freeCopies}
-use Rattle.machine_rules.specs.Inputs.{Args, argsOf}
-use Rattle.machine_rules.specs.Plan.{sourceOf, changes, badSpan, badSize, badSpans, cost, touched, wanted, newSize, recordCount}
-use Rattle.machine_rules.specs.Plan.{judgedSource, judgedInputs, judged}
+use Rattle.machine_rules.specs.Inputs.{argsOf}
+use Rattle.machine_rules.specs.declared.Args.{Args}
+use Rattle.machine_rules.specs.Plan.{proofCount, sourceOf, badSpan, badSize, badSpans, cost, touched, wanted, newSize, recordCount}
+use Rattle.machine_rules.specs.Kinds.{changes, kind}
+use Rattle.machine_rules.specs.Plan.{spots, refused, fitted, weighed, plannedInputs, plannedArgs, planned, judged}
 use Rattle.machine_rules.specs.Effect.{Ground, groundOf, Staging, newCopy, copied, laid, spanWritten, resized, effect}
 use Rattle.machine_rules.proofs.Laws.Lists.{some-set, lowest-is, count-but-one}
 use Rattle.machine_rules.proofs.Laws.Staged.{Free, copy-kept, grow-kept, shrink-kept}
@@ -31,6 +33,7 @@ use Rattle.sia.specs.declared.Op.the-variants.{Read, ReadSector, Write, Copy, S
 use Rattle.sia.specs.declared.Instruction.{Instruction}
 use Rattle.host.specs.declared.Progress.{Progress}
 use Rattle.machine_rules.specs.declared.Spot.{Spot}
+use Rattle.machine_rules.specs.declared.Plan.{Plan}
 
 -- both parts of a test that does not hold
 pub neither : (a b : Bool) → either a b ≡ false → (a ≡ false) × (b ≡ false)
@@ -38,23 +41,24 @@ neither a b e = (either-left a b e, either-right a b e)
 
 -- ---- a check that did not apply
 
-pub passes : (b : Bool) (n r : ℕ) → pick b (suc n) r ≡ 0 → (b ≡ false) × (r ≡ 0)
-unfolding pick
+pub passes : (b : Bool) (n : ℕ) (r : Plan) → pick b (refused (suc n)) r .number ≡ 0 → (b ≡ false) × (r .number ≡ 0)
+unfolding pick refused
 passes true n r e = absurd (omega arith)
 passes false n r e = (refl, e)
 
 -- what is known of an instruction that runs
 pub record Passed (z : ℕ) (s : Setting) (f : Spot → List ℕ) (p : Progress) (op : Op) (a : Args) (count : ℕ) : Type 0 where
   pub allowed : both (changes op) (readOnlyMode (s .terms)) ≡ false
-  pub spans : badSpans z (p .size) (sourceOf z s f p op (a .key)) op a ≡ false
+  pub spans : badSpans z (p .size) (length (spots (sourceOf z s f p op (a .key)))) op a ≡ false
   pub paid : p .tally + cost (s .terms .head .length) (s .terms .prices) op (a .len) ≤ s .terms .budget
   pub free : wanted z p op a ≤ freeCopies s p
   pub fits : newSize (p .size) op a + others (s .terms .head .contract) (s .places) ≤ s .sectors * z
   pub room : p .written + count + 72 ≤ s .terms .room
 
-passed-inputs : (z : ℕ) (s : Setting) (f : Spot → List ℕ) (p : Progress) (i : Instruction) (op : Op) (l : List (List ℕ)) → judgedInputs z s f p i op l ≡ 0
-    → Passed z s f p op (argsOf op l) (recordCount z (i .proof) (sourceOf z s f p op (argsOf op l .key)) op (argsOf op l))
-unfolding judgedInputs judgedSource
+passed-inputs : (z : ℕ) (s : Setting) (f : Spot → List ℕ) (p : Progress) (i : Instruction) (op : Op) (l : List (List ℕ))
+    → plannedInputs z s f p i op l .number ≡ 0
+    → Passed z s f p op (argsOf op l) (recordCount z (i .proof) (length (spots (sourceOf z s f p op (argsOf op l .key)))) op (argsOf op l))
+unfolding plannedInputs plannedArgs weighed fitted
 passed-inputs z s f p i op l e =
     let c23 = passes _ 22 _ e in
     let c24 = passes _ 23 _ (c23 .1) in
@@ -70,9 +74,49 @@ passed-inputs z s f p i op l e =
 
 pub passed : (z : ℕ) (s : Setting) (f : Spot → List ℕ) (p : Progress) (i : Instruction) (l : List (List ℕ)) → judged z s f p i l ≡ 0
     → Passed z s f p (opOf (i .name)) (argsOf (opOf (i .name)) l)
-        (recordCount z (i .proof) (sourceOf z s f p (opOf (i .name)) (argsOf (opOf (i .name)) l .key)) (opOf (i .name)) (argsOf (opOf (i .name)) l))
-unfolding judged
+        (recordCount z (i .proof) (length (spots (sourceOf z s f p (opOf (i .name)) (argsOf (opOf (i .name)) l .key)))) (opOf (i .name))
+            (argsOf (opOf (i .name)) l))
+unfolding judged planned
 passed z s f p i l e = passed-inputs z s f p i (opOf (i .name)) l (passes _ 21 _ (passes _ 20 _ e .1) .1)
+
+-- and its plan is what it costs and changes
+fine-inputs : (z : ℕ) (s : Setting) (f : Spot → List ℕ) (p : Progress) (i : Instruction) (op : Op) (l : List (List ℕ))
+    → plannedInputs z s f p i op l .number ≡ 0 → let n = length (spots (sourceOf z s f p op (argsOf op l .key))) in
+    plannedInputs z s f p i op l ≡ record {
+      number = 0;
+      cost = cost (s .terms .head .length) (s .terms .prices) op (argsOf op l .len);
+      size = newSize (p .size) op (argsOf op l);
+      hashes = proofCount z (i .proof) n (argsOf op l);
+      count = recordCount z (i .proof) n op (argsOf op l);
+    }
+unfolding plannedInputs plannedArgs weighed fitted
+fine-inputs z s f p i op l e =
+    let c23 = passes _ 22 _ e in
+    let c24 = passes _ 23 _ (c23 .1) in
+    let c25 = passes _ 24 _ (c24 .1) in
+    let c26 = passes _ 25 _ (c25 .1) in
+    let c27 = passes _ 26 _ (c26 .1) in
+    let c28 = passes _ 27 _ (c27 .1) in
+    let c40 = passes _ 39 _ (c28 .1) in
+    let c41 = passes _ 40 _ (c40 .1) in
+    let c42 = passes _ 41 _ (c41 .1) in
+    skips _ _ _ (c23 .0) ∙ skips _ _ _ (c24 .0) ∙ skips _ _ _ (c25 .0) ∙ skips _ _ _ (c26 .0) ∙ skips _ _ _ (c27 .0) ∙ skips _ _ _ (c28 .0)
+    ∙ skips _ _ _ (c40 .0) ∙ skips _ _ _ (c41 .0) ∙ skips _ _ _ (c42 .0)
+
+pub planned-fine : (z : ℕ) (s : Setting) (f : Spot → List ℕ) (p : Progress) (i : Instruction) (l : List (List ℕ)) → judged z s f p i l ≡ 0
+    → let op = opOf (i .name) in let n = length (spots (sourceOf z s f p op (argsOf op l .key))) in
+    planned z s f p i l ≡ record {
+      number = 0;
+      cost = cost (s .terms .head .length) (s .terms .prices) op (argsOf op l .len);
+      size = newSize (p .size) op (argsOf op l);
+      hashes = proofCount z (i .proof) n (argsOf op l);
+      count = recordCount z (i .proof) n op (argsOf op l);
+    }
+unfolding judged planned
+planned-fine z s f p i l e =
+    let c21 = passes _ 20 _ e in
+    let c22 = passes _ 21 _ (c21 .1) in
+    skips _ _ _ (c21 .0) ∙ skips _ _ _ (c22 .0) ∙ fine-inputs z s f p i (opOf (i .name)) l (c22 .1)
 
 -- ---- positions
 
@@ -318,48 +362,49 @@ swap-asks false staged at to = wanted-two staged at to
 module _ (z : ℕ) (s : Setting) (p : Progress) (start : ℕ) (pos : 0 < z) (few : s .copies ≤ 16) (most : s .sectors ≤ length (p .staged))
     (whole : p .size % z ≡ 0)
     (under : p .size / z ≤ length (p .staged)) (f : Staged (s .copies) start (p .size / z) (p .staged)) (bytes : List ℕ) {r : Spot → List ℕ} where
-  pub effect-kept : (op : Op) (a : Args) (n : ℕ) → Passed z s r p op a n → Staged (s .copies) start (newSize (p .size) op a / z)
-      (effect z (groundOf s) (p .size) op a (record { staged = p .staged; bytes = bytes }) .staged)
+  pub effect-kept : (op : Op) (a : Args) (d : List ℕ) (n : ℕ) → Passed z s r p op a n → Staged (s .copies) start (newSize (p .size) op a / z)
+      (effect z (groundOf s) (p .size) op a d (record { staged = p .staged; bytes = bytes }) .staged)
   unfolding effect newSize badSpans wanted touched
-  effect-kept Read a n q = f
-  effect-kept ReadSector a n q = f
-  effect-kept Write a n q =
+  effect-kept Read a d n q = f
+  effect-kept ReadSector a d n q = f
+  effect-kept Write a d n q =
       subst (λ (m : List ℕ). Staged (s .copies) start (p .size / z) m) (sym (written-map z (groundOf s) (a .first) _ _))
       (one-kept z s p start pos few whole f (a .first) (span-in z (p .size) (a .first) (a .len) (q .spans))
           (omega (arith, q .free, wanted-one (p .staged) (a .first / z))))
-  effect-kept Copy a n q =
+  effect-kept Copy a d n q =
       subst (λ (m : List ℕ). Staged (s .copies) start (p .size / z) m) (sym (written-map z (groundOf s) (a .first) _ _))
       (one-kept z s p start pos few whole f (a .first) (span-in z (p .size) (a .first) (a .len) (either-left _ _ (q .spans)))
           (omega (arith, q .free, wanted-one (p .staged) (a .first / z))))
-  effect-kept Swap a n q =
+  effect-kept Swap a d n q =
       subst (λ (m : List ℕ). Staged (s .copies) start (p .size / z) m)
           (sym (written-map z (groundOf s) (a .first) _ _ ∙ ap (λ (m : List ℕ). copiedMap (s .copies) (a .first / z) m)
           (written-map z (groundOf s) (a .second) _ _)))
       (two-kept z s p start pos few whole f (a .second) (a .first) (span-in z (p .size) (a .second) (a .len) (either-right _ _ (q .spans)))
           (span-in z (p .size) (a .first) (a .len) (either-left _ _ (q .spans))) under
       (subst (λ (x : ℕ). x ≤ freeCopies s p) (swap-asks (eqb (a .first / z) (a .second / z)) (p .staged) (a .second / z) (a .first / z)) (q .free)))
-  effect-kept Truncate a n q =
+  effect-kept Truncate a d n q =
       resized-kept z s p start (a .first) bytes pos few whole f (sized z (p .size) (a .first) (q .spans))
           (le-trans (omega (arith, q .fits)) (mul-le-mul-right {m = s .sectors} {n = length (p .staged)} z most))
       (λ e. omega (arith, q .free, wanted-one (p .staged) (p .size / z),
           ap (λ (l : List ℕ). length (those (λ n. eqb (getD (p .staged) n none) none) l)) (picks (ltb (p .size) (a .first)) (p .size / z ∷ []) [] e)))
-  effect-kept Unknown a n q = f
+  effect-kept Unknown a d n q = f
 
-pub effect-length : (z : ℕ) (n : Ground) (size : ℕ) (op : Op) (a : Args) (g : Staging) → length (effect z n size op a g .staged) ≡ length (g .staged)
+pub effect-length : (z : ℕ) (n : Ground) (size : ℕ) (op : Op) (a : Args) (d : List ℕ) (g : Staging) → length (effect z n size op a d g .staged)
+    ≡ length (g .staged)
 unfolding effect
-effect-length z n size Read a g = refl
-effect-length z n size ReadSector a g = refl
-effect-length z n size Write a g = ap length (written-map z n (a .first) _ g) ∙ length-copied _ _ _
-effect-length z n size Copy a g = ap length (written-map z n (a .first) _ g) ∙ length-copied _ _ _
-effect-length z n size Swap a g = ap length (written-map z n (a .first) _ _) ∙ length-copied _ _ _ ∙ ap length (written-map z n (a .second) _ g)
+effect-length z n size Read a d g = refl
+effect-length z n size ReadSector a d g = refl
+effect-length z n size Write a d g = ap length (written-map z n (a .first) _ g) ∙ length-copied _ _ _
+effect-length z n size Copy a d g = ap length (written-map z n (a .first) _ g) ∙ length-copied _ _ _
+effect-length z n size Swap a d g = ap length (written-map z n (a .first) _ _) ∙ length-copied _ _ _ ∙ ap length (written-map z n (a .second) _ g)
     ∙ length-copied _ _ _
-effect-length z n size Truncate a g =
+effect-length z n size Truncate a d g =
     by (ltb size (a .first))
     (λ e. ap length (resized-more z n size (a .first) g e) ∙ simp length-set)
     (λ e. by (ltb (a .first) size)
     (λ d. ap length (resized-less z n size (a .first) g e d) ∙ simp length-set)
     (λ d. ap length (resized-same z n size (a .first) g e d)))
-effect-length z n size Unknown a g = refl
+effect-length z n size Unknown a d g = refl
 
 pub size-whole : (z : ℕ) (s : Setting) {r : Spot → List ℕ} (p : Progress) (op : Op) (a : Args) (n : ℕ) → Passed z s r p op a n → p .size % z ≡ 0
     → newSize (p .size) op a % z ≡ 0
@@ -373,7 +418,7 @@ size-whole z s p Truncate a n q w = sized z (p .size) (a .first) (q .spans) .who
 size-whole z s p Unknown a n q w = w
 
 pub size-read : (op : Op) (size : ℕ) (a : Args) → changes op ≡ false → newSize size op a ≡ size
-unfolding changes newSize
+unfolding kind newSize
 size-read Read size a e = refl
 size-read ReadSector size a e = refl
 size-read Write size a e = never e

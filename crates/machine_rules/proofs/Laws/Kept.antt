@@ -16,8 +16,10 @@ use Rattle.host.specs.Places.{whose}
 use Rattle.host.specs.Order.{stagedInOrder, parentInOrder, termsInOrder, progressInOrder}
 use Rattle.host.specs.Facts.{Staged}
 use Rattle.machine_rules.specs.View.{Setting, Turn, readOnlyMode}
-use Rattle.machine_rules.specs.Inputs.{Args, argsOf, inputsOf}
-use Rattle.machine_rules.specs.Plan.{changes, cost, newSize, judged}
+use Rattle.machine_rules.specs.Inputs.{dataIn, argsOf, inputsOf}
+use Rattle.machine_rules.specs.declared.Args.{Args}
+use Rattle.machine_rules.specs.Plan.{cost, newSize, judged}
+use Rattle.machine_rules.specs.Kinds.{changes}
 use Rattle.machine_rules.specs.Effect.{groundOf, effect}
 use Rattle.machine_rules.specs.Run.{failedProgress, failing, ranProgress, succeeding, stepped, current, step, going, ready, runs}
 use Rattle.machine_rules.specs.Facts.{Good, InOrder, Lent, startOf}
@@ -89,12 +91,12 @@ failed-good z s p e g =
       entries = g .entries;
     }
 
-pub ran-good : (z : ℕ) (s : Setting) (p : Progress) (op : Op) (a : Args) (n : ℕ) (bytes : List ℕ) {r : Spot → List ℕ} → Lent z s → p .failed ≡ false
+pub ran-good : (z : ℕ) (s : Setting) (p : Progress) (op : Op) (a : Args) (n : ℕ) (d bytes : List ℕ) {r : Spot → List ℕ} → Lent z s → p .failed ≡ false
     → p .ran < s .terms .head .count → Passed z s r p op a n → Good z s p
     → Good z s (ranProgress p (cost (s .terms .head .length) (s .terms .prices) op (a .len)) n (newSize (p .size) op a)
-        (effect z (groundOf s) (p .size) op a (record { staged = p .staged; bytes = bytes }) .staged))
+        (effect z (groundOf s) (p .size) op a d (record { staged = p .staged; bytes = bytes }) .staged))
 unfolding ranProgress
-ran-good z s p op a n bytes L e lt q g =
+ran-good z s p op a n d bytes L e lt q g =
     let o = g .orderly in
     let c : s .sectors * z ≤ 64 * z = mul-le-mul-right {m = s .sectors} {n = 64} z (L .most) in
     let w = whole-sectors z (p .size) (o .whole) in
@@ -107,10 +109,10 @@ ran-good z s p op a n bytes L e lt q g =
         whole = size-whole z s p op a n q (o .whole);
         within = q .fits;
         staged = effect-kept z s p (startOf z s) (Slots.some z (L .size)) (L .few) (omega (arith, L .most, g .entries)) (o .whole)
-            (omega (arith, u, g .entries)) (o .staged) bytes op a n q;
+            (omega (arith, u, g .entries)) (o .staged) bytes op a d n q;
       };
       terms = terms-size (s .places) (s .terms) (p .size) _ (λ r. size-read op (p .size) a (not-both (changes op) (q .allowed) r)) (g .terms);
-      entries = effect-length z (groundOf s) (p .size) op a _ ∙ g .entries;
+      entries = effect-length z (groundOf s) (p .size) op a d _ ∙ g .entries;
     }
   where
     not-both : (b : Bool) {c : Bool} → both b c ≡ false → c ≡ true → b ≡ false
@@ -124,7 +126,7 @@ unfolding stepped succeeding failing
 stepped-good z s i l t L h g =
     by (eqb (judged z s (rootAt z s t) (t .progress) i l) 0)
     (λ e. subst (λ (x : Turn). Good z s (x .progress)) (sym (picks (eqb (judged z s (rootAt z s t) (t .progress) i l) 0) _ _ e))
-    (ran-good z s (t .progress) (opOf (i .name)) (argsOf (opOf (i .name)) l) _ (t .stage) L (not-failed s t h) (left-going s t h .1)
+    (ran-good z s (t .progress) (opOf (i .name)) (argsOf (opOf (i .name)) l) _ (dataIn l) (t .stage) L (not-failed s t h) (left-going s t h .1)
         (passed z s (rootAt z s t) (t .progress) i l (eqb-true _ _ e)) g))
     (λ e. subst (λ (x : Turn). Good z s (x .progress)) (sym (skips (eqb (judged z s (rootAt z s t) (t .progress) i l) 0) _ _ e))
         (failed-good z s (t .progress) (not-failed s t h) g))

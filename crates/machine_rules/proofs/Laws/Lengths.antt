@@ -20,17 +20,18 @@ use Rattle.sia.specs.Encode.{joined, every}
 use Rattle.machine_rules.specs.View.{Way, kept, worked, Setting, Turn, sector, parent, committedSpots}
 use Rattle.machine_rules.specs.Roots.{sectorRoot, keptRoot, rootBy, rootOf, contractRoot, segments, rangeProof, rootAt, rootOnDisk}
 use Rattle.machine_rules.proofs.Laws.Worked.{proof-counted}
-use Rattle.machine_rules.proofs.Laws.Areas.{rehashed-length}
-use Rattle.machine_rules.specs.Inputs.{Args, argsOf, illFormed, pastEnd, wellFormed}
-use Rattle.machine_rules.specs.Plan.{Source, spots, sourceOf, reads, badSpan, badSpans, badProof, newSize, proofCount, outputCount}
-use Rattle.machine_rules.specs.Plan.{recordCount, judgedSource, judgedInputs, judged}
+use Rattle.machine_rules.proofs.Laws.Areas.{rehashed-length, effect-bytes}
+use Rattle.machine_rules.specs.Inputs.{dataIn, argsOf, illFormed, pastEnd, wellFormed}
+use Rattle.machine_rules.specs.declared.Args.{Args}
+use Rattle.machine_rules.specs.Plan.{Source, spots, sourceOf, badSpan, badSpans, badProof, newSize, proofCount, outputCount}
+use Rattle.machine_rules.specs.Kinds.{reads, kind}
+use Rattle.machine_rules.specs.Plan.{recordCount, fitted, weighed, plannedInputs, plannedArgs, planned, judged}
 use Rattle.machine_rules.specs.Effect.{groundOf, effect}
 use Rattle.machine_rules.specs.Record.{pairOf, startingPair, runningPair, recordBytes, failureBytes, outputOf, successBytes}
 use Rattle.machine_rules.specs.Run.{failedProgress, failing, ranProgress, succeeding, stepped}
 use Rattle.machine_rules.specs.Trace.{recordOf}
 use Rattle.machine_rules.specs.Facts.{Good, Solid, Within, valid}
 use Rattle.machine_rules.proofs.Laws.Effects.{passes, neither, Passed, passed, whole-sectors}
-use Rattle.machine_rules.proofs.Laws.Areas.{effect-bytes}
 use Rattle.machine_rules.proofs.Laws.Spots.{every-at, source-valid, few-spots}
 use Rattle.sia.specs.declared.Op.{Op}
 use Rattle.sia.specs.declared.Op.the-variants.{Read, ReadSector, Write, Copy, Swap, Truncate, Unknown}
@@ -84,24 +85,24 @@ pub count-change : (op : Op) (a : Args) → reads op ≡ false → outputCount o
 unfolding outputCount
 count-change op a e = skips (reads op) (a .len) 0 e
 
-pub read-span : (z size : ℕ) (from : Source) (op : Op) (a : Args) → reads op ≡ true → badSpans z size from op a ≡ false
-    → badSpan z (length (spots from) * z) (a .first) (a .len) ≡ false
-unfolding badSpans reads
-read-span z size from Read a e b = b
-read-span z size from ReadSector a e b = b
-read-span z size from Write a e b = never (sym e)
-read-span z size from Copy a e b = never (sym e)
-read-span z size from Swap a e b = never (sym e)
-read-span z size from Truncate a e b = never (sym e)
-read-span z size from Unknown a e b = never (sym e)
+pub read-span : (z size n : ℕ) (op : Op) (a : Args) → reads op ≡ true → badSpans z size n op a ≡ false
+    → badSpan z (n * z) (a .first) (a .len) ≡ false
+unfolding badSpans kind
+read-span z size n Read a e b = b
+read-span z size n ReadSector a e b = b
+read-span z size n Write a e b = never (sym e)
+read-span z size n Copy a e b = never (sym e)
+read-span z size n Swap a e b = never (sym e)
+read-span z size n Truncate a e b = never (sym e)
+read-span z size n Unknown a e b = never (sym e)
 
 shown-length : (z : ℕ) (s : Setting) (size : ℕ) (from : Source) (stage : List ℕ) (op : Op) (a : Args) → length (s .disk) ≡ s .sectors * z
     → length stage ≡ s .copies * z
-    → every (valid s) (spots from) ≡ true → badSpans z size from op a ≡ false
+    → every (valid s) (spots from) ≡ true → badSpans z size (length (spots from)) op a ≡ false
     → length (pick (eqb (outputCount op a) 0) [] (outputOf z (s .disk) stage (spots from) a)) ≡ outputCount op a
 shown-length z s size from stage op a d e v b =
     by (reads op)
-    (λ u. shown (outputCount op a) _ (output-length z s stage (spots from) a d e v (read-span z size from op a u b) ∙ sym (count-read op a u)))
+    (λ u. shown (outputCount op a) _ (output-length z s stage (spots from) a d e v (read-span z size (length (spots from)) op a u b) ∙ sym (count-read op a u)))
     (λ u. shown-none (outputCount op a) _ (count-change op a u))
 
 -- ---- roots and proofs
@@ -148,7 +149,8 @@ reader-long worked z s stage copies most few d e x v = roots .root-long (sector 
 pub length-proof : (z : ℕ) (s : Setting) (stage copies : List ℕ) (from : Source) (a : Args) (asked : Bool) → Solid z s → length stage ≡ s .copies * z
     → length (s .roots) ≡ 2048 → length copies ≡ 512
     → every (valid s) (spots from) ≡ true → length (spots from) ≤ 64 → (asked ≡ true → Within z (length (spots from)) (a .first) (a .len))
-    → length (pick asked (rangeProof z (rootOf z s stage copies) (s .disk) stage (spots from) (a .first) (a .len)) []) ≡ 32 * proofCount z asked from a
+    → length (pick asked (rangeProof z (rootOf z s stage copies) (s .disk) stage (spots from) (a .first) (a .len)) [])
+        ≡ 32 * proofCount z asked (length (spots from)) a
 unfolding proofCount pick rootOf
 length-proof z s stage copies from a true solid e d c v few within =
     let size = solid .lent .size in
@@ -172,7 +174,7 @@ failure-length z s n = length-record n 0 _ 0 [] 0 [] (length-root (rootOnDisk z 
 -- a proof is asked of a read
 pub asked-reads : (z : ℕ) (s : Setting) (f : Spot → List ℕ) (p : Progress) (i : Instruction) (l : List (List ℕ)) → judged z s f p i l ≡ 0 → i .proof ≡ true
     → reads (opOf (i .name)) ≡ true
-unfolding judged judgedInputs judgedSource badProof
+unfolding judged planned plannedInputs plannedArgs weighed fitted badProof
 asked-reads z s f p i l e h =
     let inputs = passes _ 21 _ (passes _ 20 _ e .1) .1 in
     let c = passes _ 26 _ (passes _ 25 _ (passes _ 24 _ (passes _ 23 _ (passes _ 22 _ inputs .1) .1) .1) .1) in
@@ -181,7 +183,7 @@ asked-reads z s f p i l e h =
 -- and then 27 did not apply
 pub asked-right : (z : ℕ) (s : Setting) (f : Spot → List ℕ) (p : Progress) (i : Instruction) (l : List (List ℕ)) → judged z s f p i l ≡ 0 → i .proof ≡ true
     → badProof (opOf (i .name)) (argsOf (opOf (i .name)) l) ≡ false
-unfolding judged judgedInputs judgedSource
+unfolding judged planned plannedInputs plannedArgs weighed fitted
 asked-right z s f p i l e h =
     let inputs = passes _ 21 _ (passes _ 20 _ e .1) .1 in
     let c = passes _ 26 _ (passes _ 25 _ (passes _ 24 _ (passes _ 23 _ (passes _ 22 _ inputs .1) .1) .1) .1) in
@@ -190,7 +192,7 @@ asked-right z s f p i l e h =
 -- 21 to 23 did not apply to an instruction that runs
 pub well-formed : (z : ℕ) (s : Setting) (f : Spot → List ℕ) (p : Progress) (i : Instruction) (l : List (List ℕ)) → judged z s f p i l ≡ 0
     → (illFormed i ≡ false) × (pastEnd (s .terms .head .length) i ≡ false) × (wellFormed (opOf (i .name)) l ≡ true)
-unfolding judged judgedInputs
+unfolding judged planned plannedInputs plannedArgs
 well-formed z s f p i l e =
     let c21 = passes _ 20 _ e in
     let c22 = passes _ 21 _ (c21 .1) in
@@ -206,28 +208,29 @@ proof-right op a e =
     let y = neither (not (eqb (a .first % 64) 0)) _ (x .1) in
     (eqb-true _ _ (not-false _ (y .0)), eqb-true _ _ (not-false _ (y .1)))
 
-success-length : (z : ℕ) (s : Setting) (f : Spot → List ℕ) (p : Progress) (asked : Bool) (op : Op) (a : Args) (n count : ℕ) (bytes copies : List ℕ)
+success-length : (z : ℕ) (s : Setting) (f : Spot → List ℕ) (p : Progress) (asked : Bool) (op : Op) (a : Args) (n count : ℕ) (d bytes copies : List ℕ)
     → Solid z s → Good z s p
     → length bytes ≡ s .copies * z → length (s .roots) ≡ 2048 → length copies ≡ 512 → Passed z s f p op a count → (asked ≡ true → reads op ≡ true)
         → (asked ≡ true → badProof op a ≡ false)
-    → let g = effect z (groundOf s) (p .size) op a (record { staged = p .staged; bytes = bytes }) in
+    → let g = effect z (groundOf s) (p .size) op a d (record { staged = p .staged; bytes = bytes }) in
     length (successBytes z s (rootOf z s (g .bytes) copies) p asked (sourceOf z s f p op (a .key)) op a n (newSize (p .size) op a) g)
-    ≡ recordCount z asked (sourceOf z s f p op (a .key)) op a
+    ≡ recordCount z asked (length (spots (sourceOf z s f p op (a .key)))) op a
 unfolding successBytes recordCount runningPair
-success-length z s f p asked op a n count bytes copies solid g e d c q asks right =
+success-length z s f p asked op a n count d bytes copies solid g e r c q asks right =
     let from = sourceOf z s f p op (a .key) in
     let w = whole-sectors z (p .size) (g .orderly .whole) in
     let m : s .sectors * z ≤ 64 * z = mul-le-mul-right {m = s .sectors} {n = 64} z (solid .lent .most) in
     let u : p .size / z ≤ 64 = le-of-mul-le-mul-right {m = p .size / z} {n = 64} {k = z} (omega (arith, w, g .orderly .within, m))
         (Slots.some z (solid .lent .size)) in
     let valid = source-valid z s p solid (g .orderly .staged) (omega (arith, u, g .entries)) f op (a .key) in
-    let stage = effect-bytes z (groundOf s) (p .size) op a (record { staged = p .staged; bytes = bytes }) ∙ e in
-    length-record 0 n _ (proofCount z asked from a) _ (outputCount op a) _
+    let stage = effect-bytes z (groundOf s) (p .size) op a d (record { staged = p .staged; bytes = bytes }) ∙ e in
+    length-record 0 n _ (proofCount z asked (length (spots from)) a) _ (outputCount op a) _
     (length-root _ _)
-    (length-proof z s _ copies from a asked solid stage d c valid (few-spots z s f p op (a .key) (solid .small) u)
-    (λ h. let r = proof-right op a (right h) in
-    span-within z (length (spots from)) (a .first) (a .len) (Slots.some z (solid .lent .size)) (read-span z (p .size) from op a (asks h) (q .spans))
-        (r .0) (r .1)))
+    (length-proof z s _ copies from a asked solid stage r c valid (few-spots z s f p op (a .key) (solid .small) u)
+    (λ h. let w = proof-right op a (right h) in
+    span-within z (length (spots from)) (a .first) (a .len) (Slots.some z (solid .lent .size))
+        (read-span z (p .size) (length (spots from)) op a (asks h) (q .spans))
+        (w .0) (w .1)))
     (shown-length z s (p .size) from _ op a (solid .disk) stage valid (q .spans))
 
 -- written bytes grow by the record's length
@@ -240,7 +243,7 @@ stepped-written z s i l t solid g e d c =
     by (eqb (judged z s (rootAt z s t) (t .progress) i l) 0)
     (λ u. ap (λ (x : Turn). x .progress .written) (picks (eqb (judged z s (rootAt z s t) (t .progress) i l) 0) _ _ u)
     ∙ ap (λ (n : ℕ). t .progress .written + n)
-        (sym (success-length z s (rootAt z s t) (t .progress) (i .proof) (opOf (i .name)) (argsOf (opOf (i .name)) l) _ _ (t .stage) _ solid g e d
+        (sym (success-length z s (rootAt z s t) (t .progress) (i .proof) (opOf (i .name)) (argsOf (opOf (i .name)) l) _ _ (dataIn l) (t .stage) _ solid g e d
     (rehashed-length z _ _ (t .roots) ∙ c) (passed z s (rootAt z s t) (t .progress) i l (eqb-true _ _ u))
         (asked-reads z s (rootAt z s t) (t .progress) i l (eqb-true _ _ u)) (asked-right z s (rootAt z s t) (t .progress) i l (eqb-true _ _ u))))
     ∙ ap (λ (x : List ℕ). t .progress .written + length x) (sym (picks (eqb (judged z s (rootAt z s t) (t .progress) i l) 0) _ _ u)))

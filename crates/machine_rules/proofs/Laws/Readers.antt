@@ -23,8 +23,9 @@ use Rattle.machine_rules.specs.View.{Way, kept, worked, Setting, Turn, r
 use Rattle.machine_rules.specs.Roots.{sectorRoot, keptRoot, rootBy, rootOf, contractRoot, rangeProof}
 use Rattle.machine_rules.specs.Seats.{seatsOf, firstSeat}
 use Rattle.machine_rules.specs.Inputs.{argsOf, illFormed, pastEnd, wellFormed}
-use Rattle.machine_rules.specs.Plan.{Source, missing, seen, isThere, spots, changes, contractSource, soughtSource, sectorSource, sourceOf}
-use Rattle.machine_rules.specs.Plan.{judgedSource, judgedInputs, judged}
+use Rattle.machine_rules.specs.Plan.{Source, missing, seen, isThere, spots, contractSource, soughtSource, sectorSource, sourceOf}
+use Rattle.machine_rules.specs.Kinds.{changes}
+use Rattle.machine_rules.specs.Plan.{refused, fitted, weighed, plannedInputs, plannedArgs, planned, judged}
 use Rattle.machine_rules.specs.Facts.{Solid, startOf}
 use Rattle.machine_rules.specs.Visit.{Shaped}
 use Rattle.machine_rules.specs.Sound.{right, stagedRight}
@@ -41,6 +42,7 @@ use Rattle.machine_rules.specs.declared.Spot.the-variants.{OnDisk, InSta
 use Rattle.machine_rules.specs.declared.Seat.{Seat}
 use Rattle.machine_rules.specs.declared.Sought.{Sought}
 use Rattle.machine_rules.specs.declared.Sought.the-variants.{At}
+use Rattle.machine_rules.specs.declared.Plan.{Plan}
 
 -- ---- readers that agree
 
@@ -217,16 +219,16 @@ source-alike z s f g p op key h = source-way kept z s f p op key ∙ source-agre
 
 inputs-alike : (z : ℕ) (s : Setting) (f g : Spot → List ℕ) (p : Progress) (i : Instruction) (op : Op) (l : List (List ℕ))
     → every (λ x. agree f g (x .spot)) (seatsOf z s p) ≡ true
-    → judgedInputs z (withWay kept s) f p i op l ≡ judgedInputs z (withWay worked s) g p i op l
-unfolding judgedInputs judgedSource readOnlyMode freeCopies withWay
+    → plannedInputs z (withWay kept s) f p i op l ≡ plannedInputs z (withWay worked s) g p i op l
+unfolding plannedInputs plannedArgs weighed fitted readOnlyMode freeCopies withWay
 inputs-alike z s f g p i op l h =
-    ap (λ (from : Source). pick (not (wellFormed op l)) 23 (pick (both (changes op) (readOnlyMode (s .terms))) 24
-        (pick (not (isThere from)) 25 (judgedSource z s p (i .proof) from op (argsOf op l)))))
+    ap (λ (from : Source). pick (not (wellFormed op l)) (refused 23) (pick (both (changes op) (readOnlyMode (s .terms))) (refused 24)
+        (pick (not (isThere from)) (refused 25) (weighed z s p (i .proof) (length (spots from)) op (argsOf op l)))))
     (source-alike z s f g p op (argsOf op l .key) h)
 
 pub judged-alike : (z : ℕ) (s : Setting) (f g : Spot → List ℕ) (p : Progress) (i : Instruction) (l : List (List ℕ))
     → every (λ x. agree f g (x .spot)) (seatsOf z s p) ≡ true
     → judged z (withWay kept s) f p i l ≡ judged z (withWay worked s) g p i l
-unfolding judged withWay
-judged-alike z s f g p i l h = ap (λ (n : ℕ). pick (illFormed i) 21 (pick (pastEnd (s .terms .head .length) i) 22 n))
+unfolding judged planned withWay
+judged-alike z s f g p i l h = ap (λ (r : Plan). pick (illFormed i) (refused 21) (pick (pastEnd (s .terms .head .length) i) (refused 22) r) .number)
     (inputs-alike z s f g p i (opOf (i .name)) l h)

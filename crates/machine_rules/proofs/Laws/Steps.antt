@@ -16,8 +16,9 @@ use Rattle.sia.specs.Names.{opOf}
 use Rattle.sia.specs.Encode.{operandsIn}
 use Rattle.host.specs.Lists.{each}
 use Rattle.machine_rules.specs.View.{Setting, Turn}
-use Rattle.machine_rules.specs.Inputs.{Args, illFormed, pastEnd, largest, need, inputsOf, argsOf}
-use Rattle.machine_rules.specs.Plan.{judged}
+use Rattle.machine_rules.specs.Inputs.{dataIn, illFormed, pastEnd, largest, need, inputsOf, argsOf}
+use Rattle.machine_rules.specs.declared.Args.{Args}
+use Rattle.machine_rules.specs.Plan.{refused, planned, judged}
 use Rattle.machine_rules.specs.Run.{failedProgress, failing, ranProgress, succeeding, stepped, current, step, going, ready, runs, run}
 use Rattle.sia.specs.declared.Op.{Op}
 use Rattle.sia.specs.declared.Operand.{Operand}
@@ -25,6 +26,7 @@ use Rattle.sia.specs.declared.Instruction.{Instruction}
 use Rattle.host.specs.declared.Progress.{Progress}
 use Rattle.machine_rules.specs.declared.Spot.{Spot}
 use Rattle.machine_rules.specs.Roots.{rootAt}
+use Rattle.machine_rules.specs.declared.Plan.{Plan}
 
 -- ---- inputs lie below the need
 
@@ -70,13 +72,14 @@ inputs-below (o ∷ os) a b k h e =
 -- ---- one instruction reads the input only below its need
 
 pub judged-ill : (z : ℕ) (s : Setting) (f : Spot → List ℕ) (p : Progress) (i : Instruction) (l : List (List ℕ)) → illFormed i ≡ true → judged z s f p i l ≡ 21
-unfolding judged
-judged-ill z s f p i l e = picks (illFormed i) 21 _ e
+unfolding judged planned refused
+judged-ill z s f p i l e = ap (λ (r : Plan). r .number) (picks (illFormed i) (refused 21) _ e)
 
 pub judged-past : (z : ℕ) (s : Setting) (f : Spot → List ℕ) (p : Progress) (i : Instruction) (l : List (List ℕ)) → illFormed i ≡ false
     → pastEnd (s .terms .head .length) i ≡ true → judged z s f p i l ≡ 22
-unfolding judged
-judged-past z s r p i l e f = skips (illFormed i) 21 _ e ∙ picks (pastEnd (s .terms .head .length) i) 22 _ f
+unfolding judged planned refused
+judged-past z s r p i l e f =
+    ap (λ (x : Plan). x .number) (skips (illFormed i) (refused 21) _ e ∙ picks (pastEnd (s .terms .head .length) i) (refused 22) _ f)
 
 -- a failure does not look at the inputs
 pub stepped-fails : (z : ℕ) (s : Setting) (i : Instruction) (l : List (List ℕ)) (t : Turn) (n : ℕ) → judged z s (rootAt z s t) (t .progress) i l
@@ -152,10 +155,10 @@ pub left-failing : (z : ℕ) (s : Setting) (n : ℕ) (t : Turn) → left s (fail
 unfolding left failing failedProgress
 left-failing z s n t = picks true 0 (s .terms .head .count - t .progress .ran) refl
 
-pub left-succeeding : (z : ℕ) (s : Setting) (asked : Bool) (op : Op) (a : Args) (t : Turn) → t .progress .failed ≡ false
-    → left s (succeeding z s asked op a t) ≡ s .terms .head .count - (t .progress .ran + 1)
+pub left-succeeding : (z : ℕ) (s : Setting) (asked : Bool) (op : Op) (a : Args) (d : List ℕ) (t : Turn) → t .progress .failed ≡ false
+    → left s (succeeding z s asked op a d t) ≡ s .terms .head .count - (t .progress .ran + 1)
 unfolding left succeeding ranProgress
-left-succeeding z s asked op a t f = skips (t .progress .failed) 0 (s .terms .head .count - (t .progress .ran + 1)) f
+left-succeeding z s asked op a d t f = skips (t .progress .failed) 0 (s .terms .head .count - (t .progress .ran + 1)) f
 
 pub not-failed : (s : Setting) (t : Turn) → going (s .terms) (t .progress) ≡ true → t .progress .failed ≡ false
 unfolding going
@@ -168,9 +171,9 @@ unfolding stepped
 stepped-left z s i l t g =
     let q = left-going s t g in
     by (eqb (judged z s (rootAt z s t) (t .progress) i l) 0)
-    (λ e. rw (picks (eqb (judged z s (rootAt z s t) (t .progress) i l) 0) (succeeding z s (i .proof) (opOf (i .name)) (argsOf (opOf (i .name)) l) t)
+    (λ e. rw (picks (eqb (judged z s (rootAt z s t) (t .progress) i l) 0) (succeeding z s (i .proof) (opOf (i .name)) (argsOf (opOf (i .name)) l) (dataIn l) t)
         (failing z s (judged z s (rootAt z s t) (t .progress) i l) t) e) (succeeds q))
-    (λ e. rw (skips (eqb (judged z s (rootAt z s t) (t .progress) i l) 0) (succeeding z s (i .proof) (opOf (i .name)) (argsOf (opOf (i .name)) l) t)
+    (λ e. rw (skips (eqb (judged z s (rootAt z s t) (t .progress) i l) 0) (succeeding z s (i .proof) (opOf (i .name)) (argsOf (opOf (i .name)) l) (dataIn l) t)
         (failing z s (judged z s (rootAt z s t) (t .progress) i l) t) e) (fails q))
   where
     fails : (left s t ≡ s .terms .head .count - t .progress .ran) × (t .progress .ran < s .terms .head .count)
@@ -179,9 +182,9 @@ stepped-left z s i l t g =
         left-failing z s (judged z s (rootAt z s t) (t .progress) i l) t in omega arith
 
     succeeds : (left s t ≡ s .terms .head .count - t .progress .ran) × (t .progress .ran < s .terms .head .count)
-        → left s (succeeding z s (i .proof) (opOf (i .name)) (argsOf (opOf (i .name)) l) t) < left s t
-    succeeds q = let e : left s (succeeding z s (i .proof) (opOf (i .name)) (argsOf (opOf (i .name)) l) t)
-        ≡ s .terms .head .count - (t .progress .ran + 1) = left-succeeding z s (i .proof) (opOf (i .name)) (argsOf (opOf (i .name)) l) t
+        → left s (succeeding z s (i .proof) (opOf (i .name)) (argsOf (opOf (i .name)) l) (dataIn l) t) < left s t
+    succeeds q = let e : left s (succeeding z s (i .proof) (opOf (i .name)) (argsOf (opOf (i .name)) l) (dataIn l) t)
+        ≡ s .terms .head .count - (t .progress .ran + 1) = left-succeeding z s (i .proof) (opOf (i .name)) (argsOf (opOf (i .name)) l) (dataIn l) t
         (not-failed s t g) in omega arith
 
 pub step-left : (z : ℕ) (s : Setting) (a : List ℕ) (k : ℕ) (t : Turn) → ready s k t ≡ true → left s (step z s a t) < left s t

@@ -16,7 +16,7 @@ use Rattle.sia.specs.Names.{opOf}
 use Rattle.sia.specs.Encode.{operandsIn}
 use Rattle.host.specs.Lists.{some}
 use Rattle.machine_rules.specs.View.{Setting, Turn}
-use Rattle.machine_rules.specs.Inputs.{illFormed, pastEnd, largest, need, inputsOf, argsOf}
+use Rattle.machine_rules.specs.Inputs.{dataIn, illFormed, pastEnd, largest, need, inputsOf, argsOf}
 use Rattle.machine_rules.specs.Plan.{judged}
 use Rattle.machine_rules.specs.Run.{failedProgress, failing, ranProgress, succeeding, stepped, current, step, going, ready, runs}
 use Rattle.machine_rules.specs.Trace.{recordOf, recorded, trail, ripe}
@@ -118,9 +118,9 @@ stepped-next : (z : ℕ) (s : Setting) (i : Instruction) (l : List (List ℕ)) (
 unfolding stepped succeeding failing ranProgress failedProgress pick
 stepped-next z s i l t = under (eqb (judged z s (rootAt z s t) (t .progress) i l) 0)
   where
-    under : (b : Bool) → (pick b (succeeding z s (i .proof) (opOf (i .name)) (argsOf (opOf (i .name)) l) t)
+    under : (b : Bool) → (pick b (succeeding z s (i .proof) (opOf (i .name)) (argsOf (opOf (i .name)) l) (dataIn l) t)
         (failing z s (judged z s (rootAt z s t) (t .progress) i l) t) .progress .ran ≡ t .progress .ran + 1)
-        ⊎ (pick b (succeeding z s (i .proof) (opOf (i .name)) (argsOf (opOf (i .name)) l) t)
+        ⊎ (pick b (succeeding z s (i .proof) (opOf (i .name)) (argsOf (opOf (i .name)) l) (dataIn l) t)
             (failing z s (judged z s (rootAt z s t) (t .progress) i l) t) .progress .failed ≡ true)
     under true = inl refl
     under false = inr refl

@@ -116,7 +116,7 @@ module _ (z k : ℕ) (is : z ≡ 64 * 2 ^ k) (disk stage : List ℕ) (p : Spot �
 pub proof-counted : (z k : ℕ) → z ≡ 64 * 2 ^ k → (f : Spot → List ℕ) (disk stage : List ℕ) (p : Spot → Bool)
     → ((x : Spot) → p x ≡ true → length (sector z disk stage x) ≡ z)
     → ((x : Spot) → p x ≡ true → length (f x) ≡ 32) → (l : List Spot) → every p l ≡ true → length l * 2 ^ k ≤ 2 ^ 64 → (at n : ℕ) → Within z (length l) at n
-    → length (rangeProof z f disk stage l at n) ≡ 32 * rangeCount z l at n
+    → length (rangeProof z f disk stage l at n) ≡ 32 * rangeCount z (length l) at n
 unfolding rangeCount
 proof-counted z k is f disk stage p long sized l h few at n w =
     let q : z / 64 ≡ 2 ^ k = omega (arith, is) in

@@ -17,8 +17,8 @@ use Rattle.host.specs.Lists.{some}
 use Rattle.host.specs.Empty.{none}
 use Rattle.host.specs.Places.{freeCopy}
 use Rattle.machine_rules.specs.View.{sector}
-use Rattle.machine_rules.specs.Inputs.{Args}
-use Rattle.machine_rules.specs.Plan.{Source, badSpan, badSpans, touched, newSize}
+use Rattle.machine_rules.specs.declared.Args.{Args}
+use Rattle.machine_rules.specs.Plan.{badSpan, badSpans, touched, newSize}
 use Rattle.machine_rules.specs.Effect.{Ground, Staging, newCopy, sectorAt, copied, spanRead, laid, spanWritten, resized, effect}
 use Rattle.machine_rules.proofs.Laws.Effects.{neither, span-in, sector-below, Sized, sized, copiedMap, copied-map, written-map, copied-new}
 use Rattle.machine_rules.proofs.Laws.Effects.{copied-old, length-copied}
@@ -196,23 +196,23 @@ module _ (z : ℕ) (e : Ground) (size : ℕ) (g : Staging) (pos : 0 < z) (whole 
       subst (λ (x : Staging). Wrote z [] g x) (sym (picks (ltb new size) _ g v)) (wrote-less z (new / z) g (omega arith)))
       (λ v. subst (λ (x : Staging). Wrote z [] g x) (sym (skips (ltb new size) _ g v)) (wrote-nothing z g)))))
 
-  pub wrote-effect : (from : Source) (op : Op) (a : Args) → badSpans z size from op a ≡ false → (op ≡ Write → length (a .bytes) ≡ a .len)
+  pub wrote-effect : (n : ℕ) (op : Op) (a : Args) (d : List ℕ) → badSpans z size n op a ≡ false → (op ≡ Write → length d ≡ a .len)
       → newSize size op a ≤ length (g .staged) * z
-      → Wrote z (touched z size op a) g (effect z e size op a g)
+      → Wrote z (touched z size op a) g (effect z e size op a d g)
   unfolding effect touched badSpans newSize two
-  wrote-effect from Read a b long room = wrote-nothing z g
-  wrote-effect from ReadSector a b long room = wrote-nothing z g
-  wrote-effect from Write a b long room = wrote-span z e (a .first) (a .bytes) g (omega (arith, span-few z size (a .first) (a .len) b, long refl))
+  wrote-effect n Read a d b long room = wrote-nothing z g
+  wrote-effect n ReadSector a d b long room = wrote-nothing z g
+  wrote-effect n Write a d b long room = wrote-span z e (a .first) d g (omega (arith, span-few z size (a .first) (a .len) b, long refl))
       (in-staged (a .first) (a .len) b)
-  wrote-effect from Copy a b long room =
+  wrote-effect n Copy a d b long room =
       let c = either-left _ _ b in
       wrote-span z e (a .first) _ g (omega (arith, span-few z size (a .first) (a .len) c, few-read z e (a .second) (a .len) g))
           (in-staged (a .first) (a .len) c)
-  wrote-effect from Swap a b long room =
+  wrote-effect n Swap a d b long room =
       let c = either-left _ _ b in
       let d = either-right _ _ b in
       wrote-two z e (a .first) (a .second) _ _ g (omega (arith, span-few z size (a .first) (a .len) c, few-read z e (a .second) (a .len) g))
       (omega (arith, span-few z size (a .second) (a .len) d, few-read z e (a .first) (a .len) g)) (in-staged (a .first) (a .len) c)
           (in-staged (a .second) (a .len) d)
-  wrote-effect from Truncate a b long room = wrote-resized (a .first) (sized z size (a .first) b) room
-  wrote-effect from Unknown a b long room = wrote-nothing z g
+  wrote-effect n Truncate a d b long room = wrote-resized (a .first) (sized z size (a .first) b) room
+  wrote-effect n Unknown a d b long room = wrote-nothing z g

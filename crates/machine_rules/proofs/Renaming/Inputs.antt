@@ -6,7 +6,8 @@ use native.Mathlib.Omega.{arith}
 use lib.ListN.{length}
 use lib.Dec.{eqb}
 use Rattle.machine_rules.specs.View.{Setting}
-use Rattle.machine_rules.specs.Inputs.{nth, isKey, wellFormed, Args, readArgs, argsOf}
+use Rattle.machine_rules.specs.Inputs.{dataIn, nth, isKey, wellFormed, readArgs, argsOf}
+use Rattle.machine_rules.specs.declared.Args.{Args}
 use Rattle.machine_rules.specs.Plan.{sourceOf, touched, newSize}
 use Rattle.machine_rules.specs.Effect.{Ground, Staging, effect}
 use Rattle.machine_rules.specs.Record.{outputOf}
@@ -24,7 +25,7 @@ empty (x ∷ l) e = absurd (omega (arith, e))
 
 -- arguments with another key: no instruction looks at it but by what it finds
 abbrev pub withKey : Args → List ℕ → Args
-withKey a k = record { key = k; first = a .first; second = a .second; len = a .len; bytes = a .bytes }
+withKey a k = record { key = k; first = a .first; second = a .second; len = a .len }
 
 pub new-key : (size : ℕ) (op : Op) (a : Args) (k : List ℕ) → newSize size op (withKey a k) ≡ newSize size op a
 unfolding newSize
@@ -46,16 +47,16 @@ touched-key z size Swap a k = refl
 touched-key z size Truncate a k = refl
 touched-key z size Unknown a k = refl
 
-pub effect-key : (z : ℕ) (e : Ground) (size : ℕ) (op : Op) (a : Args) (k : List ℕ) (g : Staging)
-    → effect z e size op (withKey a k) g ≡ effect z e size op a g
+pub effect-key : (z : ℕ) (e : Ground) (size : ℕ) (op : Op) (a : Args) (k d : List ℕ) (g : Staging)
+    → effect z e size op (withKey a k) d g ≡ effect z e size op a d g
 unfolding effect
-effect-key z e size Read a k g = refl
-effect-key z e size ReadSector a k g = refl
-effect-key z e size Write a k g = refl
-effect-key z e size Copy a k g = refl
-effect-key z e size Swap a k g = refl
-effect-key z e size Truncate a k g = refl
-effect-key z e size Unknown a k g = refl
+effect-key z e size Read a k d g = refl
+effect-key z e size ReadSector a k d g = refl
+effect-key z e size Write a k d g = refl
+effect-key z e size Copy a k d g = refl
+effect-key z e size Swap a k d g = refl
+effect-key z e size Truncate a k d g = refl
+effect-key z e size Unknown a k d g = refl
 
 pub output-key : (z : ℕ) (disk stage : List ℕ) (l : List Spot) (a : Args) (k : List ℕ)
     → outputOf z disk stage l (withKey a k) ≡ outputOf z disk stage l a
@@ -121,3 +122,13 @@ module _ (r : List ℕ → List ℕ) (new : Renaming r) where
   args-as Swap l = refl
   args-as Truncate l = refl
   args-as Unknown l = refl
+
+  pub data-as : (op : Op) (l : List (List ℕ)) → dataIn (inputsAs r op l) ≡ dataIn l
+  unfolding dataIn inputsAs
+  data-as Read l = rw (rest-as l 0)
+  data-as ReadSector l = refl
+  data-as Write l = refl
+  data-as Copy l = refl
+  data-as Swap l = refl
+  data-as Truncate l = refl
+  data-as Unknown l = refl

@@ -19,7 +19,8 @@ use Rattle.host.specs.Places.{taken}
 use Rattle.machine_rules.specs.View.{Way, kept, worked, Setting, Turn, readOnlyMode, parent, parentSpots, committedSpots}
 use Rattle.machine_rules.specs.Seats.{seatsOf}
 use Rattle.machine_rules.specs.Roots.{rootOf, rootAt, rootOnDisk}
-use Rattle.machine_rules.specs.Inputs.{nth, Args, argsOf, inputsOf}
+use Rattle.machine_rules.specs.Inputs.{dataIn, nth, argsOf, inputsOf}
+use Rattle.machine_rules.specs.declared.Args.{Args}
 use Rattle.machine_rules.specs.Plan.{Source, spots, sourceOf, cost, touched, newSize, proofCount, outputCount, recordCount, judged}
 use Rattle.machine_rules.specs.Effect.{groundOf, Staging, effect, rehashed}
 use Rattle.machine_rules.specs.Record.{pairOf, startingPair, runningPair, recordBytes, failureBytes, outputOf, successBytes}
@@ -42,12 +43,12 @@ use Rattle.sia.specs.declared.Instruction.{Instruction}
 use Rattle.host.specs.declared.Progress.{Progress}
 use Rattle.machine_rules.specs.declared.Spot.{Spot}
 
-write-full : (l : List (List ℕ)) → length (argsOf Write l .bytes) ≡ argsOf Write l .len
-unfolding argsOf
+write-full : (l : List (List ℕ)) → length (dataIn l) ≡ argsOf Write l .len
+unfolding argsOf dataIn
 write-full l = length-drop 8 (nth l 1)
 
-args-full : (op : Op) (l : List (List ℕ)) → op ≡ Write → length (argsOf op l .bytes) ≡ argsOf op l .len
-args-full op l e = subst (λ (o : Op). length (argsOf o l .bytes) ≡ argsOf o l .len) (sym e) (write-full l)
+args-full : (op : Op) (l : List (List ℕ)) → op ≡ Write → length (dataIn l) ≡ argsOf op l .len
+args-full op l e = subst (λ (o : Op). length (dataIn l) ≡ argsOf o l .len) (sym e) (write-full l)
 
 pub few-sectors : (z : ℕ) (s : Setting) (p : Progress) → Lent z s → Good z s p → p .size / z ≤ 64
 few-sectors z s p L g =
@@ -78,18 +79,19 @@ success-alike : (z : ℕ) (s : Setting) (f r : Spot → List ℕ) (p : Progress)
     → successBytes z (withWay kept s) f p asked from op a n size g ≡ successBytes z (withWay worked s) r p asked from op a n size g
 unfolding successBytes runningPair parentSpots parent withWay
 success-alike z s f r p asked from op a n size g u v =
-    ap₂ (λ (x y : List ℕ). recordBytes 0 n (record { size = withStaged (withRunning p size) (g .staged) .size; root = x }) (proofCount z asked from a)
+    ap₂ (λ (x y : List ℕ). recordBytes 0 n (record { size = withStaged (withRunning p size) (g .staged) .size; root = x })
+        (proofCount z asked (length (spots from)) a)
         (pick asked y [])
     (outputCount op a) (pick (eqb (outputCount op a) 0) [] (outputOf z (s .disk) (g .bytes) (spots from) a)))
     (root-agree f r _ u) (proof-agree z f r (s .disk) (g .bytes) (spots from) (a .first) (a .len) v)
 
 module _ (z : ℕ) (s : Setting) (t : Turn) (solid : Solid z (withWay kept s)) (good : Good z (withWay kept s) (t .progress))
     (known : Known z (withWay kept s) t) where
-  unfoldable after : Op → Args → Staging
-  after op a = effect z (groundOf (withWay kept s)) (t .progress .size) op a (record { staged = t .progress .staged; bytes = t .stage })
+  unfoldable after : Op → Args → List ℕ → Staging
+  after op a d = effect z (groundOf (withWay kept s)) (t .progress .size) op a d (record { staged = t .progress .staged; bytes = t .stage })
 
-  unfoldable copies : Op → Args → List ℕ
-  copies op a = rehashed z (after op a) (touched z (t .progress .size) op a) (t .roots)
+  unfoldable copies : Op → Args → List ℕ → List ℕ
+  copies op a d = rehashed z (after op a d) (touched z (t .progress .size) op a) (t .roots)
 
   disk-known : every (right z (s .disk) (s .roots)) (taken z (s .places)) ≡ true
   unfolding withWay
@@ -107,78 +109,79 @@ module _ (z : ℕ) (s : Setting) (t : Turn) (solid : Solid z (withWay kept s)) (
   source-same op key = source-alike z s _ _ (t .progress) op key now-agree
 
   -- what is read is read with roots that are right
-  source-after : (op : Op) (a : Args) (r : Spot → List ℕ) (key : List ℕ)
-      → every (agree (rootOf z (withWay kept s) (after op a .bytes) (copies op a)) (rootOf z (withWay worked s) (after op a .bytes) (copies op a)))
+  source-after : (op : Op) (a : Args) (d : List ℕ) (r : Spot → List ℕ) (key : List ℕ)
+      → every (agree (rootOf z (withWay kept s) (after op a d .bytes) (copies op a d)) (rootOf z (withWay worked s) (after op a d .bytes) (copies op a d)))
           (spots (sourceOf z (withWay kept s) r (t .progress) op key)) ≡ true
   unfolding after copies effect touched rehashed withWay spots sourceOf
-  source-after Read a r key =
+  source-after Read a d r key =
       all-source z (withWay kept s) (t .progress) solid (good .orderly .staged) (few-sectors z (withWay kept s) (t .progress) (solid .lent) good)
           (good .entries) (known .shaped) _
       (known-disk z s (t .stage) (t .roots) disk-known) (known-stage z s (t .stage) (t .roots) (t .progress .staged) (known .stage)) r Read key
-  source-after ReadSector a r key =
+  source-after ReadSector a d r key =
       all-source z (withWay kept s) (t .progress) solid (good .orderly .staged) (few-sectors z (withWay kept s) (t .progress) (solid .lent) good)
           (good .entries) (known .shaped) _
       (known-disk z s (t .stage) (t .roots) disk-known) (known-stage z s (t .stage) (t .roots) (t .progress .staged) (known .stage)) r ReadSector key
-  source-after Write a r key = every-none _
-  source-after Copy a r key = every-none _
-  source-after Swap a r key = every-none _
-  source-after Truncate a r key = every-none _
-  source-after Unknown a r key = every-none _
+  source-after Write a d r key = every-none _
+  source-after Copy a d r key = every-none _
+  source-after Swap a d r key = every-none _
+  source-after Truncate a d r key = every-none _
+  source-after Unknown a d r key = every-none _
 
-  module _ (op : Op) (a : Args) (n : ℕ) {r : Spot → List ℕ} (passes : Passed z (withWay kept s) r (t .progress) op a n)
-      (full : op ≡ Write → length (a .bytes) ≡ a .len)
+  module _ (op : Op) (a : Args) (d : List ℕ) (n : ℕ) {r : Spot → List ℕ} (passes : Passed z (withWay kept s) r (t .progress) op a n)
+      (full : op ≡ Write → length d ≡ a .len)
       (run : going (s .terms) (t .progress) ≡ true) where
     ran : Good z (withWay kept s) (ranProgress (t .progress) (cost (s .terms .head .length) (s .terms .prices) op (a .len)) n
-        (newSize (t .progress .size) op a) (after op a .staged))
+        (newSize (t .progress .size) op a) (after op a d .staged))
     unfolding after withWay
-    ran = ran-good z (withWay kept s) (t .progress) op a n (t .stage) (solid .lent) (not-failed (withWay kept s) t run)
+    ran = ran-good z (withWay kept s) (t .progress) op a n d (t .stage) (solid .lent) (not-failed (withWay kept s) t run)
         (left-going (withWay kept s) t run .1) passes good
 
     few-new : newSize (t .progress .size) op a ≤ length (t .progress .staged) * z
     few-new = le-trans (omega (arith, passes .fits)) (mul-le-mul-right {m = withWay kept s .sectors} {n = length (t .progress .staged)} z
         (omega (arith, solid .lent .most, good .entries)))
 
-    wrote : Wrote z (touched z (t .progress .size) op a) (record { staged = t .progress .staged; bytes = t .stage }) (after op a)
+    wrote : Wrote z (touched z (t .progress .size) op a) (record { staged = t .progress .staged; bytes = t .stage }) (after op a d)
     unfolding after
     wrote =
         wrote-effect z (groundOf (withWay kept s)) (t .progress .size) (record { staged = t .progress .staged; bytes = t .stage })
             (Slots.some z (solid .lent .size)) (good .orderly .whole)
-        (omega (arith, few-sectors z (withWay kept s) (t .progress) (solid .lent) good, good .entries)) _ op a (passes .spans) full few-new
+        (omega (arith, few-sectors z (withWay kept s) (t .progress) (solid .lent) good, good .entries)) _ op a d (passes .spans) full few-new
 
     -- the roots beside the stage's slots are right again
-    staged-right : stagedRight z (after op a .bytes) (copies op a) (after op a .staged) ≡ true
+    staged-right : stagedRight z (after op a d .bytes) (copies op a d) (after op a d .staged) ≡ true
     unfolding copies ranProgress
-    staged-right = rehashed-right z _ (t .roots) _ (after op a) (withWay kept s .copies) _ _ wrote (solid .lent .few) (ran .orderly .staged)
+    staged-right = rehashed-right z _ (t .roots) _ (after op a d) (withWay kept s .copies) _ _ wrote (solid .lent .few) (ran .orderly .staged)
         (known .kept) (known .stage)
 
-    parent-agree : every (agree (rootOf z (withWay kept s) (after op a .bytes) (copies op a)) (rootOf z (withWay worked s) (after op a .bytes) (copies op a)))
-        (parentSpots z s (withStaged (withRunning (t .progress) (newSize (t .progress .size) op a)) (after op a .staged))) ≡ true
+    parent-agree : every (agree (rootOf z (withWay kept s) (after op a d .bytes) (copies op a d))
+        (rootOf z (withWay worked s) (after op a d .bytes) (copies op a d)))
+        (parentSpots z s (withStaged (withRunning (t .progress) (newSize (t .progress .size) op a)) (after op a d .staged))) ≡ true
     unfolding parentSpots parent withWay withStaged withRunning ranProgress
     parent-agree =
         all-parent z (withWay kept s) (ranProgress (t .progress) (cost (s .terms .head .length) (s .terms .prices) op (a .len)) n
-            (newSize (t .progress .size) op a) (after op a .staged)) solid (ran .orderly .staged)
-        (few-sectors z (withWay kept s) _ (solid .lent) ran) (ran .entries) (known .shaped) _ (known-disk z s (after op a .bytes) (copies op a) disk-known)
-        (known-stage z s (after op a .bytes) (copies op a) (after op a .staged) staged-right)
+            (newSize (t .progress .size) op a) (after op a d .staged)) solid (ran .orderly .staged)
+        (few-sectors z (withWay kept s) _ (solid .lent) ran) (ran .entries) (known .shaped) _ (known-disk z s (after op a d .bytes) (copies op a d) disk-known)
+        (known-stage z s (after op a d .bytes) (copies op a d) (after op a d .staged) staged-right)
 
-    succeeding-alike : (asked : Bool) → succeeding z (withWay kept s) asked op a t ≡ succeeding z (withWay worked s) asked op a t
+    succeeding-alike : (asked : Bool) → succeeding z (withWay kept s) asked op a d t ≡ succeeding z (withWay worked s) asked op a d t
     unfolding succeeding after copies parent withWay
     succeeding-alike asked =
         let made : Source → List ℕ → Turn = λ from b. record {
-          progress = ranProgress (t .progress) (cost (s .terms .head .length) (s .terms .prices) op (a .len)) (recordCount z asked from op a)
-              (newSize (t .progress .size) op a) (after op a .staged);
-          stage = after op a .bytes;
+          progress = ranProgress (t .progress) (cost (s .terms .head .length) (s .terms .prices) op (a .len)) (recordCount z asked (length (spots from)) op a)
+              (newSize (t .progress .size) op a) (after op a d .staged);
+          stage = after op a d .bytes;
           output = put (t .output) (t .progress .written) b;
-          roots = copies op a;
+          roots = copies op a d;
         } in
-        let bytes : Way → Source → List ℕ = λ way from. successBytes z (withWay way s) (rootOf z (withWay way s) (after op a .bytes) (copies op a))
+        let bytes : Way → Source → List ℕ = λ way from. successBytes z (withWay way s) (rootOf z (withWay way s) (after op a d .bytes) (copies op a d))
             (t .progress) asked from op a
-        (cost (s .terms .head .length) (s .terms .prices) op (a .len)) (newSize (t .progress .size) op a) (after op a) in
+        (cost (s .terms .head .length) (s .terms .prices) op (a .len)) (newSize (t .progress .size) op a) (after op a d) in
         let from : Source = sourceOf z (withWay kept s) (rootAt z (withWay kept s) t) (t .progress) op (a .key) in
-        ap (made from) (success-alike z s _ _ (t .progress) asked from op a _ _ (after op a) parent-agree
-            (source-after op a (rootAt z (withWay kept s) t) (a .key)))
+        ap (made from) (success-alike z s _ _ (t .progress) asked from op a _ _ (after op a d) parent-agree
+            (source-after op a d (rootAt z (withWay kept s) t) (a .key)))
         ∙ ap (λ (x : Source). made x (bytes worked x)) (source-same op (a .key))
 
-    known-ran : (asked : Bool) → Known z (withWay kept s) (succeeding z (withWay kept s) asked op a t)
+    known-ran : (asked : Bool) → Known z (withWay kept s) (succeeding z (withWay kept s) asked op a d t)
     unfolding succeeding ranProgress after copies
     known-ran asked = record { disk = known .disk; stage = staged-right; kept = rehashed-length z _ _ (t .roots) ∙ known .kept; shaped = known .shaped }
 
@@ -198,7 +201,7 @@ module _ (z : ℕ) (s : Setting) (t : Turn) (solid : Solid z (withWay kept s)) (
       judged-alike z s _ _ (t .progress) i l now-agree in
       by (eqb (judged z (withWay kept s) (rootAt z (withWay kept s) t) (t .progress) i l) 0)
       (λ u. picks (eqb (judged z (withWay kept s) (rootAt z (withWay kept s) t) (t .progress) i l) 0) _ _ u
-      ∙ succeeding-alike (opOf (i .name)) (argsOf (opOf (i .name)) l) _ (passed z (withWay kept s) _ (t .progress) i l (eqb-true _ _ u))
+      ∙ succeeding-alike (opOf (i .name)) (argsOf (opOf (i .name)) l) (dataIn l) _ (passed z (withWay kept s) _ (t .progress) i l (eqb-true _ _ u))
           (args-full (opOf (i .name)) l) run (i .proof)
       ∙ sym (picks (eqb (judged z (withWay worked s) (rootAt z (withWay worked s) t) (t .progress) i l) 0) _ _ (ap (λ (x : ℕ). eqb x 0) (sym e) ∙ u)))
       (λ u. skips (eqb (judged z (withWay kept s) (rootAt z (withWay kept s) t) (t .progress) i l) 0) _ _ u
@@ -217,17 +220,19 @@ module _ (z : ℕ) (s : Setting) (t : Turn) (solid : Solid z (withWay kept s)) (
           ≡ judged z (withWay worked s) (rootAt z (withWay worked s) t) (t .progress) i l =
       judged-alike z s _ _ (t .progress) i l now-agree in
       let bytes : Way → Source → List ℕ = λ way from. successBytes z (withWay way s)
-          (rootOf z (withWay way s) (after (opOf (i .name)) (argsOf (opOf (i .name)) l) .bytes) (copies (opOf (i .name)) (argsOf (opOf (i .name)) l)))
+          (rootOf z (withWay way s) (after (opOf (i .name)) (argsOf (opOf (i .name)) l) (dataIn l) .bytes)
+              (copies (opOf (i .name)) (argsOf (opOf (i .name)) l) (dataIn l)))
           (t .progress) (i .proof) from
       (opOf (i .name)) (argsOf (opOf (i .name)) l) (cost (s .terms .head .length) (s .terms .prices) (opOf (i .name))
           (argsOf (opOf (i .name)) l .len)) (newSize (t .progress .size) (opOf (i .name)) (argsOf (opOf (i .name)) l))
-          (after (opOf (i .name)) (argsOf (opOf (i .name)) l)) in
+          (after (opOf (i .name)) (argsOf (opOf (i .name)) l) (dataIn l)) in
       by (eqb (judged z (withWay kept s) (rootAt z (withWay kept s) t) (t .progress) i l) 0)
       (λ u. picks (eqb (judged z (withWay kept s) (rootAt z (withWay kept s) t) (t .progress) i l) 0) _ _ u
-      ∙ success-alike z s _ _ (t .progress) (i .proof) _ (opOf (i .name)) (argsOf (opOf (i .name)) l) _ _ (after (opOf (i .name)) (argsOf (opOf (i .name)) l))
-      (parent-agree (opOf (i .name)) (argsOf (opOf (i .name)) l) _ (passed z (withWay kept s) _ (t .progress) i l (eqb-true _ _ u))
+      ∙ success-alike z s _ _ (t .progress) (i .proof) _ (opOf (i .name)) (argsOf (opOf (i .name)) l) _ _
+          (after (opOf (i .name)) (argsOf (opOf (i .name)) l) (dataIn l))
+      (parent-agree (opOf (i .name)) (argsOf (opOf (i .name)) l) (dataIn l) _ (passed z (withWay kept s) _ (t .progress) i l (eqb-true _ _ u))
           (args-full (opOf (i .name)) l) run)
-      (source-after (opOf (i .name)) (argsOf (opOf (i .name)) l) (rootAt z (withWay kept s) t) (argsOf (opOf (i .name)) l .key))
+      (source-after (opOf (i .name)) (argsOf (opOf (i .name)) l) (dataIn l) (rootAt z (withWay kept s) t) (argsOf (opOf (i .name)) l .key))
       ∙ ap (bytes worked) (source-same (opOf (i .name)) (argsOf (opOf (i .name)) l .key))
       ∙ sym (picks (eqb (judged z (withWay worked s) (rootAt z (withWay worked s) t) (t .progress) i l) 0) _ _ (ap (λ (x : ℕ). eqb x 0) (sym e) ∙ u)))
       (λ u. skips (eqb (judged z (withWay kept s) (rootAt z (withWay kept s) t) (t .progress) i l) 0) _ _ u
@@ -243,7 +248,7 @@ module _ (z : ℕ) (s : Setting) (t : Turn) (solid : Solid z (withWay kept s)) (
       by (eqb (judged z (withWay kept s) (rootAt z (withWay kept s) t) (t .progress) i l) 0)
       (λ u. subst (λ (x : Turn). Known z (withWay kept s) x)
           (sym (picks (eqb (judged z (withWay kept s) (rootAt z (withWay kept s) t) (t .progress) i l) 0) _ _ u))
-      (known-ran (opOf (i .name)) (argsOf (opOf (i .name)) l) _ (passed z (withWay kept s) _ (t .progress) i l (eqb-true _ _ u))
+      (known-ran (opOf (i .name)) (argsOf (opOf (i .name)) l) (dataIn l) _ (passed z (withWay kept s) _ (t .progress) i l (eqb-true _ _ u))
           (args-full (opOf (i .name)) l) run (i .proof)))
       (λ u. subst (λ (x : Turn). Known z (withWay kept s) x)
           (sym (skips (eqb (judged z (withWay kept s) (rootAt z (withWay kept s) t) (t .progress) i l) 0) _ _ u)) (known-failing _))

@@ -7,7 +7,7 @@ use Prim.Native.Nat.{ℕ, _+_, _*_, _/_, _≤_, _<_, _^_}
 use native.Mathlib.Omega.{arith}
 use lib.ListN.{length, drop, length-take, length-drop}
 use lib.Dec.{eqb}
-use borrow.Author.Tests.{leb-true, eqb-true, eqb-false, eq-eqb, ne-eqb}
+use borrow.Author.Tests.{leb-true, eqb-false, eq-eqb, ne-eqb}
 use Rattle.area.specs.Pick.{pick}
 use Rattle.area.specs.Area.{part, put, tab}
 use Rattle.area.proofs.Laws.Pick.{by, picks, skips, both-left, both-right, either-left}
@@ -17,13 +17,15 @@ use Rattle.host.specs.Order.{termsInOrder}
 use Rattle.host.specs.With.{withRunning, withStaged}
 use Rattle.machine_rules.specs.View.{Setting, Turn, turn, parent, spotOf, parentSpots}
 use Rattle.machine_rules.specs.Roots.{keptRoot, rootOf, rootAt, contractRoot, rangeProof}
-use Rattle.machine_rules.specs.Inputs.{Args, pastEnd, inputsOf, nth, argsOf}
-use Rattle.machine_rules.specs.Plan.{Source, spots, sourceOf, badSpan, badSpans, reads, cost, touched, newSize, proofCount, outputCount, recordCount, judged}
+use Rattle.machine_rules.specs.Inputs.{wellFormed, dataIn, pastEnd, inputsOf, nth, argsOf}
+use Rattle.machine_rules.specs.declared.Args.{Args}
+use Rattle.machine_rules.specs.Plan.{planned, Source, spots, sourceOf, badSpan, badSpans, cost, touched, newSize, proofCount, outputCount, recordCount, judged}
+use Rattle.machine_rules.specs.Kinds.{reads}
 use Rattle.machine_rules.specs.Effect.{Staging, groundOf, effect, rehashed}
 use Rattle.machine_rules.specs.Record.{pairing, runningPair, recordBytes, successBytes, outputOf}
 use Rattle.machine_rules.specs.Run.{ranProgress, succeeding}
 use Rattle.machine_rules.specs.Facts.{Solid, Good, Within, valid}
-use Rattle.machine_rules.proofs.Laws.Effects.{Passed, passed}
+use Rattle.machine_rules.proofs.Laws.Effects.{planned-fine, Passed, passed}
 use Rattle.machine_rules.proofs.Laws.Areas.{effect-bytes, rehashed-length}
 use Rattle.machine_rules.proofs.Laws.Kept.{ran-good}
 use Rattle.machine_rules.proofs.Laws.Lengths.{length-proof, read-span, asked-reads, asked-right, well-formed, count-read, count-change}
@@ -38,9 +40,8 @@ use Rattle.machine_effect.specs.Asks as Effect
 use Rattle.machine_effect.specs.Rehashes.{Rehashes}
 use Rattle.machine_effect.proofs.Callers.{touched-args, rehashes}
 use Rattle.machine_effect.proofs.Laws.Passed.{stands-with, effect-with}
-use Rattle.machine_inputs.specs.Given.{placed, fromOf, argsGiven, bytesGiven}
-use Rattle.machine_plan.specs.Planned.{Said, said, failed, runs, planOf}
-use Rattle.machine_inputs.proofs.Laws.Given.{given-args}
+use Rattle.machine_inputs.specs.Given.{fromOf}
+use Rattle.machine_plan.specs.Planned.{says, Said, said, failed, planOf}
 use Rattle.machine_plan.proofs.Laws.Planned.{size-few}
 use Rattle.machine_step.specs.Shown.{shownProof, shownBytes, Shows}
 use Rattle.machine_step.specs.Ran.{stageAfter, progressAfter, rootsAfter, recordAfter, ran}
@@ -52,7 +53,9 @@ use Rattle.sia.specs.declared.Op.the-variants.{Write}
 use Rattle.host.specs.declared.Place.{Place}
 use Rattle.host.specs.declared.Progress.{Progress}
 use Rattle.machine_rules.specs.declared.Spot.{Spot}
-use Rattle.machine_plan.specs.declared.Plan.{Plan}
+use Rattle.machine_plan.specs.declared.Task.{Task}
+use Rattle.machine_inputs.proofs.Laws.Given.{data-given, count-right}
+use Rattle.machine_rules.specs.declared.Plan.{Plan}
 
 -- a root is kept beside each sector of the parent of a program in order
 pub reads-good : (z : ℕ) (s : Setting) (g : Progress) (diskroots stageroots : List ℕ) (q : Place) → Solid z s → Good z s g
@@ -76,7 +79,7 @@ pub within-count : (z : ℕ) (s : Setting) (t : Turn) {input : List ℕ} → Ste
 unfolding termsInOrder within
 within-count z s t x = leb-true _ _ (both-left _ _ (both-left _ _ (both-right _ _ (x .good .terms))))
 
-module _ (z : ℕ) (s : Setting) (t : Turn) (input : List ℕ) (i : Instruction) (q : Place) (r : Plan) (x : Steps z s t input) (own : q ≡ parent s)
+module _ (z : ℕ) (s : Setting) (t : Turn) (input : List ℕ) (i : Instruction) (q : Place) (r : Task) (x : Steps z s t input) (own : q ≡ parent s)
     (operands : length (i .operands) ≡ 4) (e : said r ≡ planOf z s (rootAt z s t) (t .progress) i input) where
   unfoldable op : Op
   op = opOf (i .name)
@@ -87,82 +90,98 @@ module _ (z : ℕ) (s : Setting) (t : Turn) (input : List ℕ) (i : Instruction)
   unfoldable from : Source
   from = sourceOf z s (rootAt z s t) (t .progress) op (a .key)
 
-  pub number-is : r .number ≡ judged z s (rootAt z s t) (t .progress) i (inputsOf i input)
-  unfolding planOf runs failed
-  number-is =
-      let n = judged z s (rootAt z s t) (t .progress) i (inputsOf i input) in
-      ap (λ (y : Said). y .number) e
-      ∙ by (eqb n 0)
-      (λ u. ap (λ (y : Said). y .number) (picks (eqb n 0) _ _ u) ∙ sym (eqb-true n 0 u))
-      (λ u. ap (λ (y : Said). y .number) (skips (eqb n 0) _ _ u))
+  -- its plan where it can run, and what goes with it
+  abbrev fine : Plan
+  fine = record {
+    number = 0;
+    cost = cost (s .terms .head .length) (s .terms .prices) op (a .len);
+    size = newSize (t .progress .size) op a;
+    hashes = proofCount z (i .proof) (length (spots from)) a;
+    count = recordCount z (i .proof) (length (spots from)) op a;
+  }
 
-  module _ (zero : r .number ≡ 0) where
+  abbrev done : Said
+  done = record { plan = fine; op = op; args = a; from = fromOf op i; sectors = spots from }
+
+  plan-is : r .plan ≡ planned z s (rootAt z s t) (t .progress) i (inputsOf i input)
+  unfolding planOf says failed
+  plan-is =
+      let w = planned z s (rootAt z s t) (t .progress) i (inputsOf i input) in
+      ap (λ (y : Said). y .plan) e
+      ∙ by (eqb (w .number) 0)
+      (λ u. ap (λ (y : Said). y .plan) (picks (eqb (w .number) 0) _ _ u))
+      (λ u. ap (λ (y : Said). y .plan) (skips (eqb (w .number) 0) _ _ u))
+
+  pub number-is : r .plan .number ≡ judged z s (rootAt z s t) (t .progress) i (inputsOf i input)
+  unfolding judged
+  number-is = ap (λ (w : Plan). w .number) plan-is
+
+  module _ (zero : r .plan .number ≡ 0) where
     can : judged z s (rootAt z s t) (t .progress) i (inputsOf i input) ≡ 0
     can = sym number-is ∙ zero
 
-    says : said r ≡ runs z s (rootAt z s t) (t .progress) i input
-    unfolding planOf
-    says = e ∙ picks (eqb (judged z s (rootAt z s t) (t .progress) i (inputsOf i input)) 0) _ _ (eq-eqb _ 0 can)
+    says-is : said r ≡ done
+    unfolding planOf says judged op a from
+    says-is =
+        let w = planned z s (rootAt z s t) (t .progress) i (inputsOf i input) in
+        e ∙ picks (eqb (w .number) 0) _ _ (eq-eqb _ 0 can)
+        ∙ ap (λ (y : Plan). record { plan = y; op = op; args = a; from = fromOf op i; sectors = spots from })
+            (planned-fine z s (rootAt z s t) (t .progress) i (inputsOf i input) can)
 
-    pass : Passed z s (rootAt z s t) (t .progress) op a (recordCount z (i .proof) from op a)
+    pass : Passed z s (rootAt z s t) (t .progress) op a (recordCount z (i .proof) (length (spots from)) op a)
     unfolding op a from
     pass = passed z s (rootAt z s t) (t .progress) i (inputsOf i input) can
 
     -- Write's data
-    given : argsGiven op input (placed a (fromOf op i)) ≡ a
+    data-is : op ≡ Write → part input (fromOf op i) (a .len) ≡ dataIn (inputsOf i input)
     unfolding op a
-    given =
-        let w = well-formed z s (rootAt z s t) (t .progress) i (inputsOf i input) can in
-        given-args (opOf (i .name)) i input refl (w .0) (ap (λ (n : ℕ). pastEnd n i) (x .input) ∙ w .1) operands (w .2)
-
-    bytes-are : op ≡ Write → a .bytes ≡ part input (fromOf op i) (a .len)
-    unfolding argsGiven bytesGiven placed
-    bytes-are w = sym (ap (λ (b : Args). b .bytes) given) ∙ ap (λ (o : Op). bytesGiven o input (placed a (fromOf op i))) w
+    data-is w =
+        let f = well-formed z s (rootAt z s t) (t .progress) i (inputsOf i input) can in
+        let known : Write ≡ opOf (i .name) = sym w in
+        ap (λ (o : Op). part input (fromOf o i) (argsOf o (inputsOf i input) .len)) w
+        ∙ data-given input i operands (count-right i Write known (f .0)) (ap (λ (n : ℕ). pastEnd n i) (x .input) ∙ f .1)
+            (ap (λ (o : Op). wellFormed o (inputsOf i input)) known ∙ f .2)
 
     after-is : stageAfter z (s .copies) q (s .disk) input r (t .progress) (t .stage)
-        ≡ effect z (groundOf s) (t .progress .size) op a (staging (t .progress .staged) (t .stage))
-    unfolding stageAfter runs placed op a
+        ≡ effect z (groundOf s) (t .progress .size) op a (dataIn (inputsOf i input)) (staging (t .progress .staged) (t .stage))
+    unfolding stageAfter
     after-is =
         effect-with z s (q .slots) (ap (λ (p : Place). p .slots) own) (t .progress .size) op a (part input (fromOf op i) (a .len))
-        (staging (t .progress .staged) (t .stage)) bytes-are
+        (dataIn (inputsOf i input)) (staging (t .progress .staged) (t .stage)) data-is
         (ap (λ (y : Said). effect z (ground (s .copies) (q .slots) (s .disk)) (t .progress .size) (y .op)
-        (args (y .args .first) (y .args .second) (y .args .len) (part input (y .args .from) (y .args .len))) (staging (t .progress .staged) (t .stage))) says)
+        (args (y .args .first) (y .args .second) (y .args .len)) (part input (y .from) (y .args .len)) (staging (t .progress .staged) (t .stage))) says-is)
 
     -- what the effect asks
     stands : Effect.Stands z (ground (s .copies) (q .slots) (s .disk)) (t .progress .size) (r .op)
-        (args (r .args .first) (r .args .second) (r .args .len) (part input (r .args .from) (r .args .len))) (staging (t .progress .staged) (t .stage))
-    unfolding runs placed op a
+        (args (r .args .first) (r .args .second) (r .args .len)) (staging (t .progress .staged) (t .stage))
     stands =
         subst (λ (y : Said). Effect.Stands z (ground (s .copies) (q .slots) (s .disk)) (t .progress .size) (y .op)
-        (args (y .args .first) (y .args .second) (y .args .len) (part input (y .args .from) (y .args .len))) (staging (t .progress .staged) (t .stage)))
-        (sym says)
-        (stands-with z s (t .progress) (t .stage) (x .good) (x .solid) (x .stage) (q .slots) (ap (λ (p : Place). p .slots) own) op a _ _ pass)
+        (args (y .args .first) (y .args .second) (y .args .len)) (staging (t .progress .staged) (t .stage)))
+        (sym says-is)
+        (stands-with z s (t .progress) (t .stage) (x .good) (x .solid) (x .stage) (q .slots) (ap (λ (p : Place). p .slots) own) op a _ pass)
 
     -- a Write writes something
     some-data : op ≡ Write → 0 < a .len
     unfolding badSpans badSpan from
     some-data w =
-        let as-write = ap (λ (o : Op). badSpans z (t .progress .size) from o a) (sym w) in
-        let b : badSpans z (t .progress .size) from Write a ≡ false = as-write ∙ pass .spans in
+        let as-write = ap (λ (o : Op). badSpans z (t .progress .size) (length (spots from)) o a) (sym w) in
+        let b : badSpans z (t .progress .size) (length (spots from)) Write a ≡ false = as-write ∙ pass .spans in
         let n = eqb-false (a .len) 0 (either-left _ _ b) in
         omega arith
 
-    write-long : op ≡ Write → length (a .bytes) ≡ a .len
-    unfolding argsOf a op
-    write-long w =
-        ap (λ (o : Op). length (argsOf o (inputsOf i input) .bytes)) w ∙ length-drop 8 (nth (inputsOf i input) 1)
-        ∙ sym (ap (λ (o : Op). argsOf o (inputsOf i input) .len) w)
+    write-long : op ≡ Write → length (dataIn (inputsOf i input)) ≡ a .len
+    unfolding argsOf dataIn a op
+    write-long w = length-drop 8 (nth (inputsOf i input) 1) ∙ sym (ap (λ (o : Op). argsOf o (inputsOf i input) .len) w)
 
-    source-within : r .op ≡ Write → r .args .from + r .args .len ≤ length input
-    unfolding runs placed op a
+    source-within : r .op ≡ Write → r .from + r .args .len ≤ length input
     source-within =
-        subst (λ (y : Said). y .op ≡ Write → y .args .from + y .args .len ≤ length input) (sym says)
-        (λ w. part-within input (fromOf op i) (a .len) (some-data w) (ap length (sym (bytes-are w)) ∙ write-long w))
+        subst (λ (y : Said). y .op ≡ Write → y .from + y .args .len ≤ length input) (sym says-is)
+        (λ w. part-within input (fromOf op i) (a .len) (some-data w) (ap length (data-is w) ∙ write-long w))
 
     -- ---- after the effect
 
     unfoldable after : Staging
-    after = effect z (groundOf s) (t .progress .size) op a (staging (t .progress .staged) (t .stage))
+    after = effect z (groundOf s) (t .progress .size) op a (dataIn (inputsOf i input)) (staging (t .progress .staged) (t .stage))
 
     -- the roots kept beside the stage's slots
     unfoldable roots : List ℕ
@@ -173,43 +192,46 @@ module _ (z : ℕ) (s : Setting) (t : Turn) (input : List ℕ) (i : Instruction)
     roots-long = rehashed-length z after (touched z (t .progress .size) op a) (t .roots) ∙ x .stageroots
 
     roots-are : rootsAfter z r (t .progress) after (t .roots) ≡ roots
-    unfolding rootsAfter roots runs placed op a
+    unfolding rootsAfter roots op a
     roots-are =
-        ap (λ (y : Said). rehashed z after (touched z (t .progress .size) (y .op) (args (y .args .first) (y .args .second) 0 [])) (t .roots)) says
+        ap (λ (y : Said). rehashed z after (touched z (t .progress .size) (y .op) (args (y .args .first) (y .args .second) 0)) (t .roots)) says-is
         ∙ ap (λ (l : List ℕ). rehashed z after l (t .roots)) (touched-args z (t .progress .size) op a)
 
     stage-long : length (after .bytes) ≡ s .copies * z
     unfolding after
-    stage-long = effect-bytes z (groundOf s) (t .progress .size) op a (staging (t .progress .staged) (t .stage)) ∙ x .stage
+    stage-long = effect-bytes z (groundOf s) (t .progress .size) op a (dataIn (inputsOf i input)) (staging (t .progress .staged) (t .stage)) ∙ x .stage
 
-    good-after : Good z s (ranProgress (t .progress) (cost (s .terms .head .length) (s .terms .prices) op (a .len)) (recordCount z (i .proof) from op a)
+    good-after : Good z s (ranProgress (t .progress) (cost (s .terms .head .length) (s .terms .prices) op (a .len))
+        (recordCount z (i .proof) (length (spots from)) op a)
         (newSize (t .progress .size) op a) (after .staged))
     unfolding after
-    good-after = ran-good z s (t .progress) op a _ (t .stage) (x .solid .lent) (not-failed s t (x .going)) (left-going s t (x .going) .1) pass (x .good)
+    good-after = ran-good z s (t .progress) op a _ (dataIn (inputsOf i input)) (t .stage) (x .solid .lent) (not-failed s t (x .going))
+        (left-going s t (x .going) .1) pass (x .good)
 
     -- what rehashing asks
-    rehash-after : Rehashes z (t .progress .size) (r .op) (args (r .args .first) (r .args .second) 0 [])
+    rehash-after : Rehashes z (t .progress .size) (r .op) (args (r .args .first) (r .args .second) 0)
         (stageAfter z (s .copies) q (s .disk) input r (t .progress) (t .stage)) (t .roots)
     unfolding stageAfter
     rehash-after =
         rehashes z (ground (s .copies) (q .slots) (s .disk)) (t .progress .size) (r .op)
-        (args (r .args .first) (r .args .second) (r .args .len) (part input (r .args .from) (r .args .len))) (staging (t .progress .staged) (t .stage))
+        (args (r .args .first) (r .args .second) (r .args .len)) (part input (r .from) (r .args .len)) (staging (t .progress .staged) (t .stage))
         _ (t .roots) (x .good .entries) (x .stageroots) stands refl
 
     read-after : let g = stageAfter z (s .copies) q (s .disk) input r (t .progress) (t .stage) in
         Reads z (s .roots) (rootsAfter z r (t .progress) g (t .roots)) q (progressAfter r (t .progress) g)
-    unfolding progressAfter runs after op a from
+    unfolding progressAfter after op a from
     read-after =
         subst (λ (g : Staging). Reads z (s .roots) (rootsAfter z r (t .progress) g (t .roots)) q (progressAfter r (t .progress) g)) (sym after-is)
         (subst (λ (l : List ℕ). Reads z (s .roots) l q (progressAfter r (t .progress) after)) (sym roots-are)
-        (subst (λ (y : Said). Reads z (s .roots) roots q (ranProgress (t .progress) (y .cost) (y .count) (y .size) (after .staged))) (sym says)
+        (subst (λ (y : Said). Reads z (s .roots) roots q (ranProgress (t .progress) (y .plan .cost) (y .plan .count) (y .plan .size) (after .staged)))
+            (sym says-is)
         (reads-good z s _ (s .roots) roots q (x .solid) good-after (x .diskroots) roots-long own)))
 
     -- ---- what is shown
 
     seen-is : spotsOf (r .seen) ≡ spots from
-    unfolding runs op a from
-    seen-is = ap (λ (y : Said). y .sectors) says
+    unfolding op a from
+    seen-is = ap (λ (y : Said). y .sectors) says-is
 
     count-is : r .seen .count ≡ length (spots from)
     count-is = sym (seen-count (r .seen)) ∙ ap length seen-is
@@ -236,7 +258,7 @@ module _ (z : ℕ) (s : Setting) (t : Turn) (input : List ℕ) (i : Instruction)
 
     span-right : reads op ≡ true → badSpan z (r .seen .count * z) (a .first) (a .len) ≡ false
     unfolding from
-    span-right u = ap (λ (n : ℕ). badSpan z (n * z) (a .first) (a .len)) count-is ∙ read-span z (t .progress .size) from op a u (pass .spans)
+    span-right u = ap (λ (n : ℕ). badSpan z (n * z) (a .first) (a .len)) count-is ∙ read-span z (t .progress .size) (length (spots from)) op a u (pass .spans)
 
     inside : reads op ≡ true → Inside z (r .seen .count) (a .first) (a .len)
     inside u = span-inside z (x .solid .lent .size) (r .seen .count) (a .first) (a .len) (span-right u)
@@ -264,7 +286,7 @@ module _ (z : ℕ) (s : Setting) (t : Turn) (input : List ℕ) (i : Instruction)
         ap₂ (λ (f : Spot → List ℕ) (l : List Spot). pick (i .proof) (rangeProof z f (s .disk) (after .bytes) l (a .first) (a .len)) []) reader-kept seen-is
 
     proof-long : length (shownProof z (i .proof) (keptRoot (s .roots) roots) (s .disk) (after .bytes) (r .seen) (a .first) (a .len))
-        ≡ 32 * proofCount z (i .proof) from a
+        ≡ 32 * proofCount z (i .proof) (length (spots from)) a
     proof-long =
         ap length proof-is
         ∙ length-proof z s (after .bytes) roots from a (i .proof) (x .solid) stage-long (x .diskroots) roots-long read-valid few-read
@@ -281,27 +303,27 @@ module _ (z : ℕ) (s : Setting) (t : Turn) (input : List ℕ) (i : Instruction)
               many = g .whole;
             }
 
-    room : 72 + 32 * proofCount z (i .proof) from a + pick (reads op) (a .len) 0 ≤ length (drop (t .progress .written) (t .output))
+    room : 72 + 32 * proofCount z (i .proof) (length (spots from)) a + pick (reads op) (a .len) 0 ≤ length (drop (t .progress .written) (t .output))
     unfolding outputCount recordCount
     room = omega (arith, pass .room, x .output, length-drop (t .progress .written) (t .output))
 
     shows : let g = stageAfter z (s .copies) q (s .disk) input r (t .progress) (t .stage) in
         Shows z (s .roots) (rootsAfter z r (t .progress) g (t .roots)) (s .disk) (g .bytes) (r .seen) (i .proof) (reads (r .op))
-        (r .args .first) (r .args .len) (r .hashes) (drop (t .progress .written) (t .output))
-    unfolding runs placed after op a from
+        (r .args .first) (r .args .len) (r .plan .hashes) (drop (t .progress .written) (t .output))
+    unfolding after op a from
     shows =
         let left = drop (t .progress .written) (t .output) in
         subst (λ (g : Staging). Shows z (s .roots) (rootsAfter z r (t .progress) g (t .roots)) (s .disk) (g .bytes) (r .seen) (i .proof) (reads (r .op))
-        (r .args .first) (r .args .len) (r .hashes) left) (sym after-is)
+        (r .args .first) (r .args .len) (r .plan .hashes) left) (sym after-is)
         (subst (λ (l : List ℕ). Shows z (s .roots) l (s .disk) (after .bytes) (r .seen) (i .proof) (reads (r .op)) (r .args .first) (r .args .len)
-        (r .hashes) left) (sym roots-are)
+        (r .plan .hashes) left) (sym roots-are)
         (subst (λ (y : Said). Shows z (s .roots) roots (s .disk) (after .bytes) (r .seen) (i .proof) (reads (y .op)) (y .args .first) (y .args .len)
-        (y .hashes) left) (sym says)
+        (y .plan .hashes) left) (sym says-is)
         (record { known = roots-known; lies = seen-lies; inside = inside; ranged = ranged; count = proof-long; room = room })))
 
     -- all that an instruction that can run asks
     pub runs-right : s .terms .budget < 2 ^ 64 → Runs z (s .copies) q (s .roots) (s .disk) input r (i .proof) t
-    unfolding runs op a from
+    unfolding op a from
     runs-right small = record {
       stands = stands;
       source = source-within;
@@ -309,8 +331,8 @@ module _ (z : ℕ) (s : Setting) (t : Turn) (input : List ℕ) (i : Instruction)
       read = read-after;
       shows = shows;
       ran = omega (arith, left-going s t (x .going) .1, within-count z s t x);
-      tally = subst (λ (y : Said). t .progress .tally + y .cost < 2 ^ 64) (sym says) (omega (arith, pass .paid));
-      written = subst (λ (y : Said). t .progress .written + y .count ≤ length (t .output)) (sym says) (omega (arith, pass .room, x .output));
+      tally = subst (λ (y : Said). t .progress .tally + y .plan .cost < 2 ^ 64) (sym says-is) (omega (arith, pass .paid));
+      written = subst (λ (y : Said). t .progress .written + y .plan .count ≤ length (t .output)) (sym says-is) (omega (arith, pass .room, x .output));
     }
 
     -- ---- what it leaves is the step's
@@ -333,30 +355,32 @@ module _ (z : ℕ) (s : Setting) (t : Turn) (input : List ℕ) (i : Instruction)
     record-is : recordAfter z (keptRoot (s .roots) roots) q (s .disk) r (i .proof) after
         ≡ successBytes z s reader (t .progress) (i .proof) from op a (cost (s .terms .head .length) (s .terms .prices) op (a .len))
         (newSize (t .progress .size) op a) after
-    unfolding recordAfter runs placed successBytes runningPair parentSpots withRunning withStaged outputCount op a from
+    unfolding recordAfter successBytes runningPair parentSpots withRunning withStaged outputCount op a from
     record-is =
         let own-cost = cost (s .terms .head .length) (s .terms .prices) op (a .len) in
         let size = newSize (t .progress .size) op a in
         let kept-reader = keptRoot (s .roots) roots in
         let rooted : (Spot → List ℕ) → List ℕ → ℕ → List ℕ = λ f slots n. contractRoot f (tab 0 (n / z) (spotOf slots (after .staged))) in
-        ap (λ (y : Said). recordBytes 0 (y .cost) (pairing (y .size) (rooted kept-reader (q .slots) (y .size))) (y .hashes)
+        ap (λ (y : Said). recordBytes 0 (y .plan .cost) (pairing (y .plan .size) (rooted kept-reader (q .slots) (y .plan .size))) (y .plan .hashes)
         (shownProof z (i .proof) kept-reader (s .disk) (after .bytes) (r .seen) (y .args .first) (y .args .len))
-        (pick (reads (y .op)) (y .args .len) 0) (shownBytes z (reads (y .op)) (s .disk) (after .bytes) (r .seen) (y .args .first) (y .args .len))) says
+        (pick (reads (y .op)) (y .args .len) 0) (shownBytes z (reads (y .op)) (s .disk) (after .bytes) (r .seen) (y .args .first) (y .args .len))) says-is
         ∙ ap₂ (λ (f : Spot → List ℕ) (b : Place). recordBytes 0 own-cost (pairing size (rooted f (b .slots) size))
-        (proofCount z (i .proof) from a) (shownProof z (i .proof) kept-reader (s .disk) (after .bytes) (r .seen) (a .first) (a .len)) (outputCount op a)
+        (proofCount z (i .proof) (length (spots from)) a) (shownProof z (i .proof) kept-reader (s .disk) (after .bytes) (r .seen) (a .first) (a .len))
+            (outputCount op a)
         (shownBytes z (reads op) (s .disk) (after .bytes) (r .seen) (a .first) (a .len))) reader-kept own
         ∙ ap₂ (λ (pr bs : List ℕ). recordBytes 0 own-cost
         (runningPair z s reader (withStaged (withRunning (t .progress) size) (after .staged)))
-        (proofCount z (i .proof) from a) pr (outputCount op a) bs) proof-is bytes-shown
+        (proofCount z (i .proof) (length (spots from)) a) pr (outputCount op a) bs) proof-is bytes-shown
 
     pub ran-succeeds : ran z (s .copies) q (s .roots) (s .disk) input r (i .proof) t
-        ≡ succeeding z s (i .proof) (opOf (i .name)) (argsOf (opOf (i .name)) (inputsOf i input)) t
-    unfolding ran progressAfter runs succeeding after roots op a from
+        ≡ succeeding z s (i .proof) (opOf (i .name)) (argsOf (opOf (i .name)) (inputsOf i input)) (dataIn (inputsOf i input)) t
+    unfolding ran progressAfter succeeding after roots op a from
     ran-succeeds =
         let laid : List ℕ → List ℕ = λ l. put (t .output) (t .progress .written) l in
         let left : Staging → List ℕ → Turn = λ g l.
         turn (progressAfter r (t .progress) g) (g .bytes) (laid (recordAfter z (keptRoot (s .roots) l) q (s .disk) r (i .proof) g)) l in
         ap (λ (g : Staging). left g (rootsAfter z r (t .progress) g (t .roots))) after-is
         ∙ ap (left after) roots-are
-        ∙ ap₂ (λ (y : Said) (l : List ℕ). turn (ranProgress (t .progress) (y .cost) (y .count) (y .size) (after .staged)) (after .bytes) (laid l) roots)
-        says record-is
+        ∙ ap₂ (λ (y : Said) (l : List ℕ). turn (ranProgress (t .progress) (y .plan .cost) (y .plan .count) (y .plan .size) (after .staged))
+            (after .bytes) (laid l) roots)
+        says-is record-is

@@ -3,7 +3,7 @@
 -- sector size. Assumes nothing.
 use mathlib.Core.Path.{_≡_, sym, ap, ap₂, _∙_, subst}
 use mathlib.Core.Bool.{Bool}
-use mathlib.Core.List.{List, []}
+use mathlib.Core.List.{List}
 use Prim.Native.Nat.{ℕ, _-_, _/_}
 use lib.ListN.{length, take, drop}
 use Rattle.area.specs.Pick.{pick}
@@ -11,7 +11,7 @@ use Rattle.area.specs.Area.{put, tab}
 use Rattle.area.proofs.Laws.Lent.{rest-take}
 use Rattle.machine_rules.specs.View.{Turn, turn, spotOf}
 use Rattle.machine_rules.specs.Roots.{keptRoot, contractRoot}
-use Rattle.machine_rules.specs.Plan.{reads}
+use Rattle.machine_rules.specs.Kinds.{reads}
 use Rattle.machine_rules.specs.Effect.{Staging}
 use Rattle.machine_rules.specs.Record.{pairing, recordBytes}
 use Rattle.machine_rules.specs.Run.{ranProgress}
@@ -22,18 +22,18 @@ use Rattle.machine_step.specs.Ran.{stageAfter, progressAfter, rootsAfter
 use Rattle.machine_step.specs.Asks.{Reads, Runs}
 use Rattle.host.specs.declared.Place.{Place}
 use Rattle.host.specs.declared.Progress.{Progress}
-use Rattle.machine_plan.specs.declared.Plan.{Plan}
+use Rattle.machine_plan.specs.declared.Task.{Task}
 
-module _ (z copies : ℕ) (parent : Place) (diskroots disk input : List ℕ) (p : Plan) (asked : Bool) (t : Turn) (x : Staging)
+module _ (z copies : ℕ) (parent : Place) (diskroots disk input : List ℕ) (p : Task) (asked : Bool) (t : Turn) (x : Staging)
     (e : x ≡ stageAfter z copies parent disk input p (t .progress) (t .stage)) where
   pub run-rehashes : Runs z copies parent diskroots disk input p asked t
-      → Rehashes z (t .progress .size) (p .op) (args (p .args .first) (p .args .second) 0 []) x (t .roots)
+      → Rehashes z (t .progress .size) (p .op) (args (p .args .first) (p .args .second) 0) x (t .roots)
   run-rehashes r =
-      subst (λ (y : Staging). Rehashes z (t .progress .size) (p .op) (args (p .args .first) (p .args .second) 0 []) y (t .roots)) (sym e) (r .rehashes)
+      subst (λ (y : Staging). Rehashes z (t .progress .size) (p .op) (args (p .args .first) (p .args .second) 0) y (t .roots)) (sym e) (r .rehashes)
 
   module _ (roots : List ℕ) (k : roots ≡ rootsAfter z p (t .progress) x (t .roots)) where
     pub run-reads : {g : Progress} → Runs z copies parent diskroots disk input p asked t
-        → g ≡ ranProgress (t .progress) (p .cost) (p .count) (p .size) (x .staged) → Reads z diskroots roots parent g
+        → g ≡ ranProgress (t .progress) (p .plan .cost) (p .plan .count) (p .plan .size) (x .staged) → Reads z diskroots roots parent g
     unfolding progressAfter
     run-reads r q =
         subst (Reads z diskroots roots parent) (sym q)
@@ -42,7 +42,7 @@ module _ (z copies : ℕ) (parent : Place) (diskroots disk input : List ℕ) (p 
 
     -- what a record shows, by the roots, the stage, whether it reads and the area
     abbrev Shown : List ℕ → Staging → Bool → List ℕ → Type 0
-    Shown l y rd out = Shows z diskroots l disk (y .bytes) (p .seen) asked rd (p .args .first) (p .args .len) (p .hashes) out
+    Shown l y rd out = Shows z diskroots l disk (y .bytes) (p .seen) asked rd (p .args .first) (p .args .len) (p .plan .hashes) out
 
     pub run-shows : {rd : Bool} (at : ℕ) → Runs z copies parent diskroots disk input p asked t → at ≡ t .progress .written → rd ≡ reads (p .op)
         → Shown roots x rd (take (length (t .output) - at) (drop at (t .output)))
@@ -57,7 +57,7 @@ module _ (z copies : ℕ) (parent : Place) (diskroots disk input : List ℕ) (p 
     -- the record, by the root and by whether it reads
     abbrev recorded : List ℕ → Bool → List ℕ
     recorded root rd =
-        recordBytes 0 (p .cost) (pairing (p .size) root) (p .hashes)
+        recordBytes 0 (p .plan .cost) (pairing (p .plan .size) root) (p .plan .hashes)
         (shownProof z asked (keptRoot diskroots roots) disk (x .bytes) (p .seen) (p .args .first) (p .args .len))
         (pick rd (p .args .len) 0) (shownBytes z rd disk (x .bytes) (p .seen) (p .args .first) (p .args .len))
 
@@ -67,7 +67,7 @@ module _ (z copies : ℕ) (parent : Place) (diskroots disk input : List ℕ) (p 
         turn (progressAfter p (t .progress) y) (y .bytes)
         (put (t .output) (t .progress .written) (recordAfter z (keptRoot diskroots l) parent disk p asked y)) l
 
-    pub ran-is : {g : Progress} {root out : List ℕ} {rd : Bool} → g ≡ ranProgress (t .progress) (p .cost) (p .count) (p .size) (x .staged)
+    pub ran-is : {g : Progress} {root out : List ℕ} {rd : Bool} → g ≡ ranProgress (t .progress) (p .plan .cost) (p .plan .count) (p .plan .size) (x .staged)
         → root ≡ contractRoot (keptRoot diskroots roots) (tab 0 (g .size / z) (spotOf (parent .slots) (g .staged))) → rd ≡ reads (p .op)
         → out ≡ put (t .output) (t .progress .written) (recorded root rd)
         → turn g (x .bytes) out roots ≡ ran z copies parent diskroots disk input p asked t

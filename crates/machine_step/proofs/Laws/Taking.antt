@@ -13,7 +13,7 @@ use Rattle.sia.specs.Names.{opOf}
 use Rattle.host.specs.Places.{whose}
 use Rattle.machine_rules.specs.View.{kept, Setting, setting, Turn, turn, parent}
 use Rattle.machine_rules.specs.Roots.{keptRoot, rootAt}
-use Rattle.machine_rules.specs.Inputs.{argsOf}
+use Rattle.machine_rules.specs.Inputs.{dataIn, argsOf}
 use Rattle.machine_rules.specs.Plan.{judged}
 use Rattle.machine_rules.specs.Record.{pairOf, startingPair, recordBytes, failureBytes}
 use Rattle.machine_rules.specs.Run.{failedProgress, failing, succeeding, stepped}
@@ -81,6 +81,6 @@ module _ (z : ℕ) (s : Setting) (t : Turn) (i : Instruction) (l : List (List �
       ∙ ap (λ (f : Spot → List ℕ). laid f (judged z s (rootAt z s t) (t .progress) i l) (parent s)) (sym (reads-kept z s [] [] way)))
       ∙ sym (skips (eqb (judged z s (rootAt z s t) (t .progress) i l) 0) _ _ (ne-eqb _ 0 (λ e. other (number ∙ e))))
 
-  pub step-succeeds : {w : Turn} → n ≡ 0 → w ≡ succeeding z s (i .proof) (opOf (i .name)) (argsOf (opOf (i .name)) l) t → w ≡ stepped z s i l t
+  pub step-succeeds : {w : Turn} → n ≡ 0 → w ≡ succeeding z s (i .proof) (opOf (i .name)) (argsOf (opOf (i .name)) l) (dataIn l) t → w ≡ stepped z s i l t
   unfolding stepped
   step-succeeds zero e = e ∙ sym (picks (eqb (judged z s (rootAt z s t) (t .progress) i l) 0) _ _ (eq-eqb _ 0 (sym number ∙ zero)))

@@ -1,29 +1,27 @@
 -- `machine_plan::chain::argued` meets its contract: a walk down the definition. Assumes nothing.
-use mathlib.Core.Path.{_≡_, sym, ap, _∙_}
+use mathlib.Core.Path.{ap₂, _≡_, sym, ap, _∙_, refl}
 use mathlib.Core.Bool.{false, not}
 use mathlib.Core.List.{List, []}
 use Prim.Native.Nat.{ℕ}
 use native.Mathlib.Omega.{arith}
 use lib.ListN.{length}
-use borrow.Author.Tests.{not-true, not-false, eq-eqb, ne-eqb}
+use borrow.Author.Tests.{not-true, not-false}
 use Rattle.area.specs.Pick.{both}
 use Rattle.area.proofs.Laws.Pick.{yes, no}
 use Rattle.machine_rules.specs.View.{Setting, setting, readOnlyMode}
 use Rattle.machine_rules.specs.Roots.{keptRoot}
-use Rattle.machine_rules.specs.Plan.{changes, Source, isThere, spots, sourceOf}
+use Rattle.machine_rules.specs.Plan.{plannedArgs, weighed, Source, isThere, spots, sourceOf}
+use Rattle.machine_rules.specs.Kinds.{changes}
 use Rattle.machine_rules.proofs.Laws.Spots.{few-spots}
 use Rattle.machine_sight.proofs.Laws.Roots.{seen-count}
 use Rattle.machine_rules.specs.declared.Spot.{Spot}
-use Rattle.machine_plan.specs.Numbers.{numbers}
 use Rattle.machine_plan.specs.Source.{Shows}
-use Rattle.machine_plan.specs.Weighed.{weighed}
-use Rattle.machine_plan.specs.Planned.{failed, argued}
-use Rattle.machine_plan.specs.declared.Weighed.{Weighed}
-use Rattle.machine_plan.proofs.Laws.Planned.{source-same, size-few, length-most, room-most}
-use Rattle.machine_plan.proofs.Laws.Alike.{weighed-at}
+use Rattle.machine_plan.specs.Planned.{says, failed, argued}
+use Rattle.machine_plan.proofs.Laws.Planned.{fails, says-can, says-failed, source-same, size-few, length-most, room-most}
 use Rattle.machine_plan.proofs.Laws.Lookup.{shows-as}
 use borrow.Author.Needs.{needs}
 use Rattle.machine_plan.proofs.chain.argued.Statement.{statement}
+use Rattle.machine_rules.specs.declared.Plan.{Plan}
 use Rattle.machine_plan.proofs.chain.argued.Tie as tie
 
 -- ---- what the calls gave, in the definitions' words
@@ -68,14 +66,24 @@ start-3 c =
     let else2 = c .before .before in let at-source-of-2 = else2 .before .before in
     start-2 (at-source-of-2)
 
+many : (c : tie.After-source-of) → length (spots (the-source (start-2 c))) ≡ c .source-of .result .seen .count
+many c = sym (ap (λ (l : List Spot). length l) (shown c .sectors)) ∙ seen-count (c .source-of .result .seen)
+
 valued : (c : tie.After-weighed) → let s = start-3 c in
-    c .weighed .result ≡ weighed (s .args .z) (the-set s) (s .args .p) (s .args .asked) (the-source s) (s .args .op) (numbers (s .args .args))
+    c .weighed .result ≡ weighed (s .args .z) (the-set s) (s .args .p) (s .args .asked) (length (spots (the-source s))) (s .args .op) (s .args .args)
 valued c =
     let else2 = c .before .before in let at-source-of = else2 .before .before in
     let s = start-3 c in
-    let seen = at-source-of .source-of .result .seen in
-    let many : length (spots (the-source s)) ≡ seen .count = sym (ap (λ (l : List Spot). length l) (shown at-source-of .sectors)) ∙ seen-count seen in
-    c .weighed .ensures ∙ weighed-at (s .args .z) (the-source s) (the-set s) (s .args .p) (s .args .asked) (s .args .op) (s .args .args) (seen .count) many
+    c .weighed .ensures
+    ∙ ap (λ (n : ℕ). weighed (s .args .z) (the-set s) (s .args .p) (s .args .asked) n (s .args .op) (s .args .args)) (sym (many at-source-of))
+
+-- the plan, where 24 and 25 do not apply
+planned-as : (c : tie.After-weighed) → let s = start-3 c in
+    c .weighed .result ≡ plannedArgs (s .args .z) (the-set s) (the-roots s) (s .args .p) (s .args .asked) (s .args .op) (s .args .args)
+unfolding plannedArgs
+planned-as c =
+    let at-if2 = c .before .before in let at-key = at-if2 .before .before .before in
+    no _ _ _ (may (at-key .before)) (no _ _ _ (there at-if2) (valued c))
 
 -- ---- the needs
 
@@ -85,11 +93,12 @@ source-of-requires c κs =
     s .pre .0 .sources
 
 returns-2 : tie.Need-returns-2
-unfolding argued
+unfolding argued plannedArgs
 returns-2 c =
-    let at-source-of = c .before .before .before in
-    no _ _ _ (may (at-source-of .before .before))
-    (yes _ _ _ (ap not (sym (shown at-source-of .there) ∙ not-true _ (c .before .if2 .taken))) (c .failed2 .ensures))
+    let then2 = c .before .before in let at-source-of = then2 .before .before in
+    c .failed2 .ensures
+    ∙ fails _ _ _ _ _ _ 24 (c .before .refused2 .ensures) (no _ _ _ (may (at-source-of .before .before))
+        (yes _ _ _ (ap not (sym (shown at-source-of .there) ∙ not-true _ (then2 .if2 .taken))) refl))
 
 weighed-requires : tie.Need-weighed-requires
 weighed-requires c κs =
@@ -110,38 +119,24 @@ weighed-requires c κs =
 returns-3 : tie.Need-returns-3
 unfolding argued
 returns-3 c =
-    let at-weighed = c .before .before .before in let at-if2 = at-weighed .before .before in let at-key = at-if2 .before .before .before in
-    let else1 = at-key .before in
-    let e = valued at-weighed in
-    no _ _ _ (may (else1))
-    (no _ _ _ (there at-if2)
-    (no _ _ _ (ne-eqb _ _ (λ q. c .before .if3 .taken (ap (λ (w : Weighed). w .number) e ∙ q)))
-    (c .failed3 .ensures ∙ ap (λ (w : Weighed). failed (start-3 at-weighed .args .op) (w .number)) e)))
+    let at-weighed = c .before .before .before in
+    let s = start-3 at-weighed in
+    let e = planned-as at-weighed in
+    c .failed3 .ensures ∙ says-failed _ (s .args .op) (s .args .args) (s .args .from) (spots (the-source s)) (c .before .if3 .taken)
+    ∙ ap (λ (w : Plan). says w (s .args .op) (s .args .args) (s .args .from) (spots (the-source s))) e
 
 returns-4 : tie.Need-returns-4
 unfolding argued
 returns-4 c =
-    let at-weighed = c .before .before in
-    let at-if2 = at-weighed .before .before in
-    let at-source-of = at-if2 .before .before in
-    let e = valued at-weighed in
-    no _ _ _ (may (at-source-of .before .before))
-    (no _ _ _ (there at-if2)
-    (yes _ _ _ (eq-eqb _ _ (sym (ap (λ (w : Weighed). w .number) e) ∙ c .if3 .left))
-    (λ k. record {
-      number = 0;
-      op = start-3 at-weighed .args .op;
-      args = start-3 at-weighed .args .args;
-      sectors = shown at-source-of .sectors k;
-      cost = e k .cost;
-      size = e k .size;
-      hashes = e k .hashes;
-      count = e k .count;
-    })))
+    let at-weighed = c .before .before in let at-if2 = at-weighed .before .before in let at-source-of = at-if2 .before .before in
+    let s = start-3 at-weighed in
+    says-can (at-weighed .weighed .result) (s .args .op) (s .args .args) (s .args .from) _ (c .if3 .left)
+    ∙ ap₂ (λ (w : Plan) (l : List Spot). says w (s .args .op) (s .args .args) (s .args .from) l) (planned-as at-weighed) (shown at-source-of .sectors)
 
 pub argued-spec : {M : Type 1} → statement M
-unfolding argued
+unfolding argued plannedArgs
 argued-spec =
-    tie.close (tie.spec (λ c κs. search needs) (λ c κs. search needs)
-        (λ c. yes _ _ _ (mode (c .before .before) ∙ c .before .if1 .taken) (c .failed .ensures))
-        source-of-requires (λ c κs. search needs) returns-2 weighed-requires (λ c κs. search needs) returns-3 returns-4)
+    tie.close (tie.spec (λ c κs. search needs) (λ c κs. search needs) (λ c κs. search needs)
+        (λ c. c .failed .ensures ∙ fails _ _ _ _ _ _ 23 (c .before .refused .ensures)
+            (yes _ _ _ (mode (c .before .before .before) ∙ c .before .before .if1 .taken) refl))
+        source-of-requires (λ c κs. search needs) (λ c κs. search needs) returns-2 weighed-requires (λ c κs. search needs) returns-3 returns-4)

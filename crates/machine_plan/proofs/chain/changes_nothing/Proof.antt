@@ -1,18 +1,19 @@
 -- `machine_plan::chain::changes_nothing` meets its contract. Assumes nothing.
-use mathlib.Core.Path.{refl, sym, _∙_}
+use mathlib.Core.Path.{refl, sym, _∙_, ap}
 use borrow.Author.Tests.{not-true, not-false}
 use Rattle.area.proofs.Laws.Pick.{yes, no}
+use Rattle.machine_rules.specs.declared.Kind.{Kind}
 use borrow.Author.Needs.{needs}
 use Rattle.machine_plan.proofs.chain.changes_nothing.Statement.{statement}
 use Rattle.machine_plan.proofs.chain.changes_nothing.Tie as tie
 
 returns-2 : tie.Need-returns-2
 returns-2 c =
-    let at-changes = c .before .before in
-    yes _ _ _ (sym (at-changes .changes .ensures) ∙ not-false _ (c .before .if1 .left)) (c .is-read-only .ensures)
+    let at-kind = c .before .before .before in
+    yes _ _ _ (ap (λ (k : Kind). k .changes) (sym (at-kind .kind .ensures)) ∙ not-false _ (c .before .if1 .left)) (c .is-read-only .ensures)
 
 pub changes-nothing-spec : {M : Type 1} → statement M
 changes-nothing-spec =
     tie.close (tie.spec (λ c κs. search needs)
-        (λ c. no _ _ _ (sym (c .before .changes .ensures) ∙ not-true _ (c .if1 .taken)) refl)
+        (λ c. no _ _ _ (ap (λ (k : Kind). k .changes) (sym (c .before .before .kind .ensures)) ∙ not-true _ (c .if1 .taken)) refl)
         (λ c κs. search needs) returns-2)

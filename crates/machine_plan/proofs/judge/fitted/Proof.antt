@@ -10,9 +10,7 @@ use borrow.Author.Tests.{ltb-false}
 use Rattle.area.proofs.Laws.Pick.{yes, no}
 use Rattle.host.specs.Places.{others}
 use Rattle.machine_rules.specs.View.{freeCopies, setting}
-use Rattle.machine_rules.specs.Plan.{wanted, newSize, recordCount}
-use Rattle.machine_plan.specs.Numbers.{sectorsOf, numbers}
-use Rattle.machine_plan.specs.Weighed.{fitted}
+use Rattle.machine_rules.specs.Plan.{fitted, wanted, newSize, recordCount}
 use Rattle.machine_plan.proofs.Laws.Weighed.{not-leb}
 use borrow.Author.Needs.{needs}
 use Rattle.machine_plan.proofs.judge.fitted.Statement.{statement}
@@ -25,7 +23,7 @@ abbrev start-1 : tie.After-too-few → tie.Start
 start-1 c = c .before
 
 slots : (c : tie.After-too-few) → let a = start-1 c .args in
-    ltb (freeCopies (setting (a .sectors) (a .copies) (a .places) (a .terms) [] []) (a .p)) (wanted (a .z) (a .p) (a .op) (numbers (a .args)))
+    ltb (freeCopies (setting (a .sectors) (a .copies) (a .places) (a .terms) [] []) (a .p)) (wanted (a .z) (a .p) (a .op) (a .args))
     ≡ c .too-few .result
 unfolding freeCopies
 slots c = sym (c .too-few .ensures)
@@ -37,7 +35,7 @@ start-2 c =
     start-1 (at-too-few)
 
 disk : (c : tie.After-sizes-fit) → let a = start-2 c .args in
-    ltb (a .sectors * a .z) (newSize (a .p .size) (a .op) (numbers (a .args)) + others (a .terms .head .contract) (a .places)) ≡ not (c .sizes-fit .result)
+    ltb (a .sectors * a .z) (newSize (a .p .size) (a .op) (a .args) + others (a .terms .head .contract) (a .places)) ≡ not (c .sizes-fit .result)
 disk c =
     let a = start-2 c .args in
     let rest = others (a .terms .head .contract) (a .places) in
@@ -51,7 +49,7 @@ start-3 c =
     start-2 (at-sizes-fit-2)
 
 room : (c : tie.After-record-above) → let a = start-3 c .args in
-    ltb (a .terms .room) (a .p .written + recordCount (a .z) (a .asked) (sectorsOf (a .seen)) (a .op) (numbers (a .args)) + 72) ≡ c .record-above .result
+    ltb (a .terms .room) (a .p .written + recordCount (a .z) (a .asked) (a .seen) (a .op) (a .args) + 72) ≡ c .record-above .result
 unfolding recordCount
 room c =
     let a = start-3 c .args in

@@ -1,25 +1,27 @@
 -- `machine_plan::judge::weighed` meets its contract: a walk down the definition. Assumes nothing.
+use mathlib.Core.List.{[]}
 use mathlib.Core.Path.{_≡_, sym, ap, _∙_}
 use mathlib.Core.Bool.{false}
 use Prim.Native.Nat.{ℕ, _+_}
 use lib.Dec.{ltb}
 use Rattle.area.specs.Pick.{both}
-use Rattle.machine_rules.specs.Plan.{badSpans, badProof, cost}
-use Rattle.machine_plan.specs.Numbers.{sectorsOf, numbers}
+use Rattle.machine_rules.specs.Plan.{fitted, weighed, badSpans, badProof, cost}
 use Rattle.machine_plan.proofs.Laws.Numbers.{charged}
-use Rattle.machine_plan.proofs.Laws.Weighed.{fails-26, fails-27, fails-28, rest, provable}
+use Rattle.machine_plan.proofs.Laws.Weighed.{provable}
 use borrow.Author.Needs.{needs}
 use Rattle.machine_plan.proofs.judge.weighed.Statement.{statement}
+use Rattle.machine_rules.specs.View.{setting}
+use Rattle.area.proofs.Laws.Pick.{yes, no}
 use Rattle.machine_plan.proofs.judge.weighed.Tie as tie
 
 -- ---- what the calls gave, in the definitions' words
 
 -- 26
-right-spans : (c : tie.Else1) → let a = c .before .before .args in badSpans (a .z) (a .p .size) (sectorsOf (a .seen)) (a .op) (numbers (a .args)) ≡ false
+right-spans : (c : tie.Else1) → let a = c .before .before .args in badSpans (a .z) (a .p .size) (a .seen) (a .op) (a .args) ≡ false
 right-spans c = sym (c .before .bad-spans .ensures) ∙ c .if1 .left
 
 -- 27
-asked-well : (c : tie.Else2) → let a = c .before .before .before .before .args in both (a .asked) (badProof (a .op) (numbers (a .args))) ≡ false
+asked-well : (c : tie.Else2) → let a = c .before .before .before .before .args in both (a .asked) (badProof (a .op) (a .args)) ≡ false
 asked-well c = sym (c .before .asked-badly .ensures) ∙ c .if2 .left
 
 -- 28
@@ -34,29 +36,23 @@ budget c = let a = start-1 c .args in ap (λ (k : ℕ). ltb (a .terms .budget) (
 
 -- ---- the needs
 
-returns : tie.Need-returns
-returns c =
-    let at-bad-spans = c .before .before in
-    c .refused .ensures ∙ fails-26 _ _ _ _ _ _ _ (sym (at-bad-spans .bad-spans .ensures) ∙ c .before .if1 .taken)
-
 returns-2 : tie.Need-returns-2
+unfolding weighed
 returns-2 c =
     let at-asked-badly = c .before .before in
-    c .refused2 .ensures
-    ∙ fails-27 _ _ _ _ _ _ _ (right-spans (at-asked-badly .before)) (sym (at-asked-badly .asked-badly .ensures) ∙ c .before .if2 .taken)
+    no _ _ _ (right-spans (at-asked-badly .before)) (yes _ _ _ (sym (at-asked-badly .asked-badly .ensures) ∙ c .before .if2 .taken) (c .refused2 .ensures))
 
 cost-requires : tie.Need-cost-requires
-unfolding numbers
 cost-requires c κs =
     let else2 = c .before .before in let at-if1 = else2 .before .before in let s = at-if1 .before .before in
-    (s .pre .1 .1 .1 .0, charged _ (s .pre .0) _ (sectorsOf (s .args .seen)) (s .args .op) (numbers (s .args .args)) (right-spans at-if1))
+    (s .pre .1 .1 .1 .0, charged _ (s .pre .0) _ (s .args .seen) (s .args .op) (s .args .args) (right-spans at-if1))
 
 returns-3 : tie.Need-returns-3
-unfolding numbers
+unfolding weighed
 returns-3 c =
     let at-above = c .before .before in let at-head = at-above .before .before .before in let at-if2 = at-head .before in
-    c .refused3 .ensures
-    ∙ fails-28 _ _ _ _ _ _ _ (right-spans (at-if2 .before .before)) (asked-well at-if2) (budget at-above ∙ c .before .if3 .taken)
+    no _ _ _ (right-spans (at-if2 .before .before)) (no _ _ _ (asked-well at-if2)
+    (yes _ _ _ (budget at-above ∙ c .before .if3 .taken) (c .refused3 .ensures)))
 
 fitted-requires : tie.Need-fitted-requires
 fitted-requires c κs =
@@ -67,14 +63,19 @@ fitted-requires c κs =
     (s .pre .0, (s .pre .1 .0, (s .pre .1 .1 .0, (s .pre .1 .1 .1 .1, ranged))))
 
 returns-4 : tie.Need-returns-4
-unfolding numbers
+unfolding weighed
 returns-4 c =
     let at-above = c .before .before in let at-head = at-above .before .before .before in let at-if2 = at-head .before in
-    c .fitted .ensures
-    ∙ rest _ _ _ _ _ _ _ (right-spans (at-if2 .before .before)) (asked-well at-if2) _ (at-above .before .cost .ensures)
-    (sym (at-above .above .ensures) ∙ c .before .if3 .left)
+    let a = start-1 at-above .args in
+    no _ _ _ (right-spans (at-if2 .before .before)) (no _ _ _ (asked-well at-if2) (no _ _ _ (budget at-above ∙ c .before .if3 .left)
+    (c .fitted .ensures
+    ∙ ap (fitted (a .z) (setting (a .sectors) (a .copies) (a .places) (a .terms) [] []) (a .p) (a .asked) (a .seen) (a .op) (a .args))
+        (at-above .before .cost .ensures))))
 
 pub weighed-spec : {M : Type 1} → statement M
+unfolding weighed
 weighed-spec =
-    tie.close (tie.spec (λ c κs. search needs) (λ c κs. search needs) returns (λ c κs. search needs) (λ c κs. search needs) returns-2
+    tie.close (tie.spec (λ c κs. search needs) (λ c κs. search needs)
+        (λ c. yes _ _ _ (sym (c .before .before .bad-spans .ensures) ∙ c .before .if1 .taken) (c .refused .ensures))
+        (λ c κs. search needs) (λ c κs. search needs) returns-2
         cost-requires (λ c κs. search needs) (λ c κs. search needs) returns-3 fitted-requires returns-4)

@@ -1,15 +1,15 @@
 -- `machine_plan::room::output_count` meets its contract. Assumes nothing.
-use mathlib.Core.Path.{refl, sym, _∙_}
+use mathlib.Core.Path.{refl, sym, _∙_, ap}
 use Rattle.area.proofs.Laws.Pick.{yes, no}
 use Rattle.machine_rules.specs.Plan.{outputCount}
-use Rattle.machine_plan.specs.Numbers.{numbers}
+use Rattle.machine_rules.specs.declared.Kind.{Kind}
 use borrow.Author.Needs.{needs}
 use Rattle.machine_plan.proofs.room.output_count.Statement.{statement}
 use Rattle.machine_plan.proofs.room.output_count.Tie as tie
 
 pub output-count-spec : {M : Type 1} → statement M
-unfolding outputCount numbers
+unfolding outputCount
 output-count-spec =
     tie.close (tie.spec (λ c κs. search needs)
-        (λ c. yes _ _ _ (sym (c .before .reads .ensures) ∙ c .if1 .taken) refl)
-        (λ c. no _ _ _ (sym (c .before .reads .ensures) ∙ c .if1 .left) refl))
+        (λ c. yes _ _ _ (ap (λ (k : Kind). k .reads) (sym (c .before .kind .ensures)) ∙ c .if1 .taken) refl)
+        (λ c. no _ _ _ (ap (λ (k : Kind). k .reads) (sym (c .before .kind .ensures)) ∙ c .if1 .left) refl))

@@ -1,24 +1,21 @@
 -- `machine_plan::room::proof_count` meets its contract. Assumes nothing.
-use mathlib.Core.Path.{refl, sym, _∙_}
+use mathlib.Core.Path.{refl, _∙_}
 use borrow.Author.Tests.{not-true, not-false}
 use Rattle.area.proofs.Laws.Pick.{yes, no}
-use Rattle.machine_rules.specs.Plan.{spots, proofCount}
-use Rattle.machine_plan.specs.Numbers.{sectorsOf, numbers}
+use Rattle.machine_rules.specs.Plan.{proofCount}
 use Rattle.machine_sight.proofs.Callers.{count-range}
-use Rattle.machine_plan.proofs.Laws.Numbers.{sectors-many}
 use Rattle.machine_plan.proofs.room.proof_count.Statement.{statement}
 use Rattle.machine_plan.proofs.room.proof_count.Tie as tie
 
 returns-2 : tie.Need-returns-2
-unfolding proofCount numbers
+unfolding proofCount
 returns-2 c =
     let s = c .before .before in
     yes _ _ _ (not-false _ (c .before .if1 .left))
-    (c .range-count .ensures ∙ count-range (s .args .z) (spots (sectorsOf (s .args .seen))) _ (s .args .args .first) (s .args .args .len)
-    (sym (sectors-many (s .args .seen))))
+    (c .range-count .ensures ∙ count-range (s .args .z) (s .args .seen) (s .args .args .first) (s .args .args .len))
 
 pub proof-count-spec : {M : Type 1} → statement M
-unfolding proofCount numbers
+unfolding proofCount
 proof-count-spec =
     tie.close (tie.spec
         (λ c. no _ _ _ (not-true _ (c .if1 .taken)) refl)

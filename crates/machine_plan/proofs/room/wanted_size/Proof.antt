@@ -9,21 +9,20 @@ use Rattle.area.proofs.Laws.Pick.{yes, no}
 use Rattle.host.specs.Lists.{those}
 use Rattle.host.specs.Empty.{none}
 use Rattle.machine_rules.specs.Plan.{touched, wanted}
-use Rattle.machine_plan.specs.Numbers.{numbers}
 use Rattle.machine_plan.proofs.Laws.Room.{none-those, one-those}
 use borrow.Author.Needs.{needs}
 use Rattle.machine_plan.proofs.room.wanted_size.Statement.{statement}
 use Rattle.machine_plan.proofs.room.wanted_size.Tie as tie
 
 returns : tie.Need-returns
-unfolding wanted touched numbers
+unfolding wanted touched
 returns c =
     let at-if1 = c .before .before in let at-staged = at-if1 .before .before .before in let s = at-staged .before in
     c .lacks .ensures .0 ∙ one-those (λ at. eqb (getD (s .args .p .staged) at none) none) _
     ∙ ap (λ (l : List ℕ). length (those (λ at. eqb (getD (s .args .p .staged) at none) none) l)) (yes _ _ _ (lt-ltb _ _ (at-if1 .if1 .taken)) refl)
 
 returns-2 : tie.Need-returns-2
-unfolding wanted touched numbers
+unfolding wanted touched
 returns-2 c =
     let at-staged = c .before .before .before in let s = at-staged .before in
     none-those (λ at. eqb (getD (s .args .p .staged) at none) none)

@@ -10,21 +10,20 @@ use Rattle.area.proofs.Laws.Pick.{yes, no}
 use Rattle.host.specs.Lists.{those}
 use Rattle.host.specs.Empty.{none}
 use Rattle.machine_rules.specs.Plan.{touched, wanted}
-use Rattle.machine_plan.specs.Numbers.{numbers}
 use Rattle.machine_plan.proofs.Laws.Room.{one-those, two-those}
 use borrow.Author.Needs.{needs}
 use Rattle.machine_plan.proofs.room.wanted_swap.Statement.{statement}
 use Rattle.machine_plan.proofs.room.wanted_swap.Tie as tie
 
 returns : tie.Need-returns
-unfolding wanted touched numbers
+unfolding wanted touched
 returns c =
     let then1 = c .before in let at-staged = then1 .before .before .before in let s = at-staged .before in
     c .lacks .ensures .0 ∙ one-those (λ at. eqb (getD (s .args .p .staged) at none) none) _
     ∙ ap (λ (l : List ℕ). length (those (λ at. eqb (getD (s .args .p .staged) at none) none) l)) (yes _ _ _ (eq-eqb _ _ (then1 .if1 .taken)) refl)
 
 returns-2 : tie.Need-returns-2
-unfolding wanted touched numbers
+unfolding wanted touched
 returns-2 c =
     let at-if1 = c .before .before in let at-staged = at-if1 .before .before .before in let s = at-staged .before in
     ap₂ (λ (a b : ℕ). a + b) (c .before .lacks2 .ensures .0) (c .lacks3 .ensures .0) ∙ two-those (λ at. eqb (getD (s .args .p .staged) at none) none) _ _

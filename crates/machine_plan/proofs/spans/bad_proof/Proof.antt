@@ -4,28 +4,26 @@ use mathlib.Core.Bool.{not}
 use borrow.Author.Tests.{eq-eqb, ne-eqb}
 use Rattle.area.proofs.Laws.Pick.{yes, no}
 use Rattle.machine_rules.specs.Plan.{badProof}
-use Rattle.machine_plan.specs.Numbers.{numbers}
+use Rattle.machine_rules.specs.declared.Kind.{Kind}
 use borrow.Author.Needs.{needs}
 use Rattle.machine_plan.proofs.spans.bad_proof.Statement.{statement}
 use Rattle.machine_plan.proofs.spans.bad_proof.Tie as tie
 
 returns-2 : tie.Need-returns-2
-unfolding badProof numbers
+unfolding badProof
 returns-2 c =
-    let at-if1 = c .before .before in
-    let at-reads = at-if1 .before in
-    no _ _ _ (ap not (sym (at-reads .reads .ensures)) ∙ at-if1 .if1 .left) (yes _ _ _ (ap not (ne-eqb _ _ (c .if2 .taken))) refl)
+    let at-if1 = c .before .before in let at-kind = at-if1 .before .before in
+    no _ _ _ (ap (λ (k : Kind). not (k .reads)) (sym (at-kind .kind .ensures)) ∙ at-if1 .if1 .left) (yes _ _ _ (ap not (ne-eqb _ _ (c .if2 .taken))) refl)
 
 returns-3 : tie.Need-returns-3
-unfolding badProof numbers
+unfolding badProof
 returns-3 c =
-    let at-if1 = c .before .before .before in
-    let at-reads = at-if1 .before in
-    no _ _ _ (ap not (sym (at-reads .reads .ensures)) ∙ at-if1 .if1 .left) (no _ _ _ (ap not (eq-eqb _ _ (c .before .if2 .left))) refl)
+    let at-if1 = c .before .before .before in let at-kind = at-if1 .before .before in
+    no _ _ _ (ap (λ (k : Kind). not (k .reads)) (sym (at-kind .kind .ensures)) ∙ at-if1 .if1 .left) (no _ _ _ (ap not (eq-eqb _ _ (c .before .if2 .left))) refl)
 
 pub bad-proof-spec : {M : Type 1} → statement M
-unfolding badProof numbers
+unfolding badProof
 bad-proof-spec =
     tie.close (tie.spec (λ c κs. search needs)
-        (λ c. yes _ _ _ (ap not (sym (c .before .reads .ensures)) ∙ c .if1 .taken) refl)
+        (λ c. yes _ _ _ (ap (λ (k : Kind). not (k .reads)) (sym (c .before .before .kind .ensures)) ∙ c .if1 .taken) refl)
         returns-2 returns-3)

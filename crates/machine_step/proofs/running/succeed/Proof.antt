@@ -15,7 +15,7 @@ use Rattle.machine_step.proofs.running.succeed.Tie as tie
 abbrev at-start : tie.After-effect → tie.Start
 at-start c =
     let at-slots = c .before .before .before in let at-args2 = at-slots .before in let at-slice-known = at-args2 .before .before .before in
-    let at-shared-slice-known = at-slice-known .before .before .before in let start = at-shared-slice-known .before in
+    let at-shared-slice-known = at-slice-known .before .before .before in let start = at-shared-slice-known .before .before in
     start
 
 abbrev at-effect : tie.After-rehash → tie.After-effect
@@ -34,7 +34,7 @@ at-advanced c = c .before .before
 effect-requires : tie.Need-effect-requires
 effect-requires c κs =
     let at-args2 = c .before .before .before in let at-slice-known = at-args2 .before .before .before in
-    let at-shared-slice-known = at-slice-known .before .before .before in let s = at-shared-slice-known .before in
+    let at-shared-slice-known = at-slice-known .before .before .before in let s = at-shared-slice-known .before .before in
     (s .pre .stands, s .pre .source)
 
 rehash-requires : tie.Need-rehash-requires
@@ -42,7 +42,7 @@ unfolding stageAfter
 rehash-requires c κs =
     let at-stage = c .before .before .before in let left = at-stage .before in
     let s = at-start left in
-    run-rehashes _ (s .args .copies) (s .args .parent) (s .args .diskroots .now) _ _ (s .args .plan) (s .args .asked) _ _ (left .effect .ensures) (s .pre)
+    run-rehashes _ (s .args .copies) (s .args .parent) (s .args .diskroots .now) _ _ (s .args .task) (s .args .asked) _ _ (left .effect .ensures) (s .pre)
 
 advanced-requires : tie.Need-advanced-requires
 advanced-requires c κs =
@@ -55,7 +55,7 @@ running-root-requires c κs =
     let rooted = at-rehash (c .before) in
     let left = at-effect rooted in
     let s = at-start left in
-    run-reads _ (s .args .copies) (s .args .parent) (s .args .diskroots .now) _ _ (s .args .plan) (s .args .asked) _ _ (left .effect .ensures) _
+    run-reads _ (s .args .copies) (s .args .parent) (s .args .diskroots .now) _ _ (s .args .task) (s .args .asked) _ _ (left .effect .ensures) _
     (rooted .rehash .ensures) (s .pre) (c .before .advanced .ensures)
 
 within : (c : tie.After-put-success-arg2) → let s = at-start (at-effect (at-rehash (at-advanced (c .before .before .before .before)))) in
@@ -71,7 +71,7 @@ put-success-requires c κs =
     let rooted = at-rehash (at-advanced (read .before)) in
     let left = at-effect rooted in
     let s = at-start left in
-    run-shows _ (s .args .copies) (s .args .parent) (s .args .diskroots .now) _ _ (s .args .plan) (s .args .asked) _ _ (left .effect .ensures) _
+    run-shows _ (s .args .copies) (s .args .parent) (s .args .diskroots .now) _ _ (s .args .task) (s .args .asked) _ _ (left .effect .ensures) _
     (rooted .rehash .ensures) _ (s .pre) refl (read .reads .ensures)
 
 returns : tie.Need-returns
@@ -82,7 +82,7 @@ returns c =
     let rooted = at-rehash next in
     let left = at-effect rooted in
     let s = at-start left in
-    ran-is _ (s .args .copies) (s .args .parent) (s .args .diskroots .now) _ _ (s .args .plan) (s .args .asked) _ _ (left .effect .ensures) _
+    ran-is _ (s .args .copies) (s .args .parent) (s .args .diskroots .now) _ _ (s .args .task) (s .args .asked) _ _ (left .effect .ensures) _
     (rooted .rehash .ensures) (next .advanced .ensures) (read .before .running-root .ensures) (read .reads .ensures)
     (lent _ _ _ (laid .put-success .ensures))
 

@@ -53,7 +53,7 @@ planned-is c =
     (sym (reads-kept (a .z) (the-set s) (a .stage .now) (a .stageroots .now) refl))
 
 number : (c : tie.After-place-of) → let s = at-start (at-planned c) in
-    at-planned c .planned .result .number
+    at-planned c .planned .result .plan .number
     ≡ judged (s .args .z) (the-set s) (rootAt (s .args .z) (the-set s) (the-turn s)) (s .args .progress) (s .args .i)
         (inputsOf (s .args .i) (s .args .input .now))
 unfolding parent
@@ -73,7 +73,7 @@ planned-requires c κs =
 fail-requires : tie.Need-fail-requires
 unfolding parent
 fail-requires c κs =
-    let place = c .before .before .before in
+    let known = c .before .before in let place = known .before .before in
     let s = at-start (at-planned place) in
     (parent-stands _ (the-set s) (the-turn s) _ (s .pre) (place .place-of .ensures), failure-fits _ (the-set s) (the-turn s) _ (s .pre))
 
@@ -82,7 +82,7 @@ unfolding parent
 returns c =
     let failed = c .before .before in
     let test = failed .before .before in
-    let place = test .before .before in
+    let place = test .before .before .before in
     let s = at-start (at-planned place) in
     let f = failed .fail .ensures in
     step-fails _ (the-set s) (the-turn s) (s .args .i) _ refl (number place) (test .if1 .taken) (place .place-of .ensures) (f .0) (f .1)
@@ -91,7 +91,7 @@ succeed-requires : tie.Need-succeed-requires
 unfolding parent
 succeed-requires c κs =
     let test = c .before .before .before in
-    let place = test .before .before in
+    let place = test .before .before .before in
     let p = at-planned place in
     let s = at-start p in
     runs-right _ (the-set s) (the-turn s) _ (s .args .i) _ _ (s .pre) (place .place-of .ensures) (operands s) (planned-is p) (test .if1 .left)
@@ -101,7 +101,7 @@ returns-2 : tie.Need-returns-2
 unfolding parent
 returns-2 c =
     let at-stage = c .before .before .before in let done = at-stage .before .before .before in let at-succeed-arg = done .before .before .before in
-    let test = at-succeed-arg .before in let place = test .before .before in
+    let test = at-succeed-arg .before in let place = test .before .before .before in
     let p = at-planned place in
     let s = at-start p in
     step-succeeds _ (the-set s) (the-turn s) (s .args .i) _ refl (number place) (test .if1 .left)
