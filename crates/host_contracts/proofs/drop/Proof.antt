@@ -10,10 +10,6 @@ use borrow.Author.Needs.{needs}
 use Rattle.host_contracts.proofs.drop.Statement.{statement}
 use Rattle.host_contracts.proofs.drop.Tie as tie
 
-returns : tie.Need-returns
-unfolding dropped withPlaces
-returns c = yes _ _ _ (ap not (sym (c .before .in-order .ensures)) ∙ c .if1 .taken) refl
-
 returns-2 : tie.Need-returns-2
 unfolding dropped withPlaces
 returns-2 c =
@@ -65,6 +61,9 @@ returns-5 c =
     (c .replaced-in .ensures ∙ ap (λ (p : Place). replaced (s .args .id) p (s .args .host .places)) (c .before .none .ensures))))))
 
 pub drop-spec : {M : Type 1} → statement M
-drop-spec =
-    tie.close (tie.spec (λ c κs. search needs) returns returns-2 (λ c κs. search needs) returns-3 (λ c κs. search needs) returns-4
-        (λ c κs. search needs) (λ c κs. search needs) returns-5)
+unfolding dropped withPlaces
+drop-spec = tie.close (tie.spec
+    (λ c κs. search needs)
+    (λ c. yes _ _ _ (ap not (sym (c .before .in-order .ensures)) ∙ c .if1 .taken) refl)
+    returns-2 (λ c κs. search needs) returns-3 (λ c κs. search needs) returns-4 (λ c κs. search needs)
+    (λ c κs. search needs) returns-5)

@@ -90,34 +90,19 @@ goes-8 c = no _ _ _ (ap not (sym (c .before .has-free .ensures)) ∙ c .if6 .lef
 
 -- ---- the needs
 
-returns : tie.Need-returns
-unfolding formed
-returns c = yes _ _ _ (ap not (sym (c .before .in-order .ensures)) ∙ c .if1 .taken) refl
-
-returns-2 : tie.Need-returns-2
-returns-2 c = yes _ _ _ (c .if2 .taken) refl ∙ goes-1 (c .before .before)
-
-returns-3 : tie.Need-returns-3
-returns-3 c = yes _ _ _ (sym (c .before .is-read-only .ensures) ∙ c .if3 .taken) refl ∙ goes-3 (c .before .before)
-
-returns-4 : tie.Need-returns-4
-returns-4 c =
-    let found = c .before .before in
-    yes _ _ _ (sym (c .before .padded .ensures) ∙ c .if4 .taken) refl ∙ goes-5 (found .before .before)
-
-returns-5 : tie.Need-returns-5
-returns-5 c = yes _ _ _ (ap (λ (p : Place). p .held) (sym (found (c .before) .place-of .ensures)) ∙ c .if5 .taken) refl ∙ goes-15 (c .before)
-
-returns-6 : tie.Need-returns-6
-returns-6 c = yes _ _ _ (ap not (sym (c .before .has-free .ensures)) ∙ c .if6 .taken) refl ∙ goes-6 (c .before .before)
-
-returns-7 : tie.Need-returns-7
-unfolding withPlaces
-returns-7 c =
-    let s = start-8 (c .before) in
-    ap (λ (l : List Place). answered 0 (withPlaces (s .args .host) l)) (c .formed-at .ensures) ∙ goes-8 (c .before)
-
 pub form-spec : {M : Type 1} → statement M
-form-spec =
-    tie.close (tie.spec (λ c κs. search needs) returns returns-2 (λ c κs. search needs) returns-3 (λ c κs. search needs)
-        (λ c κs. search needs) returns-4 returns-5 (λ c κs. search needs) returns-6 (λ c κs. search needs) returns-7)
+unfolding formed withPlaces
+form-spec = tie.close (tie.spec
+    (λ c κs. search needs)
+    (λ c. yes _ _ _ (ap not (sym (c .before .in-order .ensures)) ∙ c .if1 .taken) refl)
+    (λ c. yes _ _ _ (c .if2 .taken) refl ∙ goes-1 (c .before .before))
+    (λ c κs. search needs)
+    (λ c. yes _ _ _ (sym (c .before .is-read-only .ensures) ∙ c .if3 .taken) refl ∙ goes-3 (c .before .before))
+    (λ c κs. search needs) (λ c κs. search needs)
+    (λ c. let found = c .before .before in yes _ _ _ (sym (c .before .padded .ensures) ∙ c .if4 .taken) refl ∙ goes-5 (found .before .before))
+    (λ c. yes _ _ _ (ap (λ (p : Place). p .held) (sym (found (c .before) .place-of .ensures)) ∙ c .if5 .taken) refl ∙ goes-15 (c .before))
+    (λ c κs. search needs)
+    (λ c. yes _ _ _ (ap not (sym (c .before .has-free .ensures)) ∙ c .if6 .taken) refl ∙ goes-6 (c .before .before))
+    (λ c κs. search needs)
+    (λ c. let s = start-8 (c .before) in
+        ap (λ (l : List Place). answered 0 (withPlaces (s .args .host) l)) (c .formed-at .ensures) ∙ goes-8 (c .before)))

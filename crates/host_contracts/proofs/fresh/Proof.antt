@@ -38,10 +38,6 @@ stage c = ap not (sym (c .before .length-right2 .ensures)) ∙ c .if3 .left
 
 -- ---- the needs
 
-returns : tie.Need-returns
-unfolding freshed
-returns c = yes _ _ _ (ap not (sym (c .before .before .is-size .ensures)) ∙ c .before .if1 .taken) (c .unmade .ensures)
-
 returns-2 : tie.Need-returns-2
 unfolding freshed
 returns-2 c =
@@ -66,7 +62,9 @@ returns-4 c =
     (no _ _ _ (stage at) (ap (λ (h : Host). answered 0 h) (c .bare .ensures))))
 
 pub fresh-spec : {M : Type 1} → statement M
-fresh-spec =
-    tie.close (tie.spec (λ c κs. search needs) (λ c κs. search needs) returns (λ c κs. positive c) (λ c κs. search needs) returns-2
-        (λ c κs. positive (one c)) (λ c κs. search needs) returns-3 (λ c. positive (one (two c))) (λ c. positive (one (two c)))
-        (λ c κs. search needs) returns-4)
+unfolding freshed
+fresh-spec = tie.close (tie.spec
+    (λ c κs. search needs) (λ c κs. search needs)
+    (λ c. yes _ _ _ (ap not (sym (c .before .before .is-size .ensures)) ∙ c .before .if1 .taken) (c .unmade .ensures))
+    (λ c κs. positive c) (λ c κs. search needs) returns-2 (λ c κs. positive (one c)) (λ c κs. search needs) returns-3
+    (λ c. positive (one (two c))) (λ c. positive (one (two c))) (λ c κs. search needs) returns-4)

@@ -45,16 +45,6 @@ contracts c = sym (c .before .places-in-order .ensures) ∙ not-false _ (c .if4 
 
 -- ---- the needs
 
-returns : tie.Need-returns
-unfolding inOrder
-returns c = no _ _ _ (sym (c .before .is-size .ensures) ∙ not-true _ (c .if1 .taken)) refl
-
-returns-2 : tie.Need-returns-2
-unfolding inOrder
-returns-2 c =
-    yes _ _ _ (sized (c .before .before))
-    (no _ _ _ (sym (c .before .lent .ensures) ∙ not-true _ (c .if2 .taken)) refl)
-
 returns-3 : tie.Need-returns-3
 unfolding inOrder
 returns-3 c =
@@ -62,9 +52,6 @@ returns-3 c =
     yes _ _ _ (sized (one at))
     (yes _ _ _ (disk at)
     (no _ _ _ (sym (c .before .lent2 .ensures) ∙ not-true _ (c .if3 .taken)) refl))
-
-places-in-order-requires : tie.Need-places-in-order-requires
-places-in-order-requires c κs = some _ (size (one (two c)))
 
 returns-4 : tie.Need-returns-4
 unfolding inOrder
@@ -85,11 +72,6 @@ returns-5 c =
     (yes _ _ _ (contracts at)
     (yes _ _ _ (c .if5 .taken) refl))))
 
-program-in-order-requires : tie.Need-program-in-order-requires
-program-in-order-requires c κs =
-    let at = two (three (c .before .before)) in
-    (size (one at), lent-facts 64 _ (disk at) .1)
-
 returns-6 : tie.Need-returns-6
 unfolding inOrder
 returns-6 c =
@@ -102,6 +84,12 @@ returns-6 c =
     (c .program-in-order .ensures)))))
 
 pub in-order-spec : {M : Type 1} → statement M
-in-order-spec =
-    tie.close (tie.spec (λ c κs. search needs) returns (λ c κs. search needs) returns-2 (λ c κs. search needs) returns-3
-        places-in-order-requires returns-4 returns-5 program-in-order-requires returns-6)
+unfolding inOrder
+in-order-spec = tie.close (tie.spec
+    (λ c κs. search needs)
+    (λ c. no _ _ _ (sym (c .before .is-size .ensures) ∙ not-true _ (c .if1 .taken)) refl)
+    (λ c κs. search needs)
+    (λ c. yes _ _ _ (sized (c .before .before)) (no _ _ _ (sym (c .before .lent .ensures) ∙ not-true _ (c .if2 .taken)) refl))
+    (λ c κs. search needs) returns-3 (λ c κs. some _ (size (one (two c)))) returns-4 returns-5
+    (λ c κs. let at = two (three (c .before .before)) in (size (one at), lent-facts 64 _ (disk at) .1))
+    returns-6)

@@ -10,10 +10,6 @@ use borrow.Author.Needs.{needs}
 use Rattle.host_order.proofs.places_in_order.Statement.{statement}
 use Rattle.host_order.proofs.places_in_order.Tie as tie
 
-returns : tie.Need-returns
-unfolding placesInOrder
-returns c = no _ _ _ (sym (c .before .each-in-order .ensures) ∙ not-true _ (c .if1 .taken)) refl
-
 returns-2 : tie.Need-returns-2
 unfolding placesInOrder
 returns-2 c =
@@ -50,6 +46,9 @@ returns-4 c =
     (c .below .ensures ∙ ap (every (λ n. ltb n (s .args .disk))) (at-slots-taken .slots-taken .ensures .0))))
 
 pub places-in-order-spec : {M : Type 1} → statement M
-places-in-order-spec =
-    tie.close (tie.spec (λ c κs. search needs) returns (λ c κs. search needs) returns-2 (λ c κs. search needs) (λ c κs. search needs)
-        returns-3 (λ c κs. search needs) returns-4)
+unfolding placesInOrder
+places-in-order-spec = tie.close (tie.spec
+    (λ c κs. search needs)
+    (λ c. no _ _ _ (sym (c .before .each-in-order .ensures) ∙ not-true _ (c .if1 .taken)) refl)
+    (λ c κs. search needs) returns-2 (λ c κs. search needs) (λ c κs. search needs) returns-3 (λ c κs. search needs)
+    returns-4)

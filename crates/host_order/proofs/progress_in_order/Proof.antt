@@ -13,10 +13,6 @@ use borrow.Author.Needs.{needs}
 use Rattle.host_order.proofs.progress_in_order.Statement.{statement}
 use Rattle.host_order.proofs.progress_in_order.Tie as tie
 
-returns : tie.Need-returns
-unfolding progressInOrder
-returns c = no _ _ _ (lt-leb _ _ (c .if1 .taken)) refl
-
 returns-2 : tie.Need-returns-2
 unfolding progressInOrder
 returns-2 c =
@@ -55,12 +51,6 @@ returns-4 c =
 abbrev start : tie.Else4 → tie.Start
 start c = c .before .before .before .before .before .before .before .before .before .before .before .before .before
 
-rem-if4 : tie.Need-rem-if4
-rem-if4 c = some _ (c .before .before .before .before .before .before .before .before .before .before .before .before .pre .0)
-
-mul-sizes-fit : tie.Need-mul-sizes-fit
-mul-sizes-fit c = omega (arith, mul-le-mul (start c .pre .1) (start c .pre .0 .most))
-
 returns-5 : tie.Need-returns-5
 unfolding progressInOrder
 returns-5 c =
@@ -77,12 +67,6 @@ returns-5 c =
         ∙ not-false _ (at-if3 .if3 .left))
     (yes _ _ _ (eq-eqb _ _ (at-if4 .if4 .left))
     (no _ _ _ (sym (c .before .sizes-fit .ensures) ∙ not-true _ (c .if5 .taken)) refl))))
-
-staged-in-order-requires : tie.Need-staged-in-order-requires
-staged-in-order-requires c κs = some _ (start (c .before .before .before .before .before) .pre .0)
-
-div-staged-in-order : tie.Need-div-staged-in-order
-div-staged-in-order c = some _ (start (c .before .before .before .before .before) .pre .0)
 
 returns-6 : tie.Need-returns-6
 unfolding progressInOrder
@@ -108,6 +92,13 @@ returns-6 c =
         (at-place-of .place-of .ensures))))))
 
 pub progress-in-order-spec : {M : Type 1} → statement M
-progress-in-order-spec =
-    tie.close (tie.spec returns returns-2 (λ c κs. search needs) (λ c κs. search needs) returns-3 rem-if4 returns-4 mul-sizes-fit
-        (λ c κs. search needs) returns-5 (λ c κs. search needs) div-staged-in-order staged-in-order-requires returns-6)
+unfolding progressInOrder
+progress-in-order-spec = tie.close (tie.spec
+    (λ c. no _ _ _ (lt-leb _ _ (c .if1 .taken)) refl) returns-2 (λ c κs. search needs) (λ c κs. search needs) returns-3
+    (λ c. some _ (c .before .before .before .before .before .before .before .before .before .before .before .before .pre .0))
+    returns-4
+    (λ c. omega (arith, mul-le-mul (start c .pre .1) (start c .pre .0 .most)))
+    (λ c κs. search needs) returns-5 (λ c κs. search needs)
+    (λ c. some _ (start (c .before .before .before .before .before) .pre .0))
+    (λ c κs. some _ (start (c .before .before .before .before .before) .pre .0))
+    returns-6)

@@ -7,10 +7,6 @@ use borrow.Author.Needs.{needs}
 use Rattle.host_order.proofs.terms_in_order.Statement.{statement}
 use Rattle.host_order.proofs.terms_in_order.Tie as tie
 
-returns : tie.Need-returns
-unfolding termsInOrder
-returns c = no _ _ _ (sym (c .before .parent-in-order .ensures) ∙ not-true _ (c .if1 .taken)) refl
-
 returns-2 : tie.Need-returns-2
 unfolding termsInOrder
 returns-2 c =
@@ -42,5 +38,8 @@ returns-4 c =
     (yes _ _ _ (le-leb _ _ (c .before .if3 .left)) refl))
 
 pub terms-in-order-spec : {M : Type 1} → statement M
-terms-in-order-spec =
-    tie.close (tie.spec (λ c κs. search needs) returns (λ c κs. search needs) returns-2 returns-3 returns-4)
+unfolding termsInOrder
+terms-in-order-spec = tie.close (tie.spec
+    (λ c κs. search needs)
+    (λ c. no _ _ _ (sym (c .before .parent-in-order .ensures) ∙ not-true _ (c .if1 .taken)) refl)
+    (λ c κs. search needs) returns-2 returns-3 returns-4)

@@ -51,11 +51,6 @@ not-6 c = sym (c .before .is6 .ensures) ∙ c .if6 .left
 
 -- ---- the answers
 
-returns : tie.Need-returns
-unfolding opOf
-returns c =
-    yes _ _ _ (sym (c .before .is .ensures) ∙ c .if1 .taken) refl
-
 returns-2 : tie.Need-returns-2
 unfolding opOf
 returns-2 c =
@@ -128,6 +123,9 @@ returns-7 c =
     (no _ _ _ (not-6 six) refl)))))
 
 pub op-of-spec : {M : Type 1} → statement M
-op-of-spec =
-    tie.close (tie.spec (λ c κs. search needs) returns (λ c κs. search needs) returns-2 (λ c κs. search needs) returns-3
-        (λ c κs. search needs) returns-4 (λ c κs. search needs) returns-5 (λ c κs. search needs) returns-6 returns-7)
+unfolding opOf
+op-of-spec = tie.close (tie.spec
+    (λ c κs. search needs)
+    (λ c. yes _ _ _ (sym (c .before .is .ensures) ∙ c .if1 .taken) refl)
+    (λ c κs. search needs) returns-2 (λ c κs. search needs) returns-3 (λ c κs. search needs) returns-4
+    (λ c κs. search needs) returns-5 (λ c κs. search needs) returns-6 returns-7)

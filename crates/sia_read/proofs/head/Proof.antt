@@ -37,21 +37,6 @@ identified c next q = long next (start c .args .bytes .now) 0 32 (omega (arith, 
 
 -- ---- the answers
 
-returns : tie.Need-returns
-unfolding head
-returns c = record { stays = search needs; says = short _ (c .before .before .before .args .bytes .now) 0 32 _ _ (omega arith) }
-
-returns-2 : tie.Need-returns-2
-unfolding head
-returns-2 c =
-    let count = c .before .before in
-    record { stays = search needs; says = identified count _ (stops _ _ _ (count .limited .ensures) (c .if2 .taken)) }
-
-instructions-requires : tie.Need-instructions-requires
-instructions-requires c κs =
-    let read = c .before .before .limited .ensures in
-    (read .stays, limited-within _ _ (sym (read .says) ∙ fine _ _ _ (c .if2 .left)))
-
 returns-3 : tie.Need-returns-3
 unfolding head
 returns-3 c =
@@ -99,6 +84,12 @@ returns-5 c =
     }
 
 pub head-spec : {M : Type 1} → statement M
-head-spec =
-    tie.close (tie.spec (λ c κs. search needs) returns (λ c. search needs) (λ c κs. search needs) (λ c κs. search needs)
-        (λ c κs. search needs) returns-2 instructions-requires returns-3 (λ c κs. search needs) returns-4 returns-5)
+unfolding head
+head-spec = tie.close (tie.spec
+    (λ c κs. search needs)
+    (λ c. record { stays = search needs; says = short _ (c .before .before .before .args .bytes .now) 0 32 _ _ (omega arith) })
+    (λ c. search needs) (λ c κs. search needs) (λ c κs. search needs) (λ c κs. search needs)
+    (λ c. let count = c .before .before in
+        record { stays = search needs; says = identified count _ (stops _ _ _ (count .limited .ensures) (c .if2 .taken)) })
+    (λ c κs. let read = c .before .before .limited .ensures in (read .stays, limited-within _ _ (sym (read .says) ∙ fine _ _ _ (c .if2 .left))))
+    returns-3 (λ c κs. search needs) returns-4 returns-5)

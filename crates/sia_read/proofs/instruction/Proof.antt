@@ -37,23 +37,6 @@ named c next q = long next (start c .args .bytes .now) (start c .args .at) 16 (t
 
 -- ---- the answers
 
-returns : tie.Need-returns
-unfolding instruction
-returns c =
-    let a = c .before .before .args in
-    record { stays = search needs; says = short _ (a .bytes .now) (a .at) 16 _ _ (c .if1 .taken) }
-
-copy-between-requires : tie.Need-copy-between-requires
-copy-between-requires c κs =
-    let named = ap (λ (x : Instruction). length (x .name)) (c .before .before .before .before .pre .1) in
-    (omega arith, omega arith)
-
-returns-2 : tie.Need-returns-2
-unfolding instruction
-returns-2 c =
-    let count = c .before .before in
-    record { stays = search needs; says = named count _ (stops _ _ _ (count .limited .ensures) (c .if2 .taken)) }
-
 operands-requires : tie.Need-operands-requires
 operands-requires c κs =
     let count = c .before .before .before in
@@ -111,6 +94,13 @@ returns-5 c =
     }
 
 pub instruction-spec : {M : Type 1} → statement M
-instruction-spec =
-    tie.close (tie.spec (λ c. search needs) returns (λ c. search needs) copy-between-requires (λ c κs. search needs) (λ c. search needs)
-        (λ c κs. search needs) returns-2 operands-requires returns-3 (λ c κs. search needs) returns-4 returns-5)
+unfolding instruction
+instruction-spec = tie.close (tie.spec
+    (λ c. search needs)
+    (λ c. let a = c .before .before .args in record { stays = search needs; says = short _ (a .bytes .now) (a .at) 16 _ _ (c .if1 .taken) })
+    (λ c. search needs)
+    (λ c κs. let named = ap (λ (x : Instruction). length (x .name)) (c .before .before .before .before .pre .1) in (omega arith, omega arith))
+    (λ c κs. search needs) (λ c. search needs) (λ c κs. search needs)
+    (λ c. let count = c .before .before in
+        record { stays = search needs; says = named count _ (stops _ _ _ (count .limited .ensures) (c .if2 .taken)) })
+    operands-requires returns-3 (λ c κs. search needs) returns-4 returns-5)

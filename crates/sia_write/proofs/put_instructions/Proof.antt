@@ -32,10 +32,6 @@ Inv-loop n out₀ at list place₀ i₀ out place i =
 abbrev μ-loop : tie.MeasureT-loop
 μ-loop n out₀ at list place₀ i₀ out place i = n - i
 
-loop-holds : tie.Need-loop-holds Inv-loop μ-loop
-unfolding joined
-loop-holds c = (omega arith, refl, omega arith, sym (put-nil _ _))
-
 put-instruction-requires : tie.Need-put-instruction-requires Inv-loop μ-loop
 put-instruction-requires c κs =
     let l = c .before .before .before .loop in
@@ -83,6 +79,8 @@ returns c =
     )
 
 pub put-instructions-spec : {M : Type 1} → statement M
-put-instructions-spec =
-    tie.close (tie.spec Inv-loop μ-loop loop-holds (λ c. search needs) (λ c. omega arith) put-instruction-requires
-        instruction-length-requires add-place (λ c. search needs) (λ c. omega arith) loop-again (λ c. search needs) returns)
+unfolding joined
+put-instructions-spec = tie.close (tie.spec
+    Inv-loop μ-loop (λ c. (omega arith, refl, omega arith, sym (put-nil _ _))) (λ c. search needs) (λ c. omega arith)
+    put-instruction-requires instruction-length-requires add-place (λ c. search needs) (λ c. omega arith) loop-again
+    (λ c. search needs) returns)

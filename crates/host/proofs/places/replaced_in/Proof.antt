@@ -21,9 +21,6 @@ Inv-loop id by places ps₀ i₀ ps i = (length ps ≡ 8) × (ps ≡ each (λ q.
 abbrev μ-loop : tie.MeasureT-loop
 μ-loop id by places ps₀ i₀ ps i = 8 - i
 
-loop-holds : tie.Need-loop-holds Inv-loop μ-loop
-loop-holds c = (c .good .0 .1 .0 .1, each-none _ _)
-
 loop-again : tie.Need-loop-again Inv-loop μ-loop
 loop-again c =
     let l = c .before .before .before .loop in
@@ -41,6 +38,6 @@ returns c =
         (omega arith) (c .before .loop .inv .1)
 
 pub replaced-in-spec : {M : Type 1} → statement M
-replaced-in-spec =
-    tie.close (tie.spec Inv-loop μ-loop loop-holds (λ c. search needs) (λ c. search needs) (λ c κs. tt) (λ c. search needs)
-        (λ c. search needs) (λ c. search needs) (λ c. search needs) loop-again returns)
+replaced-in-spec = tie.close (tie.spec
+    Inv-loop μ-loop (λ c. (c .good .0 .1 .0 .1, each-none _ _)) (λ c. search needs) (λ c. search needs) (λ c κs. tt)
+    (λ c. search needs) (λ c. search needs) (λ c. search needs) (λ c. search needs) loop-again returns)

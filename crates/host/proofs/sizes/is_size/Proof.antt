@@ -28,11 +28,9 @@ loop-again c =
     let half = halved _ _ pos (l .inv .1) in
     (omega arith, half, l .inv .2 ∙ further _ _ pos (λ e. c .if1 .left (e ∙ sym half)))
 
-returns-2 : tie.Need-returns-2 Inv-loop μ-loop
-unfolding isSize
-returns-2 c = sym (c .before .loop .inv .2 ∙ none _ _ (omega (arith, c .loop-test .left)))
-
 pub is-size-spec : {M : Type 1} → statement M
-is-size-spec =
-    tie.close (tie.spec Inv-loop μ-loop (λ c. omega arith) (λ c. (omega arith, refl, refl)) (λ c. omega arith) returns (λ c. omega arith)
-        loop-again returns-2)
+unfolding isSize
+is-size-spec = tie.close (tie.spec
+    Inv-loop μ-loop (λ c. omega arith) (λ c. (omega arith, refl, refl)) (λ c. omega arith) returns (λ c. omega arith)
+    loop-again
+    (λ c. sym (c .before .loop .inv .2 ∙ none _ _ (omega (arith, c .loop-test .left)))))

@@ -8,10 +8,6 @@ use borrow.Author.Needs.{needs}
 use Rattle.host_order.proofs.staged.staged_in_order.Statement.{statement}
 use Rattle.host_order.proofs.staged.staged_in_order.Tie as tie
 
-returns : tie.Need-returns
-unfolding stagedInOrder
-returns c = no _ _ _ (sym (c .before .slots-in-order .ensures) ∙ not-true _ (c .if1 .taken)) refl
-
 returns-2 : tie.Need-returns-2
 unfolding stagedInOrder
 returns-2 c =
@@ -34,11 +30,6 @@ returns-3 c =
     (no _ _ _ (sym (every-behind _ (s .args .staged) _ 64 _ (s .good .1 .1 .1 .1 .0 .1 .0 .1) (at-sectors .sectors .ensures .0))
         ∙ sym (c .before .none-from .ensures) ∙ not-true _ (c .if3 .taken)) refl))
 
-all-staged-requires : tie.Need-all-staged-requires
-all-staged-requires c κs =
-    let at-sectors = c .before .before in
-    at-sectors .sectors .ensures .1
-
 returns-4 : tie.Need-returns-4
 unfolding stagedInOrder
 returns-4 c =
@@ -56,6 +47,10 @@ returns-4 c =
     (c .all-staged .ensures ∙ every-between _ (s .args .staged) _ 64 _ (s .good .1 .1 .1 .1 .0 .1 .0 .1) (at-sectors .sectors .ensures .0) (s .args .start))))
 
 pub staged-in-order-spec : {M : Type 1} → statement M
-staged-in-order-spec =
-    tie.close (tie.spec (λ c κs. search needs) returns (λ c κs. search needs) returns-2 (λ c κs. search needs) (λ c κs. search needs)
-        returns-3 all-staged-requires returns-4)
+unfolding stagedInOrder
+staged-in-order-spec = tie.close (tie.spec
+    (λ c κs. search needs)
+    (λ c. no _ _ _ (sym (c .before .slots-in-order .ensures) ∙ not-true _ (c .if1 .taken)) refl)
+    (λ c κs. search needs) returns-2 (λ c κs. search needs) (λ c κs. search needs) returns-3
+    (λ c κs. let at-sectors = c .before .before in at-sectors .sectors .ensures .1)
+    returns-4)
