@@ -9,8 +9,10 @@ ghost use lib.ListN.{length};
 use machine::Host;
 use machine::Prices;
 use libc::STDIN_FILENO;
-use libc::STDOUT_FILENO;
 use sia::Number;
+use stdout::decimal;
+use stdout::hex;
+use stdout::text;
 
 // The bytes ahead of the visits.
 const AHEAD: usize = 96;
@@ -328,17 +330,13 @@ fn price(front: &[u8], at: usize) -> u16
     n as u16
 }
 
-fn text(words: &[u8]) {
-    io::write_all(STDOUT_FILENO, words);
-}
-
 // The line.
 fn show(end: Course, disk: &[u8], output: &[u8]) {
     text(b"visits ");
-    io::print_decimal(STDOUT_FILENO, end.visits);
+    decimal(end.visits);
     if end.number != 0 {
         text(b" refused ");
-        io::print_decimal(STDOUT_FILENO, end.number);
+        decimal(end.number);
     }
     text(b" disk ");
     show_digest(disk);
@@ -353,19 +351,7 @@ fn show_digest(bytes: &[u8]) {
     let mut digest = [0u8; 32];
     let answer = blake2b::digest(b"", bytes, &mut digest);
     match answer {
-        blake2b::Answer::Done => show_bytes(&digest),
+        blake2b::Answer::Done => hex(&digest),
         blake2b::Answer::Refused => text(b"refused"),
     }
-}
-
-fn show_bytes(bytes: &[u8]) {
-    let mut i: usize = 0;
-    while i < bytes.len() {
-        io::print_hex(STDOUT_FILENO, wide(bytes[i]), 2);
-        i += 1;
-    }
-}
-
-fn wide(x: u8) -> u64 {
-    x as u64
 }
