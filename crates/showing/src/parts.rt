@@ -18,20 +18,15 @@ pub struct Parts {
     pub end: usize,
 }
 
+#[rattlefmt::skip]
 fn missing(fault: u64, from: usize) -> Parts
     ensures { λ r. ⌜ r ≡ lacking fault from ⌝ }
 {
-    Parts {
-        fault,
-        from,
-        hashes: 0,
-        middle: 0,
-        output: 0,
-        end: 0,
-    }
+    Parts { fault, from, hashes: 0, middle: 0, output: 0, end: 0 }
 }
 
 // The record that begins at `at`.
+#[rattlefmt::skip]
 pub fn parts_at(input: &[u8], at: usize) -> Parts
     requires { ⌜ at ≤ length (now input) ⌝ }
     ensures { λ r. ⌜ r ≡ partsAt (now (input .entry)) at ⌝ }
@@ -54,12 +49,5 @@ pub fn parts_at(input: &[u8], at: usize) -> Parts
     if ((input.len() - output) as u64) < length {
         return missing(4, middle);
     }
-    Parts {
-        fault: 0,
-        from: at,
-        hashes,
-        middle,
-        output,
-        end: output + length as usize,
-    }
+    Parts { fault: 0, from: at, hashes, middle, output, end: output + length as usize }
 }
