@@ -45,6 +45,7 @@ fn main() {
 }
 
 // A host of the largest areas, with the contract whose id stands in front.
+#[rattlefmt::skip]
 fn formed(front: &[u8; 96]) -> Course {
     let mut id = [0u8; 32];
     area::copy_between(front, 0, &mut id, 0, 32);
@@ -52,13 +53,7 @@ fn formed(front: &[u8; 96]) -> Course {
     let bare = made.host;
     let told = machine::form(bare, id);
     let host = told.host;
-    Course {
-        on: told.number == 0,
-        number: told.number,
-        visits: 0,
-        written: 0,
-        host,
-    }
+    Course { on: told.number == 0, number: told.number, visits: 0, written: 0, host }
 }
 
 // The visits of the input.
@@ -83,6 +78,7 @@ fn fewer(on: bool, left: u64) -> u64
 }
 
 // The next visit of the input.
+#[rattlefmt::skip]
 fn next(course: Course, front: &[u8; 96], disk: &mut [u8], output: &mut [u8]) -> Course {
     let Number::Is(times) = number() else {
         return stopped(course);
@@ -102,18 +98,7 @@ fn next(course: Course, front: &[u8; 96], disk: &mut [u8], output: &mut [u8]) ->
     let b = within(m, bytes.len());
     let mut stage = io::large_buffer();
     let mut input = io::large_buffer();
-    repeated(
-        course,
-        front,
-        times,
-        empty,
-        &head[0..h],
-        &bytes[0..b],
-        disk,
-        &mut stage,
-        &mut input,
-        output,
-    )
+    repeated(course, front, times, empty, &head[0..h], &bytes[0..b], disk, &mut stage, &mut input, output)
 }
 
 fn stopped(course: Course) -> Course {
@@ -159,48 +144,23 @@ fn within(n: u64, most: usize) -> usize
 }
 
 // One visit so many times.
+#[rattlefmt::skip]
 fn repeated(
-    start: Course,
-    front: &[u8; 96],
-    times: u64,
-    empty: u64,
-    head: &[u8],
-    bytes: &[u8],
-    disk: &mut [u8],
-    stage: &mut [u8],
-    input: &mut [u8],
-    output: &mut [u8],
+    start: Course, front: &[u8; 96], times: u64, empty: u64, head: &[u8], bytes: &[u8],
+    disk: &mut [u8], stage: &mut [u8], input: &mut [u8], output: &mut [u8],
 ) -> Course {
     let mut course = start;
     let mut left = fewer(start.on, times);
     while 0 < left {
-        course = visit(
-            course,
-            front,
-            empty,
-            head,
-            bytes,
-            disk,
-            stage,
-            input,
-            output,
-        );
+        course = visit(course, front, empty, head, bytes, disk, stage, input, output);
         left = fewer(course.on, left - 1);
     }
     course
 }
 
 // A program that is opened, given so many empty pieces, and given up; where it is refused, the visit is too.
-fn idle(
-    host: Host,
-    front: &[u8; 96],
-    empty: u64,
-    head: &[u8],
-    disk: &mut [u8],
-    stage: &mut [u8],
-    input: &mut [u8],
-    output: &mut [u8],
-) -> Host {
+#[rattlefmt::skip]
+fn idle(host: Host, front: &[u8; 96], empty: u64, head: &[u8], disk: &mut [u8], stage: &mut [u8], input: &mut [u8], output: &mut [u8]) -> Host {
     if empty == 0 {
         return host;
     }
@@ -213,14 +173,8 @@ fn idle(
 }
 
 // So many empty pieces, as long as they are accepted.
-fn waited(
-    start: Host,
-    empty: u64,
-    disk: &[u8],
-    stage: &mut [u8],
-    input: &mut [u8],
-    output: &mut [u8],
-) -> Host {
+#[rattlefmt::skip]
+fn waited(start: Host, empty: u64, disk: &[u8], stage: &mut [u8], input: &mut [u8], output: &mut [u8]) -> Host {
     let program = start.program;
     let terms = program.terms;
     let head = terms.head;
@@ -236,56 +190,24 @@ fn waited(
 }
 
 // The empty pieces, and then the visit itself.
+#[rattlefmt::skip]
 fn visit(
-    course: Course,
-    front: &[u8; 96],
-    empty: u64,
-    head: &[u8],
-    bytes: &[u8],
-    disk: &mut [u8],
-    stage: &mut [u8],
-    input: &mut [u8],
-    output: &mut [u8],
+    course: Course, front: &[u8; 96], empty: u64, head: &[u8], bytes: &[u8],
+    disk: &mut [u8], stage: &mut [u8], input: &mut [u8], output: &mut [u8],
 ) -> Course {
     let start = course.host;
     let host = idle(start, front, empty, head, disk, stage, input, output);
-    played(
-        host,
-        course.visits,
-        front,
-        head,
-        bytes,
-        disk,
-        stage,
-        input,
-        output,
-    )
+    played(host, course.visits, front, head, bytes, disk, stage, input, output)
 }
 
+#[rattlefmt::skip]
 fn played(
-    host: Host,
-    visits: u64,
-    front: &[u8; 96],
-    head: &[u8],
-    bytes: &[u8],
-    disk: &mut [u8],
-    stage: &mut [u8],
-    input: &mut [u8],
-    output: &mut [u8],
+    host: Host, visits: u64, front: &[u8; 96], head: &[u8], bytes: &[u8],
+    disk: &mut [u8], stage: &mut [u8], input: &mut [u8], output: &mut [u8],
 ) -> Course {
     let prices = prices_of(front);
     let budget = area::load(front, 32);
-    let done = bench_program::begin(
-        host,
-        prices,
-        budget,
-        head,
-        bytes,
-        disk,
-        stage,
-        input,
-        output,
-    );
+    let done = bench_program::begin(host, prices, budget, head, bytes, disk, stage, input, output);
     let after = done.host;
     Course {
         on: done.number == 0,
