@@ -37,33 +37,6 @@ identified c next q = long next (start c .args .bytes .now) 0 32 (omega (arith, 
 
 -- ---- the answers
 
-returns-3 : tie.Need-returns-3
-unfolding head
-returns-3 c =
-    let list = c .before .before in
-    let count = list .before .before .before in
-    record {
-      stays = search needs;
-      says =
-          identified count _
-          (goes _ (count .limited .ensures) (list .before .if2 .left)
-          (stops _ _ _ (list .instructions .ensures) (c .if3 .taken)));
-    }
-
-returns-4 : tie.Need-returns-4
-unfolding head
-returns-4 c =
-    let list = c .before .before .before .before .before in
-    let count = list .before .before .before in
-    record {
-      stays = search needs;
-      says =
-          identified count _
-          (goes _ (count .limited .ensures) (list .before .if2 .left)
-          (goes _ (list .instructions .ensures) (c .before .before .before .if3 .left)
-          (stops _ _ _ (c .before .before .limited2 .ensures) (c .if4 .taken))));
-    }
-
 returns-5 : tie.Need-returns-5
 unfolding head reading pick
 returns-5 c =
@@ -72,16 +45,11 @@ returns-5 c =
     let count = list .before .before .before in
     let bytes = start count .args .bytes .now in
     let id = count .before .fixed-id .ensures ∙ put-part _ bytes 0 32 refl (there count) (copied count .copy-between .ensures) in
-    record {
-      stays = declared .limited2 .ensures .stays;
-      says =
-          identified count _
-          (goes _ (count .limited .ensures) (list .before .if2 .left)
-          (goes _ (list .instructions .ensures) (declared .before .if3 .left)
-          (goes _ (declared .limited2 .ensures) (c .before .if4 .left)
-          (ap (λ (bs : List ℕ). value (record { contract = bs; count = count .limited .result .value; instructions = list .instructions .result .list;
-              length = declared .limited2 .result .value }) (drop (declared .limited2 .result .next) bytes)) id))));
-    }
+    record { stays = declared .limited2 .ensures .stays; says =
+        identified count _ (goes _ (count .limited .ensures) (list .before .if2 .left)
+        (goes _ (list .instructions .ensures) (declared .before .if3 .left) (goes _ (declared .limited2 .ensures) (c .before .if4 .left)
+        (ap (λ (bs : List ℕ). value (record { contract = bs; count = count .limited .result .value; instructions = list .instructions .result .list;
+            length = declared .limited2 .result .value }) (drop (declared .limited2 .result .next) bytes)) id)))) }
 
 pub head-spec : {M : Type 1} → statement M
 unfolding head
@@ -92,4 +60,11 @@ head-spec = tie.close (tie.spec
     (λ c. let count = c .before .before in
         record { stays = search needs; says = identified count _ (stops _ _ _ (count .limited .ensures) (c .if2 .taken)) })
     (λ c κs. let read = c .before .before .limited .ensures in (read .stays, limited-within _ _ (sym (read .says) ∙ fine _ _ _ (c .if2 .left))))
-    returns-3 (λ c κs. search needs) returns-4 returns-5)
+    (λ c. let list = c .before .before in let count = list .before .before .before in
+        record { stays = search needs; says = identified count _ (goes _ (count .limited .ensures) (list .before .if2 .left)
+            (stops _ _ _ (list .instructions .ensures) (c .if3 .taken))) })
+    (λ c κs. search needs)
+    (λ c. let declared = c .before .before in let list = declared .before .before .before in let count = list .before .before .before in
+        record { stays = search needs; says = identified count _ (goes _ (count .limited .ensures) (list .before .if2 .left)
+            (goes _ (list .instructions .ensures) (declared .before .if3 .left) (stops _ _ _ (declared .limited2 .ensures) (c .if4 .taken)))) })
+    returns-5)

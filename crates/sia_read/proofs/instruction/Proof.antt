@@ -43,33 +43,6 @@ operands-requires c κs =
     let read = count .limited .ensures in
     (read .stays, (limited-within _ _ (sym (read .says) ∙ fine _ _ _ (c .before .if2 .left)), ap (λ (x : Instruction). x .operands) (start count .pre .1)))
 
-returns-3 : tie.Need-returns-3
-unfolding instruction
-returns-3 c =
-    let list = c .before .before in
-    let count = list .before .before .before .before in
-    record {
-      stays = search needs;
-      says =
-          named count _
-          (goes _ (count .limited .ensures) (list .before .before .if2 .left)
-          (stops _ _ _ (list .operands .ensures) (c .if3 .taken)));
-    }
-
-returns-4 : tie.Need-returns-4
-unfolding instruction
-returns-4 c =
-    let list = c .before .before .before .before .before in
-    let count = list .before .before .before .before in
-    record {
-      stays = search needs;
-      says =
-          named count _
-          (goes _ (count .limited .ensures) (list .before .before .if2 .left)
-          (goes _ (list .operands .ensures) (c .before .before .before .if3 .left)
-          (stops _ _ _ (c .before .before .flag .ensures) (c .if4 .taken))));
-    }
-
 returns-5 : tie.Need-returns-5
 unfolding instruction reading pick
 returns-5 c =
@@ -82,16 +55,11 @@ returns-5 c =
     let name =
     count .before .fixed-name .ensures
     ∙ put-part entry bytes (start count .args .at) 16 empty (omega (arith, there count)) (copied count .copy-between .ensures) in
-    record {
-      stays = proof .flag .ensures .stays;
-      says =
-          named count _
-          (goes _ (count .limited .ensures) (list .before .before .if2 .left)
-          (goes _ (list .operands .ensures) (proof .before .if3 .left)
-          (goes _ (proof .flag .ensures) (c .before .if4 .left)
-          (ap (λ (bs : List ℕ). value (record { name = bs; count = count .limited .result .value; operands = list .operands .result .list;
-              proof = proof .flag .result .value }) (drop (proof .flag .result .next) bytes)) name))));
-    }
+    record { stays = proof .flag .ensures .stays; says =
+        named count _ (goes _ (count .limited .ensures) (list .before .before .if2 .left)
+        (goes _ (list .operands .ensures) (proof .before .if3 .left) (goes _ (proof .flag .ensures) (c .before .if4 .left)
+        (ap (λ (bs : List ℕ). value (record { name = bs; count = count .limited .result .value; operands = list .operands .result .list;
+            proof = proof .flag .result .value }) (drop (proof .flag .result .next) bytes)) name)))) }
 
 pub instruction-spec : {M : Type 1} → statement M
 unfolding instruction
@@ -103,4 +71,13 @@ instruction-spec = tie.close (tie.spec
     (λ c κs. search needs) (λ c. search needs) (λ c κs. search needs)
     (λ c. let count = c .before .before in
         record { stays = search needs; says = named count _ (stops _ _ _ (count .limited .ensures) (c .if2 .taken)) })
-    operands-requires returns-3 (λ c κs. search needs) returns-4 returns-5)
+    operands-requires
+    (λ c. let list = c .before .before in let test = list .before .before in let count = test .before .before in
+        record { stays = start count .pre .0; says = named count _ (goes _ (count .limited .ensures) (test .if2 .left)
+            (stops _ _ _ (list .operands .ensures) (c .if3 .taken))) })
+    (λ c κs. search needs)
+    (λ c. let proof = c .before .before in let list = proof .before .before .before in let test = list .before .before in
+        let count = test .before .before in
+        record { stays = start count .pre .0; says = named count _ (goes _ (count .limited .ensures) (test .if2 .left)
+            (goes _ (list .operands .ensures) (proof .before .if3 .left) (stops _ _ _ (proof .flag .ensures) (c .if4 .taken)))) })
+    returns-5)
