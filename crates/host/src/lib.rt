@@ -36,14 +36,10 @@ pub struct Place {
 }
 
 // What instructions are charged.
+#[rattlefmt::skip]
 pub struct Prices {
-    pub init: u16,
-    pub memory: u16,
-    pub readbase: u16,
-    pub readlength: u16,
-    pub writebase: u16,
-    pub writelength: u16,
-    pub truncatebase: u16,
+    pub init: u16, pub memory: u16,
+    pub readbase: u16, pub readlength: u16, pub writebase: u16, pub writelength: u16, pub truncatebase: u16,
 }
 
 // What opening fixes; `room` is the output length.
@@ -56,12 +52,9 @@ pub struct Terms {
 
 // What instructions change: how many ran, the tally, the bytes written, the running size, and whether one failed. `staged[p]` is
 // the stage slot of position p, or NONE.
+#[rattlefmt::skip]
 pub struct Progress {
-    pub ran: u64,
-    pub tally: u64,
-    pub written: u64,
-    pub size: u64,
-    pub failed: bool,
+    pub ran: u64, pub tally: u64, pub written: u64, pub size: u64, pub failed: bool,
     pub staged: [u8; 64],
 }
 
