@@ -2,14 +2,12 @@
 use mathlib.Core.Path.{_≡_, refl, sym, ap, _∙_}
 use mathlib.Core.Bool.{not}
 use mathlib.Core.List.{List}
-use Prim.Native.Nat.{ℕ}
 use Rattle.area.specs.Pick.{pick}
 use Rattle.area.proofs.Laws.Pick.{yes, no}
 use Rattle.host.specs.With.{withPlaces}
 use Rattle.host.specs.Places.{whose}
 use Rattle.host.specs.Calls.{answered, padded, formed}
 use Rattle.host.specs.declared.Place.{Place}
-use Rattle.host.specs.declared.Host.{Host}
 use Rattle.host.specs.declared.Made.{Made}
 use borrow.Author.Needs.{needs}
 use Rattle.host_contracts.proofs.Laws.Early.{early-part, early}

@@ -1,6 +1,6 @@
 -- `host_order::in_order` meets its contract: a walk down the definition. Assumes nothing.
 use mathlib.Core.Path.{_≡_, refl, sym, _∙_}
-use mathlib.Core.Bool.{Bool, true}
+use mathlib.Core.Bool.{Bool}
 use borrow.Author.Tests.{not-false}
 use Rattle.area.specs.Slots.{Size}
 use Rattle.area.specs.Pick.{both}

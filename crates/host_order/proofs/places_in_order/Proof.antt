@@ -1,5 +1,5 @@
 -- `host_order::places_in_order` meets its contract: a walk down the definition. Assumes nothing.
-use mathlib.Core.Path.{ap, sym, _∙_}
+use mathlib.Core.Path.{ap, _∙_}
 use lib.Dec.{ltb, eqb}
 use Rattle.sia.specs.Encode.{every}
 use Rattle.host.specs.Lists.{apart}
