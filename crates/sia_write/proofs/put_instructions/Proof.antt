@@ -43,12 +43,6 @@ put-instruction-requires c κs =
       room-next instructionBytes (s .args .t1) (l .i) (s .args .n) (s .args .at) _ t long room (l .inv .2),
     )
 
-instruction-length-requires : tie.Need-instruction-length-requires Inv-loop μ-loop
-instruction-length-requires c κs =
-    let s = c .before .before .before .before .before .before .before .before in
-    leb-true _ _ (every-at fewOperands _ _ (c .before .before .before .before .before .before .loop .i) _ (s .pre .1 .0)
-        (c .before .before .before .before .before .loop-test .taken) (omega (arith, s .good .0 .1 .0 .1)))
-
 add-place : tie.Need-add-place Inv-loop μ-loop
 add-place c =
     let l = c .before .before .before .before .before .before .before .loop in
@@ -82,5 +76,8 @@ pub put-instructions-spec : {M : Type 1} → statement M
 unfolding joined
 put-instructions-spec = tie.close (tie.spec
     Inv-loop μ-loop (λ c. (omega arith, refl, omega arith, sym (put-nil _ _))) (λ c. search needs) (λ c. omega arith)
-    put-instruction-requires instruction-length-requires add-place (λ c. search needs) (λ c. omega arith) loop-again
-    (λ c. search needs) returns)
+    put-instruction-requires
+    (λ c κs. let s = c .before .before .before .before .before .before .before .before in
+        leb-true _ _ (every-at fewOperands _ _ (c .before .before .before .before .before .before .loop .i) _ (s .pre .1 .0)
+        (c .before .before .before .before .before .loop-test .taken) (omega (arith, s .good .0 .1 .0 .1))))
+    add-place (λ c. search needs) (λ c. omega arith) loop-again (λ c. search needs) returns)

@@ -11,13 +11,6 @@ use borrow.Author.Needs.{needs}
 use Rattle.sia_write.proofs.write_head.Statement.{statement}
 use Rattle.sia_write.proofs.write_head.Tie as tie
 
-returns-2 : tie.Need-returns-2
-unfolding write
-returns-2 c =
-    let a = c .before .before .before .before .before .args in
-    let short : length (a .out .now) < length (encode (a .head)) = omega (arith, c .before .head-length .ensures, c .if2 .taken) in
-    no _ _ _ (ap not (sym (c .before .before .before .within .ensures)) ∙ c .before .before .if1 .left) (yes _ _ _ (lt-ltb _ _ short) refl)
-
 returns-3 : tie.Need-returns-3
 unfolding write
 returns-3 c =
@@ -32,10 +25,11 @@ returns-3 c =
 pub write-head-spec : {M : Type 1} → statement M
 unfolding write
 write-head-spec = tie.close (tie.spec
-    (λ c κs. search needs)
-    (λ c. yes _ _ _ (ap not (sym (c .before .within .ensures)) ∙ c .if1 .taken) refl)
+    (λ c κs. search needs) (λ c. yes _ _ _ (ap not (sym (c .before .within .ensures)) ∙ c .if1 .taken) refl)
     (λ c κs. sym (c .before .within .ensures) ∙ not-false _ (c .if1 .left))
-    returns-2
+    (λ c. let a = c .before .before .before .before .before .args in
+        let short : length (a .out .now) < length (encode (a .head)) = omega (arith, c .before .head-length .ensures, c .if2 .taken) in
+        no _ _ _ (ap not (sym (c .before .before .before .within .ensures)) ∙ c .before .before .if1 .left) (yes _ _ _ (lt-ltb _ _ short) refl))
     (λ c κs. (sym (c .before .before .before .before .within .ensures) ∙ not-false _ (c .before .before .before .if1 .left),
         omega (arith, c .before .before .head-length .ensures, c .before .if2 .left)))
     (λ c. search needs) returns-3)

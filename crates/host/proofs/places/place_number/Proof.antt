@@ -37,15 +37,11 @@ loop-again c =
     (sym (c .before .has-id .ensures) ∙ c .if1 .left) in
     omega (arith, further, l .inv)
 
-returns-2 : tie.Need-returns-2 Inv-loop μ-loop
-returns-2 c =
-    let l = c .before .loop in
-    let s = c .before .before in
-    omega (arith, first-done (hasId (s .args .id)) (s .args .t1) (l .i) 8 (omega arith), l .inv)
-
 pub place-number-spec : {M : Type 1} → statement M
 place-number-spec = tie.close (tie.spec
     Inv-loop μ-loop
     (λ c. let whole = ap (firstOf (hasId (c .args .id))) (slice-all (c .args .t1) (c .good .0 .1 .0 .1)) in omega (arith, whole))
     (λ c. search needs) (λ c. search needs) (λ c κs. tt) returns (λ c. search needs) (λ c. search needs) loop-again
-    returns-2)
+    (λ c. let l = c .before .loop in
+        let s = c .before .before in
+        omega (arith, first-done (hasId (s .args .id)) (s .args .t1) (l .i) 8 (omega arith), l .inv)))

@@ -14,17 +14,12 @@ Inv-loop z root₀ n₀ root n = Come z n root
 abbrev μ-loop : tie.MeasureT-loop
 μ-loop z root₀ n₀ root n = z - n
 
-loop-again : tie.Need-loop-again Inv-loop μ-loop
-loop-again c =
-    let test = c .before .before .before in
-    let loop = test .before in
-    come-node _ (loop .before .before .before .pre) (loop .loop .inv) (test .loop-test .taken) (omega arith) (c .node .ensures)
-
 pub zeros-root-spec : {M : Type 1} → statement M
 zeros-root-spec = tie.close (tie.spec
     Inv-loop μ-loop (λ c. search needs) (λ c κs. segments-cover _ _ (omega arith))
-    (λ c. come-leaf _ (c .before .before .pre) (omega arith) (c .leaf .ensures))
-    (λ c κs. search needs) (λ c. omega arith)
-    (λ c. omega (arith, come-some (c .before .before .before .before .loop .inv)))
-    loop-again
+    (λ c. come-leaf _ (c .before .before .pre) (omega arith) (c .leaf .ensures)) (λ c κs. search needs)
+    (λ c. omega arith) (λ c. omega (arith, come-some (c .before .before .before .before .loop .inv)))
+    (λ c. let test = c .before .before .before in
+        let loop = test .before in
+        come-node _ (loop .before .before .before .pre) (loop .loop .inv) (test .loop-test .taken) (omega arith) (c .node .ensures))
     (λ c. come-all _ (c .before .before .before .before .pre) (c .before .loop .inv) (c .loop-test .left)))
