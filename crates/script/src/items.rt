@@ -52,7 +52,7 @@ fn none_lent() -> Lent
 }
 
 // The two lengths from byte `at` on, of areas that have so many bytes.
-fn lent(item: &[u8], at: usize, one: usize, two: usize) -> Lent
+fn lends(item: &[u8], at: usize, one: usize, two: usize) -> Lent
     requires { ⌜ at ≤ 17 ⌝ }
     ensures { λ r. ⌜ (r .one ≤ one) × (r .two ≤ two) ⌝ }
 {
@@ -143,12 +143,15 @@ fn fresh(
 ) -> Made
     requires { ⌜ (at ≤ 9) × (at + 17 ≤ length (now item)) ⌝ }
 {
-    let byte = item[at + 16];
+    fill_all(item[at + 16], disk, stage, input, output);
+    made_of(machine::fresh(sector, area::load(item, at), area::load(item, at + 8)))
+}
+
+fn fill_all(byte: u8, disk: &mut [u8], stage: &mut [u8], input: &mut [u8], output: &mut [u8]) {
     area::fill(disk, 0, disk.len(), byte);
     area::fill(stage, 0, stage.len(), byte);
     area::fill(input, 0, input.len(), byte);
     area::fill(output, 0, output.len(), byte);
-    made_of(machine::fresh(sector, area::load(item, at), area::load(item, at + 8)))
 }
 
 fn form(item: &[u8], host: Host) -> Made {
@@ -225,31 +228,30 @@ fn piece(item: &[u8], host: Host, disk: &[u8], stage: &mut [u8], input: &mut [u8
     if item.len() < 41 {
         return malformed(host);
     }
-    let sectors = lent(item, 1, disk.len(), stage.len());
-    let streams = lent(item, 17, input.len(), output.len());
+    let sectors = lends(item, 1, disk.len(), stage.len());
+    let streams = lends(item, 17, input.len(), output.len());
     if !sectors.fits {
         return malformed(host);
     }
     if !streams.fits {
         return malformed(host);
     }
-    told(machine::piece(
-        host,
-        &disk[0..sectors.one],
-        &mut stage[0..sectors.two],
-        &mut input[0..streams.one],
-        &mut output[0..streams.two],
-        &item[41..],
-    ))
+    let d = sectors.one;
+    let s = sectors.two;
+    let i = streams.one;
+    let o = streams.two;
+    told(machine::piece(host, &disk[0..d], &mut stage[0..s], &mut input[0..i], &mut output[0..o], &item[41..]))
 }
 
 // Lent lengths of disk and output.
 fn interrupt(item: &[u8], host: Host, disk: &[u8], output: &mut [u8]) -> Made {
-    let areas = lent(item, 1, disk.len(), output.len());
+    let areas = lends(item, 1, disk.len(), output.len());
     if !areas.fits {
         return malformed(host);
     }
-    told(machine::interrupt(host, &disk[0..areas.one], &mut output[0..areas.two]))
+    let d = areas.one;
+    let o = areas.two;
+    told(machine::interrupt(host, &disk[0..d], &mut output[0..o]))
 }
 
 // ---- closing
@@ -271,33 +273,39 @@ fn agree(item: &[u8], host: Host, disk: &mut [u8], stage: &[u8]) -> Made {
 
 #[rattlefmt::skip]
 fn close(item: &[u8], host: Host, disk: &mut [u8], stage: &[u8], agreed: bool, size: u64, root: [u8; 32]) -> Made {
-    let areas = lent(item, 1, disk.len(), stage.len());
+    let areas = lends(item, 1, disk.len(), stage.len());
     if !areas.fits {
         return malformed(host);
     }
-    let made = machine::close(host, &mut disk[0..areas.one], &stage[0..areas.two], agreed, size, root);
+    let d = areas.one;
+    let s = areas.two;
+    let made = machine::close(host, &mut disk[0..d], &stage[0..s], agreed, size, root);
     let after = made.host;
     answered(made.number, made.tally, made.growth, after)
 }
 
 // Lent lengths of disk and stage.
 fn reached<'a>(item: &[u8], host: Host, disk: &'a [u8], stage: &'a [u8]) -> Made {
-    let areas = lent(item, 1, disk.len(), stage.len());
+    let areas = lends(item, 1, disk.len(), stage.len());
     if !areas.fits {
         return malformed(host);
     }
-    let made = machine::reached(host, &disk[0..areas.one], &stage[0..areas.two]);
+    let d = areas.one;
+    let s = areas.two;
+    let made = machine::reached(host, &disk[0..d], &stage[0..s]);
     let root = made.root;
     with_rest(true, made.number, made.size, 0, 32, root, host)
 }
 
 // Lent lengths of disk and stage: whether the host is sound, as a number.
 fn sound(item: &[u8], host: Host, disk: &[u8], stage: &[u8]) -> Made {
-    let areas = lent(item, 1, disk.len(), stage.len());
+    let areas = lends(item, 1, disk.len(), stage.len());
     if !areas.fits {
         return malformed(host);
     }
-    let asked = machine::sound(host, &disk[0..areas.one], &stage[0..areas.two]);
+    let d = areas.one;
+    let s = areas.two;
+    let asked = machine::sound(host, &disk[0..d], &stage[0..s]);
     answered(asked.number, as_number(asked.sound), 0, host)
 }
 
