@@ -7,16 +7,8 @@ ghost use Rattle.blake2b.specs.Compression as RFC;
 use crate::mixing::g;
 
 // G with the words i and j of m.
-fn mix(
-    m: [u64; 16],
-    v: [u64; 16],
-    a: usize,
-    b: usize,
-    c: usize,
-    d: usize,
-    i: usize,
-    j: usize,
-) -> [u64; 16]
+#[rattlefmt::skip]
+fn mix(m: [u64; 16], v: [u64; 16], a: usize, b: usize, c: usize, d: usize, i: usize, j: usize) -> [u64; 16]
     requires { ⌜ (a < 16) × (b < 16) × (c < 16) × (d < 16) × (i < 16) × (j < 16) ⌝ }
     ensures { λ r. ⌜ r ≡ RFC.G v a b c d (getD m i 0) (getD m j 0) ⌝ }
 {
@@ -25,18 +17,8 @@ fn mix(
 
 // G on the four columns of v, with the words a to h of m. The compiler puts this function and the next in line at each of their 24 calls: by
 // its own reckoning they cost 275 where it allows 375, and a whole round would cost too much.
-pub fn columns(
-    m: [u64; 16],
-    v: [u64; 16],
-    a: usize,
-    b: usize,
-    c: usize,
-    d: usize,
-    e: usize,
-    f: usize,
-    g: usize,
-    h: usize,
-) -> [u64; 16]
+#[rattlefmt::skip]
+pub fn columns(m: [u64; 16], v: [u64; 16], a: usize, b: usize, c: usize, d: usize, e: usize, f: usize, g: usize, h: usize) -> [u64; 16]
     requires { ⌜ (a < 16) × (b < 16) × (c < 16) × (d < 16) × (e < 16) × (f < 16) × (g < 16) × (h < 16) ⌝ }
     ensures { λ r. ⌜ r ≡
         RFC.G (RFC.G (RFC.G (RFC.G v 0 4 8 12 (getD m a 0) (getD m b 0)) 1 5 9 13 (getD m c 0) (getD m d 0)) 2 6 10 14 (getD m e 0) (getD m f 0))
@@ -49,18 +31,8 @@ pub fn columns(
 }
 
 // G on the four diagonals of v, with the words a to h of m.
-pub fn diagonals(
-    m: [u64; 16],
-    v: [u64; 16],
-    a: usize,
-    b: usize,
-    c: usize,
-    d: usize,
-    e: usize,
-    f: usize,
-    g: usize,
-    h: usize,
-) -> [u64; 16]
+#[rattlefmt::skip]
+pub fn diagonals(m: [u64; 16], v: [u64; 16], a: usize, b: usize, c: usize, d: usize, e: usize, f: usize, g: usize, h: usize) -> [u64; 16]
     requires { ⌜ (a < 16) × (b < 16) × (c < 16) × (d < 16) × (e < 16) × (f < 16) × (g < 16) × (h < 16) ⌝ }
     ensures { λ r. ⌜ r ≡
         RFC.G (RFC.G (RFC.G (RFC.G v 0 5 10 15 (getD m a 0) (getD m b 0)) 1 6 11 12 (getD m c 0) (getD m d 0)) 2 7 8 13 (getD m e 0) (getD m f 0))

@@ -2,12 +2,16 @@
 // items of three numbers of 8 bytes: how long the digest, the key and the message are. Keys and messages are front parts.
 mod self_test;
 
+use stdout::decimal;
+use stdout::hex;
+use stdout::text;
+
 fn main() {
     let passed = self_test::passes();
     if passed {
-        io::write_all(1, b"RFC 7693 Appendix E self-test: passed\n");
+        text(b"RFC 7693 Appendix E self-test: passed\n");
     } else {
-        io::write_all(1, b"RFC 7693 Appendix E self-test: FAILED\n");
+        text(b"RFC 7693 Appendix E self-test: FAILED\n");
     }
     let mut input = io::large_buffer();
     let n = io::read_full(0, &mut input);
@@ -17,7 +21,7 @@ fn main() {
 // Each item of the input; bytes behind the last whole one are left.
 fn show_all(input: &[u8]) {
     if input.len() < 1066 {
-        io::write_all(1, b"no keys and messages\n");
+        text(b"no keys and messages\n");
         return;
     }
     let mut at: usize = 1066;
@@ -32,13 +36,13 @@ fn show_all(input: &[u8]) {
 
 // One line: the three lengths, and the digest or the refusal.
 fn show(keys: &[u8], messages: &[u8], nn: u64, kk: u64, ll: u64) {
-    io::write_all(1, b"digest ");
-    io::print_decimal(1, nn);
-    io::write_all(1, b", key ");
-    io::print_decimal(1, kk);
-    io::write_all(1, b", message ");
-    io::print_decimal(1, ll);
-    io::write_all(1, b": ");
+    text(b"digest ");
+    decimal(nn);
+    text(b", key ");
+    decimal(kk);
+    text(b", message ");
+    decimal(ll);
+    text(b": ");
     if nn > 66 {
         return missing();
     }
@@ -54,7 +58,7 @@ fn show(keys: &[u8], messages: &[u8], nn: u64, kk: u64, ll: u64) {
 }
 
 fn missing() {
-    io::write_all(1, b"not in the input\n");
+    text(b"not in the input\n");
 }
 
 fn show_digest(key: &[u8], message: &[u8], nn: usize) {
@@ -67,22 +71,8 @@ fn show_digest(key: &[u8], message: &[u8], nn: usize) {
 fn show_in(key: &[u8], message: &[u8], out: &mut [u8]) {
     let a = blake2b::digest(key, message, out);
     match a {
-        blake2b::Answer::Done => show_bytes(out),
-        blake2b::Answer::Refused => {
-            io::write_all(1, b"refused, 2");
-        }
+        blake2b::Answer::Done => hex(out),
+        blake2b::Answer::Refused => text(b"refused, 2"),
     }
-    io::write_all(1, b"\n");
-}
-
-fn show_bytes(bytes: &[u8]) {
-    let mut i: usize = 0;
-    while i < bytes.len() {
-        io::print_hex(1, wide(bytes[i]), 2);
-        i += 1;
-    }
-}
-
-fn wide(x: u8) -> u64 {
-    x as u64
+    text(b"\n");
 }

@@ -5,7 +5,9 @@ mod depots; // depots.rt: an input of `depot`
 mod scripts; // scripts.rt: a script of `calls`
 
 use libc::STDIN_FILENO;
-use libc::STDOUT_FILENO;
+use stdout::decimal;
+use stdout::hex;
+use stdout::text;
 
 fn main() {
     let mut shown = [0u8; 262_144];
@@ -45,26 +47,14 @@ fn one_case(place: u64, shown: &mut [u8]) -> bool {
 }
 
 fn line(place: u64, kind: &[u8], shown: &[u8]) {
-    io::print_decimal(STDOUT_FILENO, place);
-    io::write_all(STDOUT_FILENO, b" ");
-    io::write_all(STDOUT_FILENO, kind);
-    io::write_all(STDOUT_FILENO, b" ");
-    io::print_decimal(STDOUT_FILENO, shown.len() as u64);
-    io::write_all(STDOUT_FILENO, b" ");
+    decimal(place);
+    text(b" ");
+    text(kind);
+    text(b" ");
+    decimal(shown.len() as u64);
+    text(b" ");
     let mut digest = [0u8; 32];
     blake2b::digest(b"", shown, &mut digest);
     hex(&digest);
-    io::write_all(STDOUT_FILENO, b"\n");
-}
-
-fn hex(bytes: &[u8]) {
-    let mut i: usize = 0;
-    while i < bytes.len() {
-        io::print_hex(STDOUT_FILENO, wide(bytes[i]), 2);
-        i += 1;
-    }
-}
-
-fn wide(x: u8) -> u64 {
-    x as u64
+    text(b"\n");
 }

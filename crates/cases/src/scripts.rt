@@ -5,6 +5,7 @@ use host::Host;
 
 // Plays a script of so many bytes of standard input on areas of zeros; answers how many bytes `calls` writes, which stand at the front of
 // `shown`. What is behind a malformed item is read too, so that the next case begins behind it.
+#[rattlefmt::skip]
 pub fn play(many: u64, shown: &mut [u8]) -> usize
     ensures { λ r. ⌜ r ≤ length (now (shown .exit)) ⌝ }
 {
@@ -13,15 +14,7 @@ pub fn play(many: u64, shown: &mut [u8]) -> usize
     let mut stage = [0u8; 65_536];
     let mut input = [0u8; 65_536];
     let mut output = [0u8; 65_536];
-    items(
-        many,
-        &mut item,
-        &mut disk,
-        &mut stage,
-        &mut input,
-        &mut output,
-        shown,
-    )
+    items(many, &mut item, &mut disk, &mut stage, &mut input, &mut output, shown)
 }
 
 // Where a script stands: it may use `left` bytes more, and the reports of the items played end at `end`.
@@ -33,15 +26,8 @@ struct Stands {
 }
 
 // Item after item, up to one that is malformed or the end.
-fn items(
-    many: u64,
-    item: &mut [u8],
-    disk: &mut [u8],
-    stage: &mut [u8],
-    input: &mut [u8],
-    output: &mut [u8],
-    shown: &mut [u8],
-) -> usize
+#[rattlefmt::skip]
+fn items(many: u64, item: &mut [u8], disk: &mut [u8], stage: &mut [u8], input: &mut [u8], output: &mut [u8], shown: &mut [u8]) -> usize
     ensures { λ r. ⌜ r ≤ length (now (shown .exit)) ⌝ }
 {
     let mut host = script::no_host();
@@ -61,37 +47,17 @@ fn items(
 }
 
 // One item, from where the script stands.
+#[rattlefmt::skip]
 fn next(
-    left: u64,
-    end: usize,
-    item: &mut [u8],
-    host: Host,
-    disk: &mut [u8],
-    stage: &mut [u8],
-    input: &mut [u8],
-    output: &mut [u8],
-    shown: &mut [u8],
+    left: u64, end: usize, item: &mut [u8], host: Host,
+    disk: &mut [u8], stage: &mut [u8], input: &mut [u8], output: &mut [u8], shown: &mut [u8],
 ) -> Stands
     requires { ⌜ end ≤ length (now shown) ⌝ }
     ensures { λ r. ⌜ r .end ≤ length (now (shown .exit)) ⌝ }
 {
-    let played = script::play_next(
-        left,
-        item,
-        host,
-        disk,
-        stage,
-        input,
-        output,
-        &mut shown[end..],
-    );
+    let played = script::play_next(left, item, host, disk, stage, input, output, &mut shown[end..]);
     let after = played.host;
-    Stands {
-        fine: played.fine,
-        left: played.left,
-        end: further(end, played.written, shown.len()),
-        host: after,
-    }
+    Stands { fine: played.fine, left: played.left, end: further(end, played.written, shown.len()), host: after }
 }
 
 // A place so many bytes further on, within a length.

@@ -42,24 +42,12 @@ pub extern "C" fn candlebrood_root(bytes: &[u8], out: &mut [u8]) -> u64
 // an area of 8 bytes, takes how many bytes at the front of the output area are records, 0 where it was refused. 2 also where that area has
 // another length, and then all is as it was.
 #[no_mangle]
+#[rattlefmt::skip]
 pub extern "C" fn candlebrood_run(
     sector: u64,
-    init: u16,
-    memory: u16,
-    readbase: u16,
-    readlength: u16,
-    writebase: u16,
-    writelength: u16,
-    truncatebase: u16,
-    budget: u64,
-    ids: &[u8],
-    head: &[u8],
-    bytes: &[u8],
-    disk: &mut [u8],
-    stage: &mut [u8],
-    input: &mut [u8],
-    output: &mut [u8],
-    count: &mut [u8],
+    init: u16, memory: u16, readbase: u16, readlength: u16, writebase: u16, writelength: u16, truncatebase: u16,
+    budget: u64, ids: &[u8], head: &[u8], bytes: &[u8],
+    disk: &mut [u8], stage: &mut [u8], input: &mut [u8], output: &mut [u8], count: &mut [u8],
 ) -> u64
     ensures { λ r. ⌜ shown r (now (disk .exit)) (now (stage .exit)) (now (input .exit)) (now (output .exit)) (now (count .exit)) ≡
         played sector (priced init memory readbase readlength writebase writelength truncatebase)
@@ -69,27 +57,8 @@ pub extern "C" fn candlebrood_run(
     if count.len() != 8 {
         return 2;
     }
-    let prices = Prices {
-        init,
-        memory,
-        readbase,
-        readlength,
-        writebase,
-        writelength,
-        truncatebase,
-    };
-    let done = bench_program::run(
-        sector,
-        prices,
-        budget,
-        ids,
-        head,
-        bytes,
-        disk,
-        stage,
-        input,
-        output,
-    );
+    let prices = Prices { init, memory, readbase, readlength, writebase, writelength, truncatebase };
+    let done = bench_program::run(sector, prices, budget, ids, head, bytes, disk, stage, input, output);
     area::store(count, 0, 8, done.written);
     done.number
 }

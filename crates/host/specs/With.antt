@@ -10,49 +10,21 @@ use Rattle.host.specs.declared.Host.{Host}
 -- ---- of a host
 
 unfoldable pub withPlaces : Host → List Place → Host
-withPlaces h ps = record {
-  sector = h .sector;
-  disk = h .disk;
-  stage = h .stage;
-  places = ps;
-  program = h .program;
-  diskroots = h .diskroots;
-  stageroots = h .stageroots;
-}
+withPlaces h ps =
+    record { sector = h .sector; disk = h .disk; stage = h .stage; places = ps; program = h .program; diskroots = h .diskroots; stageroots = h .stageroots }
 
 unfoldable pub withProgram : Host → Program → Host
-withProgram h g = record {
-  sector = h .sector;
-  disk = h .disk;
-  stage = h .stage;
-  places = h .places;
-  program = g;
-  diskroots = h .diskroots;
-  stageroots = h .stageroots;
-}
+withProgram h g =
+    record { sector = h .sector; disk = h .disk; stage = h .stage; places = h .places; program = g; diskroots = h .diskroots; stageroots = h .stageroots }
 
 -- the roots kept beside the disk's slots, and beside the stage's
 unfoldable pub withDiskRoots : Host → List ℕ → Host
-withDiskRoots h l = record {
-  sector = h .sector;
-  disk = h .disk;
-  stage = h .stage;
-  places = h .places;
-  program = h .program;
-  diskroots = l;
-  stageroots = h .stageroots;
-}
+withDiskRoots h l =
+    record { sector = h .sector; disk = h .disk; stage = h .stage; places = h .places; program = h .program; diskroots = l; stageroots = h .stageroots }
 
 unfoldable pub withStageRoots : Host → List ℕ → Host
-withStageRoots h l = record {
-  sector = h .sector;
-  disk = h .disk;
-  stage = h .stage;
-  places = h .places;
-  program = h .program;
-  diskroots = h .diskroots;
-  stageroots = l;
-}
+withStageRoots h l =
+    record { sector = h .sector; disk = h .disk; stage = h .stage; places = h .places; program = h .program; diskroots = h .diskroots; stageroots = l }
 
 -- ---- of a place
 

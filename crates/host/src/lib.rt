@@ -36,14 +36,10 @@ pub struct Place {
 }
 
 // What instructions are charged.
+#[rattlefmt::skip]
 pub struct Prices {
-    pub init: u16,
-    pub memory: u16,
-    pub readbase: u16,
-    pub readlength: u16,
-    pub writebase: u16,
-    pub writelength: u16,
-    pub truncatebase: u16,
+    pub init: u16, pub memory: u16,
+    pub readbase: u16, pub readlength: u16, pub writebase: u16, pub writelength: u16, pub truncatebase: u16,
 }
 
 // What opening fixes; `room` is the output length.
@@ -56,12 +52,9 @@ pub struct Terms {
 
 // What instructions change: how many ran, the tally, the bytes written, the running size, and whether one failed. `staged[p]` is
 // the stage slot of position p, or NONE.
+#[rattlefmt::skip]
 pub struct Progress {
-    pub ran: u64,
-    pub tally: u64,
-    pub written: u64,
-    pub size: u64,
-    pub failed: bool,
+    pub ran: u64, pub tally: u64, pub written: u64, pub size: u64, pub failed: bool,
     pub staged: [u8; 64],
 }
 
@@ -116,18 +109,11 @@ impl Prices {
     // What every program is charged memory for, besides its data.
     pub const MEMORY: u64 = 1_048_576;
 
+    #[rattlefmt::skip]
     pub fn none() -> Prices
         ensures { λ r. ⌜ r ≡ noPrices ⌝ }
     {
-        Prices {
-            init: 0,
-            memory: 0,
-            readbase: 0,
-            readlength: 0,
-            writebase: 0,
-            writelength: 0,
-            truncatebase: 0,
-        }
+        Prices { init: 0, memory: 0, readbase: 0, readlength: 0, writebase: 0, writelength: 0, truncatebase: 0 }
     }
 }
 
@@ -155,18 +141,12 @@ impl Progress {
     // The stage slot of a position that is not staged.
     pub const NONE: u8 = 255;
 
+    #[rattlefmt::skip]
     pub fn none() -> Progress
         ensures { λ r. ⌜ r ≡ noProgress ⌝ }
     {
         let staged = [0u8; 64];
-        Progress {
-            ran: 0,
-            tally: 0,
-            written: 0,
-            size: 0,
-            failed: false,
-            staged,
-        }
+        Progress { ran: 0, tally: 0, written: 0, size: 0, failed: false, staged }
     }
 }
 
@@ -200,6 +180,7 @@ impl Host {
     pub const PLACES: usize = 8;
 
     // A host with so many sectors of that size that holds no contract and no open program.
+    #[rattlefmt::skip]
     pub fn bare(sector: u64, disk: u64, stage: u64) -> Host
         ensures { λ r. ⌜ r ≡ Says.bare sector disk stage ⌝ }
     {
@@ -208,15 +189,7 @@ impl Host {
         let program = Program::none();
         let diskroots = [0u8; 2048];
         let stageroots = [0u8; 512];
-        Host {
-            sector,
-            disk,
-            stage,
-            places,
-            program,
-            diskroots,
-            stageroots,
-        }
+        Host { sector, disk, stage, places, program, diskroots, stageroots }
     }
 }
 

@@ -173,14 +173,8 @@ fn sum_fits(one: u64, two: u64, limit: u64) -> bool
     one <= limit - two
 }
 
-fn progress_in_order(
-    z: u64,
-    disk: u64,
-    stage: u64,
-    places: [Place; 8],
-    t: Terms,
-    p: Progress,
-) -> bool
+#[rattlefmt::skip]
+fn progress_in_order(z: u64, disk: u64, stage: u64, places: [Place; 8], t: Terms, p: Progress) -> bool
     requires { ⌜ Size z ⌝ }
     requires { ⌜ disk ≤ 64 ⌝ }
     ensures { λ r. ⌜ r ≡ progressInOrder z disk stage places t p ⌝ }

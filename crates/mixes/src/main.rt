@@ -9,8 +9,10 @@ ghost use lib.ListN.{length};
 use machine::Host;
 use machine::Prices;
 use libc::STDIN_FILENO;
-use libc::STDOUT_FILENO;
 use sia::Number;
+use stdout::decimal;
+use stdout::hex;
+use stdout::text;
 
 // The bytes ahead of the visits.
 const AHEAD: usize = 96;
@@ -43,6 +45,7 @@ fn main() {
 }
 
 // A host of the largest areas, with the contract whose id stands in front.
+#[rattlefmt::skip]
 fn formed(front: &[u8; 96]) -> Course {
     let mut id = [0u8; 32];
     area::copy_between(front, 0, &mut id, 0, 32);
@@ -50,13 +53,7 @@ fn formed(front: &[u8; 96]) -> Course {
     let bare = made.host;
     let told = machine::form(bare, id);
     let host = told.host;
-    Course {
-        on: told.number == 0,
-        number: told.number,
-        visits: 0,
-        written: 0,
-        host,
-    }
+    Course { on: told.number == 0, number: told.number, visits: 0, written: 0, host }
 }
 
 // The visits of the input.
@@ -81,6 +78,7 @@ fn fewer(on: bool, left: u64) -> u64
 }
 
 // The next visit of the input.
+#[rattlefmt::skip]
 fn next(course: Course, front: &[u8; 96], disk: &mut [u8], output: &mut [u8]) -> Course {
     let Number::Is(times) = number() else {
         return stopped(course);
@@ -100,18 +98,7 @@ fn next(course: Course, front: &[u8; 96], disk: &mut [u8], output: &mut [u8]) ->
     let b = within(m, bytes.len());
     let mut stage = io::large_buffer();
     let mut input = io::large_buffer();
-    repeated(
-        course,
-        front,
-        times,
-        empty,
-        &head[0..h],
-        &bytes[0..b],
-        disk,
-        &mut stage,
-        &mut input,
-        output,
-    )
+    repeated(course, front, times, empty, &head[0..h], &bytes[0..b], disk, &mut stage, &mut input, output)
 }
 
 fn stopped(course: Course) -> Course {
@@ -157,48 +144,23 @@ fn within(n: u64, most: usize) -> usize
 }
 
 // One visit so many times.
+#[rattlefmt::skip]
 fn repeated(
-    start: Course,
-    front: &[u8; 96],
-    times: u64,
-    empty: u64,
-    head: &[u8],
-    bytes: &[u8],
-    disk: &mut [u8],
-    stage: &mut [u8],
-    input: &mut [u8],
-    output: &mut [u8],
+    start: Course, front: &[u8; 96], times: u64, empty: u64, head: &[u8], bytes: &[u8],
+    disk: &mut [u8], stage: &mut [u8], input: &mut [u8], output: &mut [u8],
 ) -> Course {
     let mut course = start;
     let mut left = fewer(start.on, times);
     while 0 < left {
-        course = visit(
-            course,
-            front,
-            empty,
-            head,
-            bytes,
-            disk,
-            stage,
-            input,
-            output,
-        );
+        course = visit(course, front, empty, head, bytes, disk, stage, input, output);
         left = fewer(course.on, left - 1);
     }
     course
 }
 
 // A program that is opened, given so many empty pieces, and given up; where it is refused, the visit is too.
-fn idle(
-    host: Host,
-    front: &[u8; 96],
-    empty: u64,
-    head: &[u8],
-    disk: &mut [u8],
-    stage: &mut [u8],
-    input: &mut [u8],
-    output: &mut [u8],
-) -> Host {
+#[rattlefmt::skip]
+fn idle(host: Host, front: &[u8; 96], empty: u64, head: &[u8], disk: &mut [u8], stage: &mut [u8], input: &mut [u8], output: &mut [u8]) -> Host {
     if empty == 0 {
         return host;
     }
@@ -211,14 +173,8 @@ fn idle(
 }
 
 // So many empty pieces, as long as they are accepted.
-fn waited(
-    start: Host,
-    empty: u64,
-    disk: &[u8],
-    stage: &mut [u8],
-    input: &mut [u8],
-    output: &mut [u8],
-) -> Host {
+#[rattlefmt::skip]
+fn waited(start: Host, empty: u64, disk: &[u8], stage: &mut [u8], input: &mut [u8], output: &mut [u8]) -> Host {
     let program = start.program;
     let terms = program.terms;
     let head = terms.head;
@@ -234,56 +190,24 @@ fn waited(
 }
 
 // The empty pieces, and then the visit itself.
+#[rattlefmt::skip]
 fn visit(
-    course: Course,
-    front: &[u8; 96],
-    empty: u64,
-    head: &[u8],
-    bytes: &[u8],
-    disk: &mut [u8],
-    stage: &mut [u8],
-    input: &mut [u8],
-    output: &mut [u8],
+    course: Course, front: &[u8; 96], empty: u64, head: &[u8], bytes: &[u8],
+    disk: &mut [u8], stage: &mut [u8], input: &mut [u8], output: &mut [u8],
 ) -> Course {
     let start = course.host;
     let host = idle(start, front, empty, head, disk, stage, input, output);
-    played(
-        host,
-        course.visits,
-        front,
-        head,
-        bytes,
-        disk,
-        stage,
-        input,
-        output,
-    )
+    played(host, course.visits, front, head, bytes, disk, stage, input, output)
 }
 
+#[rattlefmt::skip]
 fn played(
-    host: Host,
-    visits: u64,
-    front: &[u8; 96],
-    head: &[u8],
-    bytes: &[u8],
-    disk: &mut [u8],
-    stage: &mut [u8],
-    input: &mut [u8],
-    output: &mut [u8],
+    host: Host, visits: u64, front: &[u8; 96], head: &[u8], bytes: &[u8],
+    disk: &mut [u8], stage: &mut [u8], input: &mut [u8], output: &mut [u8],
 ) -> Course {
     let prices = prices_of(front);
     let budget = area::load(front, 32);
-    let done = bench_program::begin(
-        host,
-        prices,
-        budget,
-        head,
-        bytes,
-        disk,
-        stage,
-        input,
-        output,
-    );
+    let done = bench_program::begin(host, prices, budget, head, bytes, disk, stage, input, output);
     let after = done.host;
     Course {
         on: done.number == 0,
@@ -328,17 +252,13 @@ fn price(front: &[u8], at: usize) -> u16
     n as u16
 }
 
-fn text(words: &[u8]) {
-    io::write_all(STDOUT_FILENO, words);
-}
-
 // The line.
 fn show(end: Course, disk: &[u8], output: &[u8]) {
     text(b"visits ");
-    io::print_decimal(STDOUT_FILENO, end.visits);
+    decimal(end.visits);
     if end.number != 0 {
         text(b" refused ");
-        io::print_decimal(STDOUT_FILENO, end.number);
+        decimal(end.number);
     }
     text(b" disk ");
     show_digest(disk);
@@ -353,19 +273,7 @@ fn show_digest(bytes: &[u8]) {
     let mut digest = [0u8; 32];
     let answer = blake2b::digest(b"", bytes, &mut digest);
     match answer {
-        blake2b::Answer::Done => show_bytes(&digest),
+        blake2b::Answer::Done => hex(&digest),
         blake2b::Answer::Refused => text(b"refused"),
     }
-}
-
-fn show_bytes(bytes: &[u8]) {
-    let mut i: usize = 0;
-    while i < bytes.len() {
-        io::print_hex(STDOUT_FILENO, wide(bytes[i]), 2);
-        i += 1;
-    }
-}
-
-fn wide(x: u8) -> u64 {
-    x as u64
 }

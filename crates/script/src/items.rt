@@ -1,5 +1,6 @@
 // Each kind of item, and its call. An item is malformed where it lends more than an area has, or where a number does not fit: then no call
 // is made.
+ghost use mathlib.Core.Path.{_≡_};
 ghost use Prim.Native.Nat.{_+_, _≤_, _<_};
 ghost use lib.ListN.{length};
 use machine::Host;
@@ -10,40 +11,72 @@ use script_report::Made;
 const PROOF: usize = 131_072;
 
 fn malformed(host: Host) -> Made {
-    let rest = [0u8; 32];
-    Made {
-        fine: false,
-        number: 0,
-        tally: 0,
-        growth: 0,
-        more: 0,
-        rest,
-        host,
-    }
+    with_rest(false, 0, 0, 0, 0, [0u8; 32], host)
 }
 
 fn answered(number: u64, tally: u64, growth: i64, host: Host) -> Made {
-    let rest = [0u8; 32];
-    Made {
-        fine: true,
-        number,
-        tally,
-        growth,
-        more: 0,
-        rest,
-        host,
+    with_rest(true, number, tally, growth, 0, [0u8; 32], host)
+}
+
+// What a call on a host and its contracts answered, and what a call of a program did.
+fn made_of(made: machine::Made) -> Made {
+    let after = made.host;
+    answered(made.number, 0, 0, after)
+}
+
+fn told(answer: machine::Answer) -> Made {
+    let after = answer.host;
+    answered(answer.number, answer.tally, 0, after)
+}
+
+#[rattlefmt::skip]
+fn with_rest(fine: bool, number: u64, tally: u64, growth: i64, more: usize, rest: [u8; 32], host: Host) -> Made {
+    Made { fine, number, tally, growth, more, rest, host }
+}
+
+// The lengths of two areas that an item lends; where they do not fit, none is.
+struct Lent {
+    fits: bool,
+    one: usize,
+    two: usize,
+}
+
+fn none_lent() -> Lent
+    ensures { λ r. ⌜ (r .one ≡ 0) × (r .two ≡ 0) ⌝ }
+{
+    Lent {
+        fits: false,
+        one: 0,
+        two: 0,
+    }
+}
+
+// The two lengths from byte `at` on, of areas that have so many bytes.
+fn lends(item: &[u8], at: usize, one: usize, two: usize) -> Lent
+    requires { ⌜ at ≤ 17 ⌝ }
+    ensures { λ r. ⌜ (r .one ≤ one) × (r .two ≤ two) ⌝ }
+{
+    if item.len() < at + 16 {
+        return none_lent();
+    }
+    let first = area::load(item, at);
+    let second = area::load(item, at + 8);
+    if (one as u64) < first {
+        return none_lent();
+    }
+    if (two as u64) < second {
+        return none_lent();
+    }
+    Lent {
+        fits: true,
+        one: first as usize,
+        two: second as usize,
     }
 }
 
 // Makes the call of an item that is whole: a head, a piece or a proof stands at its end.
-pub fn make(
-    item: &[u8],
-    host: Host,
-    disk: &mut [u8],
-    stage: &mut [u8],
-    input: &mut [u8],
-    output: &mut [u8],
-) -> Made {
+#[rattlefmt::skip]
+pub fn make(item: &[u8], host: Host, disk: &mut [u8], stage: &mut [u8], input: &mut [u8], output: &mut [u8]) -> Made {
     if item.len() < 1 {
         return malformed(host);
     }
@@ -86,76 +119,39 @@ fn bytes_at(item: &[u8], at: usize) -> [u8; 32]
 // ---- contracts
 
 // Disk length, stage length, fill: a host of the usual sector size, 4,096.
-fn fresh_usual(
-    item: &[u8],
-    host: Host,
-    disk: &mut [u8],
-    stage: &mut [u8],
-    input: &mut [u8],
-    output: &mut [u8],
-) -> Made {
+#[rattlefmt::skip]
+fn fresh_usual(item: &[u8], host: Host, disk: &mut [u8], stage: &mut [u8], input: &mut [u8], output: &mut [u8]) -> Made {
     if item.len() < 18 {
         return malformed(host);
     }
-    let sectors = area::load(item, 1);
-    let copies = area::load(item, 9);
-    fresh(
-        Host::LEAST,
-        sectors,
-        copies,
-        item[17],
-        disk,
-        stage,
-        input,
-        output,
-    )
+    fresh(Host::LEAST, item, 1, disk, stage, input, output)
 }
 
 // Sector size, disk length, stage length, fill.
-fn fresh_of(
-    item: &[u8],
-    host: Host,
-    disk: &mut [u8],
-    stage: &mut [u8],
-    input: &mut [u8],
-    output: &mut [u8],
-) -> Made {
+#[rattlefmt::skip]
+fn fresh_of(item: &[u8], host: Host, disk: &mut [u8], stage: &mut [u8], input: &mut [u8], output: &mut [u8]) -> Made {
     if item.len() < 26 {
         return malformed(host);
     }
-    let sector = area::load(item, 1);
-    let sectors = area::load(item, 9);
-    let copies = area::load(item, 17);
-    fresh(
-        sector,
-        sectors,
-        copies,
-        item[25],
-        disk,
-        stage,
-        input,
-        output,
-    )
+    fresh(area::load(item, 1), item, 9, disk, stage, input, output)
 }
 
-// Makes the host for areas of these lengths, and fills all four areas with a byte.
+// Makes the host for areas of the lengths that stand from byte `at` on, and fills all four areas with the byte behind them.
+#[rattlefmt::skip]
 fn fresh(
-    sector: u64,
-    sectors: u64,
-    copies: u64,
-    byte: u8,
-    disk: &mut [u8],
-    stage: &mut [u8],
-    input: &mut [u8],
-    output: &mut [u8],
-) -> Made {
-    let made = machine::fresh(sector, sectors, copies);
+    sector: u64, item: &[u8], at: usize, disk: &mut [u8], stage: &mut [u8], input: &mut [u8], output: &mut [u8],
+) -> Made
+    requires { ⌜ (at ≤ 9) × (at + 17 ≤ length (now item)) ⌝ }
+{
+    fill_all(item[at + 16], disk, stage, input, output);
+    made_of(machine::fresh(sector, area::load(item, at), area::load(item, at + 8)))
+}
+
+fn fill_all(byte: u8, disk: &mut [u8], stage: &mut [u8], input: &mut [u8], output: &mut [u8]) {
     area::fill(disk, 0, disk.len(), byte);
     area::fill(stage, 0, stage.len(), byte);
     area::fill(input, 0, input.len(), byte);
     area::fill(output, 0, output.len(), byte);
-    let after = made.host;
-    answered(made.number, 0, 0, after)
 }
 
 fn form(item: &[u8], host: Host) -> Made {
@@ -163,9 +159,7 @@ fn form(item: &[u8], host: Host) -> Made {
         return malformed(host);
     }
     let id = bytes_at(item, 1);
-    let made = machine::form(host, id);
-    let after = made.host;
-    answered(made.number, 0, 0, after)
+    made_of(machine::form(host, id))
 }
 
 fn drop(item: &[u8], host: Host) -> Made {
@@ -173,9 +167,7 @@ fn drop(item: &[u8], host: Host) -> Made {
         return malformed(host);
     }
     let id = bytes_at(item, 1);
-    let made = machine::drop(host, id);
-    let after = made.host;
-    answered(made.number, 0, 0, after)
+    made_of(machine::drop(host, id))
 }
 
 // ---- opening
@@ -225,86 +217,48 @@ fn open(item: &[u8], host: Host) -> Made {
     let room = area::load(item, 1);
     let budget = area::load(item, 9);
     let prices = prices_of(item);
-    let made = machine::open(host, &item[81..], budget, prices, room);
-    let after = made.host;
-    answered(made.number, made.tally, 0, after)
+    told(machine::open(host, &item[81..], budget, prices, room))
 }
 
 // ---- an open program
 
 // Lent lengths of disk, stage, input and output; piece length; piece.
-fn piece(
-    item: &[u8],
-    host: Host,
-    disk: &[u8],
-    stage: &mut [u8],
-    input: &mut [u8],
-    output: &mut [u8],
-) -> Made {
+#[rattlefmt::skip]
+fn piece(item: &[u8], host: Host, disk: &[u8], stage: &mut [u8], input: &mut [u8], output: &mut [u8]) -> Made {
     if item.len() < 41 {
         return malformed(host);
     }
-    let d = area::load(item, 1);
-    let s = area::load(item, 9);
-    let i = area::load(item, 17);
-    let o = area::load(item, 25);
-    if (disk.len() as u64) < d {
+    let sectors = lends(item, 1, disk.len(), stage.len());
+    let streams = lends(item, 17, input.len(), output.len());
+    if !sectors.fits {
         return malformed(host);
     }
-    if (stage.len() as u64) < s {
+    if !streams.fits {
         return malformed(host);
     }
-    if (input.len() as u64) < i {
-        return malformed(host);
-    }
-    if (output.len() as u64) < o {
-        return malformed(host);
-    }
-    let sectors = d as usize;
-    let copies = s as usize;
-    let data = i as usize;
-    let room = o as usize;
-    let made = machine::piece(
-        host,
-        &disk[0..sectors],
-        &mut stage[0..copies],
-        &mut input[0..data],
-        &mut output[0..room],
-        &item[41..],
-    );
-    let after = made.host;
-    answered(made.number, made.tally, 0, after)
+    let d = sectors.one;
+    let s = sectors.two;
+    let i = streams.one;
+    let o = streams.two;
+    told(machine::piece(host, &disk[0..d], &mut stage[0..s], &mut input[0..i], &mut output[0..o], &item[41..]))
 }
 
 // Lent lengths of disk and output.
 fn interrupt(item: &[u8], host: Host, disk: &[u8], output: &mut [u8]) -> Made {
-    if item.len() < 17 {
+    let areas = lends(item, 1, disk.len(), output.len());
+    if !areas.fits {
         return malformed(host);
     }
-    let d = area::load(item, 1);
-    let o = area::load(item, 9);
-    if (disk.len() as u64) < d {
-        return malformed(host);
-    }
-    if (output.len() as u64) < o {
-        return malformed(host);
-    }
-    let sectors = d as usize;
-    let room = o as usize;
-    let made = machine::interrupt(host, &disk[0..sectors], &mut output[0..room]);
-    let after = made.host;
-    answered(made.number, made.tally, 0, after)
+    let d = areas.one;
+    let o = areas.two;
+    told(machine::interrupt(host, &disk[0..d], &mut output[0..o]))
 }
 
 // ---- closing
 
 // Lent lengths of disk and stage.
 fn give_up(item: &[u8], host: Host, disk: &mut [u8], stage: &[u8]) -> Made {
-    if item.len() < 17 {
-        return malformed(host);
-    }
-    let root = [0u8; 32];
-    close(item, host, disk, stage, false, 0, root)
+    close(item, host, disk, stage, false, 0, [0u8; 32])
 }
 
 // Lent lengths of disk and stage; size; root.
@@ -317,83 +271,41 @@ fn agree(item: &[u8], host: Host, disk: &mut [u8], stage: &[u8]) -> Made {
     close(item, host, disk, stage, true, size, root)
 }
 
-fn close(
-    item: &[u8],
-    host: Host,
-    disk: &mut [u8],
-    stage: &[u8],
-    agreed: bool,
-    size: u64,
-    root: [u8; 32],
-) -> Made
-    requires { ⌜ 17 ≤ length (now item) ⌝ }
-{
-    let d = area::load(item, 1);
-    let s = area::load(item, 9);
-    if (disk.len() as u64) < d {
+#[rattlefmt::skip]
+fn close(item: &[u8], host: Host, disk: &mut [u8], stage: &[u8], agreed: bool, size: u64, root: [u8; 32]) -> Made {
+    let areas = lends(item, 1, disk.len(), stage.len());
+    if !areas.fits {
         return malformed(host);
     }
-    if (stage.len() as u64) < s {
-        return malformed(host);
-    }
-    let sectors = d as usize;
-    let copies = s as usize;
-    let made = machine::close(
-        host,
-        &mut disk[0..sectors],
-        &stage[0..copies],
-        agreed,
-        size,
-        root,
-    );
+    let d = areas.one;
+    let s = areas.two;
+    let made = machine::close(host, &mut disk[0..d], &stage[0..s], agreed, size, root);
     let after = made.host;
     answered(made.number, made.tally, made.growth, after)
 }
 
 // Lent lengths of disk and stage.
 fn reached<'a>(item: &[u8], host: Host, disk: &'a [u8], stage: &'a [u8]) -> Made {
-    if item.len() < 17 {
+    let areas = lends(item, 1, disk.len(), stage.len());
+    if !areas.fits {
         return malformed(host);
     }
-    let d = area::load(item, 1);
-    let s = area::load(item, 9);
-    if (disk.len() as u64) < d {
-        return malformed(host);
-    }
-    if (stage.len() as u64) < s {
-        return malformed(host);
-    }
-    let sectors = d as usize;
-    let copies = s as usize;
-    let made = machine::reached(host, &disk[0..sectors], &stage[0..copies]);
-    let rest = made.root;
-    Made {
-        fine: true,
-        number: made.number,
-        tally: made.size,
-        growth: 0,
-        more: 32,
-        rest,
-        host,
-    }
+    let d = areas.one;
+    let s = areas.two;
+    let made = machine::reached(host, &disk[0..d], &stage[0..s]);
+    let root = made.root;
+    with_rest(true, made.number, made.size, 0, 32, root, host)
 }
 
 // Lent lengths of disk and stage: whether the host is sound, as a number.
 fn sound(item: &[u8], host: Host, disk: &[u8], stage: &[u8]) -> Made {
-    if item.len() < 17 {
+    let areas = lends(item, 1, disk.len(), stage.len());
+    if !areas.fits {
         return malformed(host);
     }
-    let d = area::load(item, 1);
-    let s = area::load(item, 9);
-    if (disk.len() as u64) < d {
-        return malformed(host);
-    }
-    if (stage.len() as u64) < s {
-        return malformed(host);
-    }
-    let sectors = d as usize;
-    let copies = s as usize;
-    let asked = machine::sound(host, &disk[0..sectors], &stage[0..copies]);
+    let d = areas.one;
+    let s = areas.two;
+    let asked = machine::sound(host, &disk[0..d], &stage[0..s]);
     answered(asked.number, as_number(asked.sound), 0, host)
 }
 
@@ -408,15 +320,7 @@ fn locate(item: &[u8], host: Host) -> Made {
     area::store(&mut rest, 0, 8, found.place);
     area::store(&mut rest, 8, 8, found.position);
     area::store(&mut rest, 16, 8, as_number(found.staged));
-    Made {
-        fine: true,
-        number: found.number,
-        tally: as_number(found.found),
-        growth: 0,
-        more: 24,
-        rest,
-        host,
-    }
+    with_rest(true, found.number, as_number(found.found), 0, 24, rest, host)
 }
 
 // ---- the checker

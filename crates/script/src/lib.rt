@@ -43,42 +43,21 @@ fn malformed(left: u64, host: Host) -> Played
 
 // Reads the next item of a script that may use `left` bytes more of standard input, and plays it. Where none is left, or none that is whole,
 // it is malformed.
+#[rattlefmt::skip]
 pub fn play_next(
-    left: u64,
-    item: &mut [u8],
-    host: Host,
-    disk: &mut [u8],
-    stage: &mut [u8],
-    input: &mut [u8],
-    output: &mut [u8],
-    report: &mut [u8],
+    left: u64, item: &mut [u8], host: Host, disk: &mut [u8], stage: &mut [u8], input: &mut [u8], output: &mut [u8], report: &mut [u8],
 ) -> Played
     ensures { λ r. ⌜ (r .left ≤ left) × (r .written ≤ length (now (report .entry))) ⌝ }
 {
     let came = reader::next_from(left, item);
     let n = came.length;
-    play(
-        came.left,
-        &item[0..n],
-        host,
-        disk,
-        stage,
-        input,
-        output,
-        report,
-    )
+    play(came.left, &item[0..n], host, disk, stage, input, output, report)
 }
 
 // Plays the item that `item` begins with. The areas that its call lends are front parts of these.
+#[rattlefmt::skip]
 fn play(
-    left: u64,
-    item: &[u8],
-    host: Host,
-    disk: &mut [u8],
-    stage: &mut [u8],
-    input: &mut [u8],
-    output: &mut [u8],
-    report: &mut [u8],
+    left: u64, item: &[u8], host: Host, disk: &mut [u8], stage: &mut [u8], input: &mut [u8], output: &mut [u8], report: &mut [u8],
 ) -> Played
     ensures { λ r. ⌜ (r .left ≡ left) × (r .written ≤ length (now (report .entry))) ⌝ }
 {

@@ -76,14 +76,14 @@ pub fn poked(host: Host, field: u64, i: u64, j: u64, value: u64) -> Host {
         1 => after.stage = value,
         25 => after.sector = value,
         26 => {
-            let roots = host.diskroots;
-            let bytes = in_2048(roots, root_byte(i, j), value);
-            after.diskroots = bytes;
+            let mut roots = host.diskroots;
+            put_byte(&mut roots, root_byte(i, j), value);
+            after.diskroots = roots;
         }
         27 => {
-            let roots = host.stageroots;
-            let bytes = in_512(roots, root_byte(i, j), value);
-            after.stageroots = bytes;
+            let mut roots = host.stageroots;
+            put_byte(&mut roots, root_byte(i, j), value);
+            after.stageroots = roots;
         }
         2..=5 => {
             let places = host.places;
@@ -126,15 +126,15 @@ fn in_place(place: Place, field: u64, j: u64, value: u64) -> Place {
     match field {
         2 => p.held = value == 1,
         3 => {
-            let id = p.id;
-            let bytes = in_32(id, j, value);
-            p.id = bytes;
+            let mut id = p.id;
+            put_byte(&mut id, j, value);
+            p.id = id;
         }
         4 => p.size = value,
         _ => {
-            let slots = p.slots;
-            let bytes = in_64(slots, j, value);
-            p.slots = bytes;
+            let mut slots = p.slots;
+            put_byte(&mut slots, j, value);
+            p.slots = slots;
         }
     }
     p
@@ -168,9 +168,9 @@ fn in_progress(progress: Progress, field: u64, i: u64, value: u64) -> Progress {
         11 => p.failed = value == 1,
         12 => p.size = value,
         _ => {
-            let staged = p.staged;
-            let bytes = in_64(staged, i, value);
-            p.staged = bytes;
+            let mut staged = p.staged;
+            put_byte(&mut staged, i, value);
+            p.staged = staged;
         }
     }
     p
@@ -213,9 +213,9 @@ fn in_head(head: Head, field: u64, i: u64, j: u64, value: u64) -> Head {
     let mut h = head;
     match field {
         16 => {
-            let id = h.contract;
-            let bytes = in_32(id, i, value);
-            h.contract = bytes;
+            let mut id = h.contract;
+            put_byte(&mut id, i, value);
+            h.contract = id;
         }
         17 => h.count = value,
         18 => h.length = value,
@@ -249,9 +249,9 @@ fn in_instruction(instruction: Instruction, field: u64, j: u64, value: u64) -> I
     let mut x = instruction;
     match field {
         19 => {
-            let name = x.name;
-            let bytes = in_16(name, j, value);
-            x.name = bytes;
+            let mut name = x.name;
+            put_byte(&mut name, j, value);
+            x.name = name;
         }
         20 => x.count = value,
         23 => x.proof = value == 1,
@@ -281,42 +281,8 @@ fn in_operands(list: [Operand; 4], field: u64, j: u64, value: u64) -> [Operand; 
 
 // ---- one byte of an array
 
-fn in_16(bytes: [u8; 16], i: u64, value: u64) -> [u8; 16] {
-    let mut b = bytes;
-    if i < 16 {
-        b[i as usize] = low8(value);
+fn put_byte(bytes: &mut [u8], i: u64, value: u64) {
+    if i < bytes.len() as u64 {
+        bytes[i as usize] = low8(value);
     }
-    b
-}
-
-fn in_32(bytes: [u8; 32], i: u64, value: u64) -> [u8; 32] {
-    let mut b = bytes;
-    if i < 32 {
-        b[i as usize] = low8(value);
-    }
-    b
-}
-
-fn in_64(bytes: [u8; 64], i: u64, value: u64) -> [u8; 64] {
-    let mut b = bytes;
-    if i < 64 {
-        b[i as usize] = low8(value);
-    }
-    b
-}
-
-fn in_512(bytes: [u8; 512], i: u64, value: u64) -> [u8; 512] {
-    let mut b = bytes;
-    if i < 512 {
-        b[i as usize] = low8(value);
-    }
-    b
-}
-
-fn in_2048(bytes: [u8; 2048], i: u64, value: u64) -> [u8; 2048] {
-    let mut b = bytes;
-    if i < 2048 {
-        b[i as usize] = low8(value);
-    }
-    b
 }

@@ -20,14 +20,8 @@ pub struct Made {
 }
 
 // A report at the front of an area; answers its length.
-pub fn write(
-    made: Made,
-    disk: &[u8],
-    stage: &[u8],
-    input: &[u8],
-    output: &[u8],
-    report: &mut [u8],
-) -> usize
+#[rattlefmt::skip]
+pub fn write(made: Made, disk: &[u8], stage: &[u8], input: &[u8], output: &[u8], report: &mut [u8]) -> usize
     requires { ⌜ 5320 ≤ length (now report) ⌝ }
     ensures { λ r. ⌜ r ≤ 5320 ⌝ }
 {

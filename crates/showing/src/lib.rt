@@ -7,9 +7,9 @@ mod lines; // lines.rt: what is printed of a record
 mod parts; // parts.rt: where the parts of a record stand
 mod words; // words.rt: numbers in words
 
-use lines::decimal;
-use lines::text;
 use parts::Parts;
+use stdout::decimal;
+use stdout::text;
 
 // Shows one input, which may use at most `left` bytes of standard input; all of them are read.
 pub fn show_from(left: u64) {

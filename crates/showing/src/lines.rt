@@ -2,31 +2,13 @@
 ghost use Prim.Native.Nat.{_≤_};
 ghost use lib.ListN.{length};
 use crate::words;
-use libc::STDOUT_FILENO;
 use machine_rules::class::Class;
+use stdout::decimal;
+use stdout::hex;
+use stdout::text;
 
 // The most bytes of an output that are shown.
 const SHOWN: usize = 64;
-
-pub fn text(words: &[u8]) {
-    io::write_all(STDOUT_FILENO, words);
-}
-
-pub fn decimal(n: u64) {
-    io::print_decimal(STDOUT_FILENO, n);
-}
-
-fn wide(x: u8) -> u64 {
-    x as u64
-}
-
-fn hex(bytes: &[u8]) {
-    let mut i: usize = 0;
-    while i < bytes.len() {
-        io::print_hex(STDOUT_FILENO, wide(bytes[i]), 2);
-        i += 1;
-    }
-}
 
 // A record by its place, the bytes ahead of its hashes, the hashes, and its output.
 pub fn record_line(place: u64, ahead: &[u8], hashes: &[u8], output: &[u8])

@@ -9,29 +9,21 @@ const AHEAD: usize = 64;
 
 // A record's hashes stand from `hashes` to `middle`, its output from `output` to `end`. A fault says what is missing (1: the bytes ahead of
 // the hashes; 2: hashes; 3: the output's count; 4: output), and `from` where that begins.
+#[rattlefmt::skip]
 pub struct Parts {
-    pub fault: u64,
-    pub from: usize,
-    pub hashes: usize,
-    pub middle: usize,
-    pub output: usize,
-    pub end: usize,
+    pub fault: u64, pub from: usize,
+    pub hashes: usize, pub middle: usize, pub output: usize, pub end: usize,
 }
 
+#[rattlefmt::skip]
 fn missing(fault: u64, from: usize) -> Parts
     ensures { λ r. ⌜ r ≡ lacking fault from ⌝ }
 {
-    Parts {
-        fault,
-        from,
-        hashes: 0,
-        middle: 0,
-        output: 0,
-        end: 0,
-    }
+    Parts { fault, from, hashes: 0, middle: 0, output: 0, end: 0 }
 }
 
 // The record that begins at `at`.
+#[rattlefmt::skip]
 pub fn parts_at(input: &[u8], at: usize) -> Parts
     requires { ⌜ at ≤ length (now input) ⌝ }
     ensures { λ r. ⌜ r ≡ partsAt (now (input .entry)) at ⌝ }
@@ -54,12 +46,5 @@ pub fn parts_at(input: &[u8], at: usize) -> Parts
     if ((input.len() - output) as u64) < length {
         return missing(4, middle);
     }
-    Parts {
-        fault: 0,
-        from: at,
-        hashes,
-        middle,
-        output,
-        end: output + length as usize,
-    }
+    Parts { fault: 0, from: at, hashes, middle, output, end: output + length as usize }
 }

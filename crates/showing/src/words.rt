@@ -1,5 +1,5 @@
 // Numbers in words, as document 01's tables have them, and document 02.
-use crate::lines::text;
+use stdout::text;
 
 // A failed instruction's; nothing where its class says all that there is to say.
 pub fn failure(number: u64) {

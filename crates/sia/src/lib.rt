@@ -73,18 +73,14 @@ impl Instruction {
     // The largest operand count.
     pub const OPERANDS: u64 = 4;
 
+    #[rattlefmt::skip]
     pub fn empty() -> Instruction
         ensures { λ r. ⌜ r ≡ noInstruction ⌝ }
     {
         let name = [0u8; 16];
         let none = Operand::empty();
         let operands = [none; 4];
-        Instruction {
-            name,
-            count: 0,
-            operands,
-            proof: false,
-        }
+        Instruction { name, count: 0, operands, proof: false }
     }
 }
 
@@ -95,18 +91,14 @@ impl Head {
 
     pub const READ_ONLY: [u8; 32] = *b"ReadOnly\0\0\0\0\0\0\0\0\0\0\0\0\0\0\0\0\0\0\0\0\0\0\0\0";
 
+    #[rattlefmt::skip]
     pub fn empty() -> Head
         ensures { λ r. ⌜ r ≡ noHead ⌝ }
     {
         let contract = [0u8; 32];
         let none = Instruction::empty();
         let instructions = [none; 32];
-        Head {
-            contract,
-            count: 0,
-            instructions,
-            length: 0,
-        }
+        Head { contract, count: 0, instructions, length: 0 }
     }
 }
 

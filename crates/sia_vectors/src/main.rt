@@ -2,12 +2,14 @@
 // each: the reader's number, and, where that is 0, the head, with one entry past each count, and what the writer makes of it: over an
 // area that is longer, over one that is a byte too short, and of the same head with a count or the length above its limit.
 use libc::STDIN_FILENO;
-use libc::STDOUT_FILENO;
 use sia::Head;
 use sia::Instruction;
 use sia::Number;
 use sia::Op;
 use sia::Operand;
+use stdout::decimal;
+use stdout::hex;
+use stdout::text;
 
 // What an area holds before the writer is called.
 const BEFORE: u8 = 0xaa;
@@ -50,26 +52,6 @@ fn case_of(bytes: &mut [u8], n: usize, out: &mut [u8], fresh: &mut [u8]) -> bool
     area::fill(fresh, 0, fresh.len(), BEFORE);
     show(&bytes[0..n], out, &*fresh);
     true
-}
-
-fn text(words: &[u8]) {
-    io::write_all(STDOUT_FILENO, words);
-}
-
-fn decimal(n: u64) {
-    io::print_decimal(STDOUT_FILENO, n);
-}
-
-fn hex(byte: u8) {
-    io::print_hex(STDOUT_FILENO, byte as u64, 2);
-}
-
-fn hexes(bytes: &[u8]) {
-    let mut i: usize = 0;
-    while i < bytes.len() {
-        hex(bytes[i]);
-        i += 1;
-    }
 }
 
 // 1 for yes, 0 for no.
@@ -130,7 +112,7 @@ fn is_blank(x: Instruction) -> bool {
 fn show_head(head: Head) {
     let id = head.contract;
     text(b" ");
-    hexes(&id);
+    hex(&id);
     text(b" read-only ");
     answer(sia::is_read_only(id));
     text(b" count ");
@@ -171,7 +153,7 @@ fn show_instruction(x: Instruction) {
     text(b" [");
     decimal(op_number(sia::op_of(name)));
     text(b" ");
-    hexes(&name);
+    hex(&name);
     text(b" ");
     decimal(x.count);
     show_operand(list[0]);

@@ -26,16 +26,8 @@ struct Built {
 }
 
 // The root over the n leaves from `at` on, from the segments of the range and the hashes from byte p on.
-fn rebuild(
-    bytes: &[u8],
-    given: &[u8],
-    at: usize,
-    n: usize,
-    depth: usize,
-    first: usize,
-    end: usize,
-    p: usize,
-) -> Built
+#[rattlefmt::skip]
+fn rebuild(bytes: &[u8], given: &[u8], at: usize, n: usize, depth: usize, first: usize, end: usize, p: usize) -> Built
     requires { ⌜ Rebuilt (now bytes) (now given) at n depth first end p ⌝ }
     ensures { λ r. ⌜ (r .next ≡ p + 32 * hashes depth at n first end)
         × (r .root ≡ rebuilt depth at n first end (leafOf false (now (bytes .entry))) (now (given .entry)) p) ⌝ }
@@ -69,14 +61,8 @@ fn rebuild(
 
 // Whether the bytes are the segments from first up to end, of so many whose root is given, as the hashes prove: the walk rebuilds the
 // root and uses up all hash bytes. A count of 0 or above the limit, or a length or a range that is not as stated: no.
-pub fn check(
-    root: &[u8],
-    count: usize,
-    first: usize,
-    end: usize,
-    bytes: &[u8],
-    hashes: &[u8],
-) -> bool
+#[rattlefmt::skip]
+pub fn check(root: &[u8], count: usize, first: usize, end: usize, bytes: &[u8], hashes: &[u8]) -> bool
     ensures { λ r. ⌜ r ≡ verdict (now (root .entry)) count first end (now (bytes .entry)) (now (hashes .entry)) ⌝ }
 {
     if count < 1 {

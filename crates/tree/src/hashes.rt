@@ -9,17 +9,8 @@ ghost use Rattle.tree.specs.Asks.{Written};
 use crate::walks;
 
 // Lays the hashes that prove the range, of the n leaves from `at` on, over out from byte p on, and answers where they end.
-fn walk(
-    bytes: &[u8],
-    roots: bool,
-    at: usize,
-    n: usize,
-    depth: usize,
-    first: usize,
-    end: usize,
-    out: &mut [u8],
-    p: usize,
-) -> usize
+#[rattlefmt::skip]
+fn walk(bytes: &[u8], roots: bool, at: usize, n: usize, depth: usize, first: usize, end: usize, out: &mut [u8], p: usize) -> usize
     requires { ⌜ Written roots (now bytes) at n depth first end (now out) p ⌝ }
     ensures { λ r. ⌜ (r ≡ p + 32 * hashes depth at n first end)
         × (now (out .exit) ≡ put (now (out .entry)) p (Says.walk depth at n first end (leafOf roots (now (bytes .entry))))) ⌝ }
@@ -43,15 +34,8 @@ fn walk(
 }
 
 // Lays those that prove the range of all n leaves.
-pub fn write(
-    bytes: &[u8],
-    roots: bool,
-    n: usize,
-    first: usize,
-    end: usize,
-    out: &mut [u8],
-    p: usize,
-) -> usize
+#[rattlefmt::skip]
+pub fn write(bytes: &[u8], roots: bool, n: usize, first: usize, end: usize, out: &mut [u8], p: usize) -> usize
     requires { ⌜ Written roots (now bytes) 0 n 64 first end (now out) p ⌝ }
     ensures { λ r. ⌜ (r ≡ p + 32 * hashes 64 0 n first end)
         × (now (out .exit) ≡ put (now (out .entry)) p (Says.walk 64 0 n first end (leafOf roots (now (bytes .entry))))) ⌝ }

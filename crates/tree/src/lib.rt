@@ -46,37 +46,27 @@ impl Counted {
 }
 
 // The root of whole segments; 2 where the bytes are not whole segments.
+#[rattlefmt::skip]
 pub fn root(bytes: &[u8]) -> Rooted
     ensures { λ r. ⌜ rootGiven r ≡ rooted (now (bytes .entry)) ⌝ }
 {
     if bytes.len() % 64 != 0 {
-        return Rooted {
-            answer: Answer::Refused,
-            root: [0u8; 32],
-        };
+        return Rooted { answer: Answer::Refused, root: [0u8; 32] };
     }
     let root = walks::root(bytes, false, bytes.len() / 64);
-    Rooted {
-        answer: Answer::Done,
-        root,
-    }
+    Rooted { answer: Answer::Done, root }
 }
 
 // The root over parts, from the parts' 32-byte roots; 2 where they are not whole.
+#[rattlefmt::skip]
 pub fn join(roots: &[u8]) -> Rooted
     ensures { λ r. ⌜ rootGiven r ≡ joined (now (roots .entry)) ⌝ }
 {
     if roots.len() % 32 != 0 {
-        return Rooted {
-            answer: Answer::Refused,
-            root: [0u8; 32],
-        };
+        return Rooted { answer: Answer::Refused, root: [0u8; 32] };
     }
     let root = walks::root(roots, true, roots.len() / 32);
-    Rooted {
-        answer: Answer::Done,
-        root,
-    }
+    Rooted { answer: Answer::Done, root }
 }
 
 // How many hashes prove the range of so many segments; 2 where first < end ≤ segments is not so.

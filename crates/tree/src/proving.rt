@@ -33,14 +33,8 @@ pub fn prove(bytes: &[u8], first: usize, end: usize, out: &mut [u8]) -> Counted
 // The proof of a range of the segments of part `at`, counted within the part, in the tree over all parts, whose roots are given; the part
 // is a power of two of segments, and its own root is not read. It is written to the front of `out`; the rest of it stays. 2 where the
 // roots are not whole, `at` is the number of none of them, the part or the range is not as stated, or the hashes do not fit.
-pub fn prove_in(
-    roots: &[u8],
-    at: usize,
-    part: &[u8],
-    first: usize,
-    end: usize,
-    out: &mut [u8],
-) -> Counted
+#[rattlefmt::skip]
+pub fn prove_in(roots: &[u8], at: usize, part: &[u8], first: usize, end: usize, out: &mut [u8]) -> Counted
     ensures { λ r. ⌜ left r (now (out .exit)) ≡ provedIn (now (roots .entry)) at (now (part .entry)) first end (now (out .entry)) ⌝ }
 {
     if !asked::provable_in(roots, at, part, first, end) {

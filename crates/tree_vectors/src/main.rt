@@ -4,7 +4,9 @@
 ghost use Prim.Native.Nat.{_+_, _≤_};
 ghost use lib.ListN.{length};
 use libc::STDIN_FILENO;
-use libc::STDOUT_FILENO;
+use stdout::decimal;
+use stdout::hex;
+use stdout::text;
 
 // The counts of segments whose roots and proofs are written.
 const COUNTS: [usize; 12] = [1, 2, 3, 5, 7, 64, 65, 128, 192, 200, 320, 4096];
@@ -17,26 +19,18 @@ fn fill(bytes: &mut [u8]) {
     }
 }
 
-fn word(text: &[u8]) {
-    io::write_all(STDOUT_FILENO, text);
-    io::write_all(STDOUT_FILENO, b" ");
+fn word(name: &[u8]) {
+    text(name);
+    text(b" ");
 }
 
 fn number(n: usize) {
-    io::print_decimal(STDOUT_FILENO, n as u64);
-    io::write_all(STDOUT_FILENO, b" ");
+    decimal(n as u64);
+    text(b" ");
 }
 
 fn end_line() {
-    io::write_all(STDOUT_FILENO, b"\n");
-}
-
-fn hex(bytes: &[u8]) {
-    let mut i = 0;
-    while i < bytes.len() {
-        io::print_hex(STDOUT_FILENO, wide(bytes[i]), 2);
-        i += 1;
-    }
+    text(b"\n");
 }
 
 fn hex_line(bytes: &[u8]) {
@@ -50,11 +44,7 @@ fn hash_line(hash: &[u8; 32]) {
 
 fn hash_word(hash: &[u8; 32]) {
     hex(hash);
-    io::write_all(STDOUT_FILENO, b" ");
-}
-
-fn wide(x: u8) -> u64 {
-    x as u64
+    text(b" ");
 }
 
 fn root_line(bytes: &[u8], n: usize) {
@@ -70,9 +60,9 @@ fn root_line(bytes: &[u8], n: usize) {
 
 fn verdict(yes: bool) {
     if yes {
-        io::write_all(STDOUT_FILENO, b"yes");
+        text(b"yes");
     } else {
-        io::write_all(STDOUT_FILENO, b"no");
+        text(b"no");
     }
     end_line();
 }
@@ -94,19 +84,13 @@ fn checked(bytes: &[u8], n: usize, first: usize, end: usize, hashes: &[u8]) -> b
     false
 }
 
-fn accepted(
-    root: &[u8; 32],
-    n: usize,
-    first: usize,
-    end: usize,
-    bytes: &[u8],
-    hashes: &[u8],
-) -> bool {
+#[rattlefmt::skip]
+fn accepted(root: &[u8; 32], n: usize, first: usize, end: usize, bytes: &[u8], hashes: &[u8]) -> bool {
     tree::check(root, n, first, end, bytes, hashes)
 }
 
-fn label(text: &[u8], a: usize, b: usize, c: usize, d: usize) {
-    word(text);
+fn label(name: &[u8], a: usize, b: usize, c: usize, d: usize) {
+    word(name);
     number(a);
     number(b);
     number(c);
@@ -116,7 +100,7 @@ fn label(text: &[u8], a: usize, b: usize, c: usize, d: usize) {
 // The hashes, and what the checker says to them.
 fn shown(bytes: &[u8], n: usize, first: usize, end: usize, hashes: &[u8]) {
     hex(hashes);
-    io::write_all(STDOUT_FILENO, b" ");
+    text(b" ");
     verdict(checked(bytes, n, first, end, hashes));
 }
 
@@ -201,15 +185,8 @@ fn part_roots(bytes: &[u8], parts: usize, roots: &mut [u8]) {
     }
 }
 
-fn within_line(
-    bytes: &[u8],
-    parts: usize,
-    at: usize,
-    first: usize,
-    end: usize,
-    roots: &mut [u8],
-    out: &mut [u8],
-) {
+#[rattlefmt::skip]
+fn within_line(bytes: &[u8], parts: usize, at: usize, first: usize, end: usize, roots: &mut [u8], out: &mut [u8]) {
     part_roots(bytes, parts, roots);
     label(b"within", parts, at, first, end);
     if roots.len() / 32 < parts {
@@ -262,15 +239,8 @@ fn most_withins(bytes: &[u8], roots: &mut [u8], out: &mut [u8]) {
 
 // What the checker says to what stands in `all` (0 no, 1 yes; 2: it does not stand there): so many bytes of a root from byte 0 on, of two
 // segments from byte 32 on, and of hashes from byte 160 on.
-fn taken(
-    all: &[u8],
-    root: usize,
-    n: usize,
-    first: usize,
-    end: usize,
-    given: usize,
-    hashes: usize,
-) -> u64 {
+#[rattlefmt::skip]
+fn taken(all: &[u8], root: usize, n: usize, first: usize, end: usize, given: usize, hashes: usize) -> u64 {
     if 32 < root {
         return 2;
     }
@@ -320,32 +290,24 @@ fn flipped(all: &mut [u8], total: usize, hashes: usize) -> usize {
     times
 }
 
-fn told(text: &[u8], n: usize) {
-    io::write_all(STDOUT_FILENO, text);
-    io::print_decimal(STDOUT_FILENO, n as u64);
+fn told(words: &[u8], n: usize) {
+    text(words);
+    decimal(n as u64);
 }
 
 fn said(taken: u64) {
     match taken {
-        0 => io::write_all(STDOUT_FILENO, b": no\n"),
-        1 => io::write_all(STDOUT_FILENO, b": yes\n"),
-        _ => io::write_all(STDOUT_FILENO, b": not laid\n"),
+        0 => text(b": no\n"),
+        1 => text(b": yes\n"),
+        _ => text(b": not laid\n"),
     }
     ;
 }
 
 // What is given to the checker, and what it says.
-fn given_line(
-    text: &[u8],
-    all: &[u8],
-    root: usize,
-    n: usize,
-    first: usize,
-    end: usize,
-    given: usize,
-    hashes: usize,
-) {
-    io::write_all(STDOUT_FILENO, text);
+#[rattlefmt::skip]
+fn given_line(words: &[u8], all: &[u8], root: usize, n: usize, first: usize, end: usize, given: usize, hashes: usize) {
+    text(words);
     told(b": count ", n);
     told(b", range ", first);
     told(b" ", end);
@@ -417,29 +379,13 @@ fn comes(all: &mut [u8], hashes: usize) -> bool {
 // One segment among 4,194,304, the largest count, and among one more, each with the root and the proof of that many segments
 // (make_large.py).
 fn limits(all: &mut [u8]) {
-    if comes(all, 704) {
-        given_line(
-            b"count 4194304",
-            all,
-            32,
-            4_194_304,
-            2_718_281,
-            2_718_282,
-            64,
-            704,
-        );
-    }
-    if comes(all, 736) {
-        given_line(
-            b"count 4194305",
-            all,
-            32,
-            4_194_305,
-            2_718_281,
-            2_718_282,
-            64,
-            736,
-        );
+    limit(b"count 4194304", 4_194_304, 704, all);
+    limit(b"count 4194305", 4_194_305, 736, all);
+}
+
+fn limit(words: &[u8], n: usize, hashes: usize, all: &mut [u8]) {
+    if comes(all, hashes) {
+        given_line(words, all, 32, n, 2_718_281, 2_718_282, 64, hashes);
     }
 }
 

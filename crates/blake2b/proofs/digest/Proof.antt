@@ -9,15 +9,6 @@ use Rattle.blake2b.proofs.Answered.{refuses, digests, allowed-yes, too-
 use Rattle.blake2b.proofs.digest.Statement.{statement}
 use Rattle.blake2b.proofs.digest.Tie as tie
 
-returns : tie.Need-returns
-returns c = refuses _ _ _ (too-short _ _ (c .if1 .taken))
-
-returns-2 : tie.Need-returns-2
-returns-2 c = refuses _ _ _ (too-long _ _ (c .if2 .taken))
-
-returns-3 : tie.Need-returns-3
-returns-3 c = refuses _ _ _ (key-too-long _ _ (c .if3 .taken))
-
 digest-requires : tie.Need-digest-requires
 digest-requires c κs =
     let at-if3 = c .before .before .before in
@@ -42,6 +33,7 @@ returns-5 c =
     (by-blocks _ _ _ (at-start .start .ensures) (at-finish .finish .ensures) (c .before .before .write .ensures))
 
 pub digest-spec : {M : Type 1} → statement M
-digest-spec =
-    tie.close (tie.spec returns returns-2 returns-3 (λ c κs. search needs) digest-requires (λ c. search needs) returns-4
-        (λ c κs. search needs) (λ c κs. search needs) (λ c κs. search needs) (λ c. search needs) returns-5)
+digest-spec = tie.close (tie.spec
+    (λ c. refuses _ _ _ (too-short _ _ (c .if1 .taken))) (λ c. refuses _ _ _ (too-long _ _ (c .if2 .taken)))
+    (λ c. refuses _ _ _ (key-too-long _ _ (c .if3 .taken))) (λ c κs. search needs) digest-requires (λ c. search needs)
+    returns-4 (λ c κs. search needs) (λ c κs. search needs) (λ c κs. search needs) (λ c. search needs) returns-5)

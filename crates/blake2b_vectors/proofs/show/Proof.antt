@@ -6,15 +6,10 @@ use borrow.Author.Needs.{needs}
 use Rattle.blake2b_vectors.proofs.show.Statement.{statement}
 use Rattle.blake2b_vectors.proofs.show.Tie as tie
 
-slice-aggregate-show-digest : tie.Need-slice-aggregate-show-digest
-slice-aggregate-show-digest c = sym (length-take-le _ _ (omega arith))
-
-slice-aggregate-show-digest-2 : tie.Need-slice-aggregate-show-digest-2
-slice-aggregate-show-digest-2 c = sym (length-take-le _ _ (omega arith))
-
 pub show-spec : {M : Type 1} → statement M
-show-spec =
-    tie.close (tie.spec (λ c. search needs) (λ c κs. search needs) (λ c κs. search needs) (λ c. search needs) (λ c κs. search needs)
-        (λ c κs. search needs) (λ c. search needs) (λ c κs. search needs) (λ c κs. search needs) (λ c. search needs) (λ c κs. search needs)
-        (λ c κs. search needs) (λ c. search needs) (λ c κs. search needs) (λ c. search needs) (λ c κs. search needs) (λ c. search needs)
-        slice-aggregate-show-digest slice-aggregate-show-digest-2 (λ c κs. search needs) (λ c. search needs))
+show-spec = tie.close (tie.spec
+    (λ c. search needs) (λ c κs. search needs) (λ c κs. search needs) (λ c. search needs) (λ c κs. search needs)
+    (λ c κs. search needs) (λ c. search needs) (λ c κs. search needs) (λ c κs. search needs) (λ c. search needs)
+    (λ c κs. search needs) (λ c κs. search needs) (λ c. search needs) (λ c κs. search needs) (λ c. search needs)
+    (λ c κs. search needs) (λ c. search needs) (λ c. sym (length-take-le _ _ (omega arith)))
+    (λ c. sym (length-take-le _ _ (omega arith))) (λ c κs. search needs) (λ c. search needs))

@@ -14,13 +14,11 @@ Inv-loop input at₀ at = (1066 ≤ at) × (at ≤ length input)
 abbrev μ-loop : tie.MeasureT-loop
 μ-loop input at₀ at = length input - at
 
-slice-aggregate-show : tie.Need-slice-aggregate-show Inv-loop μ-loop
-slice-aggregate-show c =
-    sym (length-take-le 66 (c .before .before .before .before .before .before .before .before .args .input .now) (omega arith))
-
 pub show-all-spec : {M : Type 1} → statement M
-show-all-spec =
-    tie.close (tie.spec Inv-loop μ-loop (λ c. search needs) (λ c κs. search needs) (λ c. search needs) (λ c. search needs)
-        (λ c. search needs) (λ c κs. search needs) (λ c. search needs) (λ c κs. search needs) (λ c. search needs) (λ c κs. search needs)
-        slice-aggregate-show (λ c. search needs) (λ c. search needs) (λ c. search needs) (λ c κs. search needs) (λ c. search needs)
-        (λ c. search needs) (λ c. search needs) (λ c. search needs))
+show-all-spec = tie.close (tie.spec
+    Inv-loop μ-loop (λ c. search needs) (λ c κs. search needs) (λ c. search needs) (λ c. search needs)
+    (λ c. search needs) (λ c κs. search needs) (λ c. search needs) (λ c κs. search needs) (λ c. search needs)
+    (λ c κs. search needs)
+    (λ c. sym (length-take-le 66 (c .before .before .before .before .before .before .before .before .args .input .now) (omega arith)))
+    (λ c. search needs) (λ c. search needs) (λ c. search needs) (λ c κs. search needs) (λ c. search needs)
+    (λ c. search needs) (λ c. search needs) (λ c. search needs))

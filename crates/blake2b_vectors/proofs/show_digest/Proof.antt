@@ -6,9 +6,7 @@ use borrow.Author.Needs.{needs}
 use Rattle.blake2b_vectors.proofs.show_digest.Statement.{statement}
 use Rattle.blake2b_vectors.proofs.show_digest.Tie as tie
 
-slice-aggregate-show-in : tie.Need-slice-aggregate-show-in
-slice-aggregate-show-in c = sym (length-take-le _ _ (omega arith))
-
 pub show-digest-spec : {M : Type 1} → statement M
-show-digest-spec =
-    tie.close (tie.spec (λ c. search needs) slice-aggregate-show-in (λ c κs. search needs) (λ c. search needs) (λ c. search needs))
+show-digest-spec = tie.close (tie.spec
+    (λ c. search needs) (λ c. sym (length-take-le _ _ (omega arith))) (λ c κs. search needs) (λ c. search needs)
+    (λ c. search needs))

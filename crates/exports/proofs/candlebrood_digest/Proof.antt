@@ -6,17 +6,11 @@ use borrow.Author.Needs.{needs}
 use Rattle.exports.proofs.candlebrood_digest.Statement.{statement}
 use Rattle.exports.proofs.candlebrood_digest.Tie as tie
 
-enum-told : tie.Need-enum-told
-enum-told c = search needs
-
-returns : tie.Need-returns
-returns c = ap (λ (a : Answer). left a (c .before .before .before .before .digest .last .1 .1 .0)) (sym (c .enum-told .given .1))
-    ∙ c .before .before .before .before .digest .ensures
-
-returns-2 : tie.Need-returns-2
-returns-2 c = ap (λ (a : Answer). left a (c .before .before .before .before .digest .last .1 .1 .0)) (sym (c .enum-told2 .given .1))
-    ∙ c .before .before .before .before .digest .ensures
-
 pub candlebrood-digest-spec : {M : Type 1} → statement M
-candlebrood-digest-spec =
-    tie.close (tie.spec (λ c κs. search needs) enum-told (λ c. search needs) (λ c. search needs) returns (λ c. search needs) returns-2)
+candlebrood-digest-spec = tie.close (tie.spec
+    (λ c κs. search needs) (λ c. search needs) (λ c. search needs) (λ c. search needs)
+    (λ c. ap (λ (a : Answer). left a (c .before .before .before .before .digest .last .1 .1 .0)) (sym (c .enum-told .given .1))
+        ∙ c .before .before .before .before .digest .ensures)
+    (λ c. search needs)
+    (λ c. ap (λ (a : Answer). left a (c .before .before .before .before .digest .last .1 .1 .0)) (sym (c .enum-told2 .given .1))
+        ∙ c .before .before .before .before .digest .ensures))

@@ -4,9 +4,6 @@ use borrow.Author.Needs.{needs}
 use Rattle.exports.proofs.candlebrood_run.Statement.{statement}
 use Rattle.exports.proofs.candlebrood_run.Tie as tie
 
-returns : tie.Need-returns
-returns c = not-eight _ _ _ _ _ _ _ _ _ _ _ (c .if1 .taken)
-
 returns-2 : tie.Need-returns-2
 returns-2 c =
     let ran = c .before .before .before .before .before .before .before .before .before .before .before .before in
@@ -14,6 +11,6 @@ returns-2 c =
     counted _ _ _ _ _ _ _ _ _ _ _ (eight .if1 .left) (ran .run .ensures) (c .before .before .store .ensures)
 
 pub candlebrood-run-spec : {M : Type 1} → statement M
-candlebrood-run-spec =
-    tie.close (tie.spec returns (λ c κs. search needs) (λ c κs. search needs) (λ c. search needs) (λ c. search needs) (λ c. search needs)
-        (λ c. search needs) (λ c. search needs) returns-2)
+candlebrood-run-spec = tie.close (tie.spec
+    (λ c. not-eight _ _ _ _ _ _ _ _ _ _ _ (c .if1 .taken)) (λ c κs. search needs) (λ c κs. search needs)
+    (λ c. search needs) (λ c. search needs) (λ c. search needs) (λ c. search needs) (λ c. search needs) returns-2)

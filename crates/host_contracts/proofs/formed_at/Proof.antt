@@ -20,9 +20,6 @@ Inv-loop id places i₀ i = formedAt id places ≡ take i places ++ formedAt id 
 abbrev μ-loop : tie.MeasureT-loop
 μ-loop id places i₀ i = 8 - i
 
-loop-holds : tie.Need-loop-holds Inv-loop μ-loop
-loop-holds c = ap (formedAt (c .args .id)) (sym (slice-all (c .args .t1) (c .good .0 .1 .0 .1)))
-
 returns : tie.Need-returns Inv-loop μ-loop
 returns c =
     let l = c .before .before .before .before .before .loop in
@@ -30,18 +27,13 @@ returns c =
     ap (set (s .args .t1) (l .i)) (c .new-place .ensures)
     ∙ formed-here (s .args .id) (s .args .t1) (l .i) 8 (s .good .0 .1 .0 .1) blank (omega arith) (not-true _ (c .before .if1 .taken)) ∙ sym (l .inv)
 
-loop-again : tie.Need-loop-again Inv-loop μ-loop
-loop-again c =
-    let l = c .before .before .before .before .loop in
-    let s = c .before .before .before .before .before in
-    l .inv ∙ formed-further (s .args .id) (s .args .t1) (l .i) 8 (s .good .0 .1 .0 .1) blank (omega arith) (not-false _ (c .if1 .left))
-
-returns-2 : tie.Need-returns-2 Inv-loop μ-loop
-returns-2 c =
-    let s = c .before .before in
-    formed-done (s .args .id) (s .args .t1) (c .before .loop .i) 8 (s .good .0 .1 .0 .1) (omega arith) ∙ sym (c .before .loop .inv)
-
 pub formed-at-spec : {M : Type 1} → statement M
-formed-at-spec =
-    tie.close (tie.spec Inv-loop μ-loop loop-holds (λ c. search needs) (λ c. search needs) (λ c κs. tt) (λ c. search needs)
-        (λ c. search needs) returns (λ c. search needs) (λ c. search needs) loop-again returns-2)
+formed-at-spec = tie.close (tie.spec
+    Inv-loop μ-loop (λ c. ap (formedAt (c .args .id)) (sym (slice-all (c .args .t1) (c .good .0 .1 .0 .1))))
+    (λ c. search needs) (λ c. search needs) (λ c κs. tt) (λ c. search needs) (λ c. search needs) returns
+    (λ c. search needs) (λ c. search needs)
+    (λ c. let l = c .before .before .before .before .loop in
+        let s = c .before .before .before .before .before in
+        l .inv ∙ formed-further (s .args .id) (s .args .t1) (l .i) 8 (s .good .0 .1 .0 .1) blank (omega arith) (not-false _ (c .if1 .left)))
+    (λ c. let s = c .before .before in
+        formed-done (s .args .id) (s .args .t1) (c .before .loop .i) 8 (s .good .0 .1 .0 .1) (omega arith) ∙ sym (c .before .loop .inv)))

@@ -38,17 +38,6 @@ stage c = ap not (sym (c .before .length-right2 .ensures)) ∙ c .if3 .left
 
 -- ---- the needs
 
-returns : tie.Need-returns
-unfolding freshed
-returns c = yes _ _ _ (ap not (sym (c .before .before .is-size .ensures)) ∙ c .before .if1 .taken) (c .unmade .ensures)
-
-returns-2 : tie.Need-returns-2
-unfolding freshed
-returns-2 c =
-    let at = c .before .before in
-    no _ _ _ (sized (at .before))
-    (yes _ _ _ (ap not (sym (at .length-right .ensures)) ∙ c .before .if2 .taken) (c .unmade2 .ensures))
-
 returns-3 : tie.Need-returns-3
 unfolding freshed
 returns-3 c =
@@ -66,7 +55,13 @@ returns-4 c =
     (no _ _ _ (stage at) (ap (λ (h : Host). answered 0 h) (c .bare .ensures))))
 
 pub fresh-spec : {M : Type 1} → statement M
-fresh-spec =
-    tie.close (tie.spec (λ c κs. search needs) (λ c κs. search needs) returns (λ c κs. positive c) (λ c κs. search needs) returns-2
-        (λ c κs. positive (one c)) (λ c κs. search needs) returns-3 (λ c. positive (one (two c))) (λ c. positive (one (two c)))
-        (λ c κs. search needs) returns-4)
+unfolding freshed
+fresh-spec = tie.close (tie.spec
+    (λ c κs. search needs) (λ c κs. search needs)
+    (λ c. yes _ _ _ (ap not (sym (c .before .before .is-size .ensures)) ∙ c .before .if1 .taken) (c .unmade .ensures))
+    (λ c κs. positive c) (λ c κs. search needs)
+    (λ c. let at = c .before .before in
+        no _ _ _ (sized (at .before))
+        (yes _ _ _ (ap not (sym (at .length-right .ensures)) ∙ c .before .if2 .taken) (c .unmade2 .ensures)))
+    (λ c κs. positive (one c)) (λ c κs. search needs) returns-3 (λ c. positive (one (two c)))
+    (λ c. positive (one (two c))) (λ c κs. search needs) returns-4)

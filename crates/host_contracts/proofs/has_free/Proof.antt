@@ -19,9 +19,6 @@ Inv-loop places i₀ i = some (λ p. not (p .held)) places ≡ some (λ p. not (
 abbrev μ-loop : tie.MeasureT-loop
 μ-loop places i₀ i = 8 - i
 
-loop-holds : tie.Need-loop-holds Inv-loop μ-loop
-loop-holds c = ap (some (λ (p : Place). not (p .held))) (sym (slice-all (c .args .t1) (c .good .0 .1 .0 .1)))
-
 returns : tie.Need-returns Inv-loop μ-loop
 returns c =
     let l = c .before .before .before .before .loop in
@@ -34,12 +31,10 @@ loop-again c =
     let s = c .before .before .before .before .before in
     l .inv ∙ some-further (λ (p : Place). not (p .held)) (s .args .t1) (l .i) 8 blank (s .good .0 .1 .0 .1) (omega arith) (omega arith) (c .if1 .left)
 
-returns-2 : tie.Need-returns-2 Inv-loop μ-loop
-returns-2 c =
-    let s = c .before .before in
-    some-done (λ (p : Place). not (p .held)) (s .args .t1) (c .before .loop .i) 8 (omega arith) ∙ sym (c .before .loop .inv)
-
 pub has-free-spec : {M : Type 1} → statement M
-has-free-spec =
-    tie.close (tie.spec Inv-loop μ-loop loop-holds (λ c. search needs) (λ c. search needs) returns (λ c. search needs) (λ c. search needs)
-        loop-again returns-2)
+has-free-spec = tie.close (tie.spec
+    Inv-loop μ-loop
+    (λ c. ap (some (λ (p : Place). not (p .held))) (sym (slice-all (c .args .t1) (c .good .0 .1 .0 .1))))
+    (λ c. search needs) (λ c. search needs) returns (λ c. search needs) (λ c. search needs) loop-again
+    (λ c. let s = c .before .before in
+        some-done (λ (p : Place). not (p .held)) (s .args .t1) (c .before .loop .i) 8 (omega arith) ∙ sym (c .before .loop .inv)))

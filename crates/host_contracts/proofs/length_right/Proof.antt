@@ -7,14 +7,8 @@ use borrow.Author.Needs.{needs}
 use Rattle.host_contracts.proofs.length_right.Statement.{statement}
 use Rattle.host_contracts.proofs.length_right.Tie as tie
 
-returns : tie.Need-returns
-unfolding lengthRight
-returns c = no _ _ _ (ne-eqb _ _ (c .if1 .taken)) refl
-
-returns-2 : tie.Need-returns-2
-unfolding lengthRight
-returns-2 c = yes _ _ _ (eq-eqb _ _ (c .before .if1 .left)) (c .lent .ensures)
-
 pub length-right-spec : {M : Type 1} → statement M
-length-right-spec =
-    tie.close (tie.spec (λ c. search needs) returns (λ c. search needs) (λ c κs. search needs) returns-2)
+unfolding lengthRight
+length-right-spec = tie.close (tie.spec
+    (λ c. search needs) (λ c. no _ _ _ (ne-eqb _ _ (c .if1 .taken)) refl) (λ c. search needs) (λ c κs. search needs)
+    (λ c. yes _ _ _ (eq-eqb _ _ (c .before .if1 .left)) (c .lent .ensures)))

@@ -4,10 +4,6 @@ use Rattle.host.specs.Empty.{newPlace}
 use Rattle.host_contracts.proofs.new_place.Statement.{statement}
 use Rattle.host_contracts.proofs.new_place.Tie as tie
 
-returns : tie.Need-returns
-unfolding newPlace
-returns c = refl
-
 pub new-place-spec : {M : Type 1} → statement M
-new-place-spec =
-    tie.close (tie.spec returns)
+unfolding newPlace
+new-place-spec = tie.close (tie.spec (λ c. refl))

@@ -6,9 +6,5 @@ use borrow.Author.Needs.{needs}
 use Rattle.host_contracts.proofs.unmade.Statement.{statement}
 use Rattle.host_contracts.proofs.unmade.Tie as tie
 
-returns : tie.Need-returns
-returns c = ap (λ (h : Host). answered 2 h) (c .bare .ensures)
-
 pub unmade-spec : {M : Type 1} → statement M
-unmade-spec =
-    tie.close (tie.spec (λ c κs. search needs) returns)
+unmade-spec = tie.close (tie.spec (λ c κs. search needs) (λ c. ap (λ (h : Host). answered 2 h) (c .bare .ensures)))

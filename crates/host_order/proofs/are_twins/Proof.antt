@@ -7,23 +7,12 @@ use borrow.Author.Needs.{needs}
 use Rattle.host_order.proofs.are_twins.Statement.{statement}
 use Rattle.host_order.proofs.are_twins.Tie as tie
 
-returns : tie.Need-returns
-unfolding twins
-returns c = no _ _ _ (not-true _ (c .if1 .taken)) refl
-
-returns-2 : tie.Need-returns-2
-unfolding twins
-returns-2 c =
-    let at-if1 = c .before .before in
-    yes _ _ _ (not-false _ (at-if1 .if1 .left)) (no _ _ _ (not-true _ (c .if2 .taken)) refl)
-
-returns-3 : tie.Need-returns-3
-unfolding twins
-returns-3 c =
-    let at-if2 = c .before .before .before in
-    let at-if1 = at-if2 .before .before in
-    yes _ _ _ (not-false _ (at-if1 .if1 .left)) (yes _ _ _ (not-false _ (at-if2 .if2 .left)) (c .same-id .ensures))
-
 pub are-twins-spec : {M : Type 1} → statement M
-are-twins-spec =
-    tie.close (tie.spec returns returns-2 (λ c κs. search needs) returns-3)
+unfolding twins
+are-twins-spec = tie.close (tie.spec
+    (λ c. no _ _ _ (not-true _ (c .if1 .taken)) refl)
+    (λ c. let at-if1 = c .before .before in yes _ _ _ (not-false _ (at-if1 .if1 .left)) (no _ _ _ (not-true _ (c .if2 .taken)) refl))
+    (λ c κs. search needs)
+    (λ c. let at-if2 = c .before .before .before in
+        let at-if1 = at-if2 .before .before in
+        yes _ _ _ (not-false _ (at-if1 .if1 .left)) (yes _ _ _ (not-false _ (at-if2 .if2 .left)) (c .same-id .ensures))))

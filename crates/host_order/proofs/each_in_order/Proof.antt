@@ -19,9 +19,6 @@ Inv-loop z places i₀ i = every (placeInOrder z) places ≡ every (placeInOrder
 abbrev μ-loop : tie.MeasureT-loop
 μ-loop z places i₀ i = 8 - i
 
-loop-holds : tie.Need-loop-holds Inv-loop μ-loop
-loop-holds c = ap (every (placeInOrder (c .args .z))) (sym (slice-all (c .args .t2) (c .good .1 .0 .1 .0 .1)))
-
 returns : tie.Need-returns Inv-loop μ-loop
 returns c =
     let l = c .before .before .before .before .loop in
@@ -38,12 +35,11 @@ loop-again c =
     ∙ every-further (placeInOrder (s .args .z)) (s .args .t2) (l .i) 8 blank (s .good .1 .0 .1 .0 .1) (omega arith) (omega arith)
     (sym (c .before .place-in-order .ensures) ∙ not-false _ (c .if1 .left))
 
-returns-2 : tie.Need-returns-2 Inv-loop μ-loop
-returns-2 c =
-    let s = c .before .before in
-    every-done (placeInOrder (s .args .z)) (s .args .t2) (c .before .loop .i) 8 (omega arith) ∙ sym (c .before .loop .inv)
-
 pub each-in-order-spec : {M : Type 1} → statement M
-each-in-order-spec =
-    tie.close (tie.spec Inv-loop μ-loop loop-holds (λ c. search needs) (λ c. search needs) (λ c κs. search needs) returns
-        (λ c. search needs) (λ c. search needs) loop-again returns-2)
+each-in-order-spec = tie.close (tie.spec
+    Inv-loop μ-loop
+    (λ c. ap (every (placeInOrder (c .args .z))) (sym (slice-all (c .args .t2) (c .good .1 .0 .1 .0 .1))))
+    (λ c. search needs) (λ c. search needs) (λ c κs. search needs) returns (λ c. search needs) (λ c. search needs)
+    loop-again
+    (λ c. let s = c .before .before in
+        every-done (placeInOrder (s .args .z)) (s .args .t2) (c .before .loop .i) 8 (omega arith) ∙ sym (c .before .loop .inv)))

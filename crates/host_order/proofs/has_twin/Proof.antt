@@ -32,12 +32,8 @@ loop-again c =
     l .inv ∙ some-further (twins _) (s .args .t1) (l .i) 8 blank (s .good .0 .1 .0 .1) (omega arith) (omega arith)
         (sym (c .before .are-twins .ensures) ∙ c .if1 .left)
 
-returns-2 : tie.Need-returns-2 Inv-loop μ-loop
-returns-2 c =
-    let s = c .before .before in
-    some-done (twins _) (s .args .t1) (c .before .loop .i) 8 (omega arith) ∙ sym (c .before .loop .inv)
-
 pub has-twin-spec : {M : Type 1} → statement M
-has-twin-spec =
-    tie.close (tie.spec Inv-loop μ-loop (λ c. refl) (λ c. search needs) (λ c. search needs) (λ c κs. tt) returns (λ c. search needs)
-        (λ c. search needs) loop-again returns-2)
+has-twin-spec = tie.close (tie.spec
+    Inv-loop μ-loop (λ c. refl) (λ c. search needs) (λ c. search needs) (λ c κs. tt) returns (λ c. search needs)
+    (λ c. search needs) loop-again
+    (λ c. let s = c .before .before in some-done (twins _) (s .args .t1) (c .before .loop .i) 8 (omega arith) ∙ sym (c .before .loop .inv)))

@@ -1,107 +1,62 @@
 -- `host_order::in_order` meets its contract: a walk down the definition. Assumes nothing.
 use mathlib.Core.Path.{_≡_, refl, sym, _∙_}
-use mathlib.Core.Bool.{true}
-use borrow.Author.Tests.{not-true, not-false}
+use mathlib.Core.Bool.{Bool}
+use borrow.Author.Tests.{not-false}
 use Rattle.area.specs.Slots.{Size}
+use Rattle.area.specs.Pick.{both}
 use Rattle.area.proofs.Laws.Pick.{yes, no}
 use Rattle.area.proofs.Laws.Slots.{some}
 use Rattle.host.specs.Sizes.{isSize}
-use Rattle.host.specs.Order.{lent, placesInOrder, inOrder}
+use Rattle.host.specs.Order.{lent, inOrder}
 use Rattle.host.specs.declared.Host.{Host}
 use Rattle.host.proofs.Laws.Sizes.{size-facts}
 use Rattle.host.proofs.Laws.Order.{lent-facts}
 use borrow.Author.Needs.{needs}
+use Rattle.host_order.proofs.Laws.Tests.{on, off}
 use Rattle.host_order.proofs.in_order.Statement.{statement}
 use Rattle.host_order.proofs.in_order.Tie as tie
 
--- ---- where the code goes on, a clause holds
-
-abbrev host-1 : tie.Else1 → Host
-host-1 c = c .before .before .before .before .args .host
-
-sized : (c : tie.Else1) → isSize (host-1 c .sector) ≡ true
-sized c = sym (c .before .is-size .ensures) ∙ not-false _ (c .if1 .left)
-
-size : (c : tie.Else1) → Size (host-1 c .sector)
-size c = size-facts _ (sized c)
-
+-- the way back from test to test, and the host
 abbrev one : tie.Else2 → tie.Else1
 one c = c .before .before
-
-disk : (c : tie.Else2) → lent 64 (host-1 (one c) .disk) ≡ true
-disk c = sym (c .before .lent .ensures) ∙ not-false _ (c .if2 .left)
 
 abbrev two : tie.Else3 → tie.Else2
 two c = c .before .before
 
-stage : (c : tie.Else3) → lent 16 (host-1 (one (two c)) .stage) ≡ true
-stage c = sym (c .before .lent2 .ensures) ∙ not-false _ (c .if3 .left)
-
 abbrev three : tie.Else4 → tie.Else3
 three c = c .before .before
 
-contracts : (c : tie.Else4) → let h = host-1 (one (two (three c))) in placesInOrder (h .sector) (h .disk) (h .places) ≡ true
-contracts c = sym (c .before .places-in-order .ensures) ∙ not-false _ (c .if4 .left)
+abbrev host : tie.Else1 → Host
+host c = let test = c .before in test .before .before .before .args .host
 
--- ---- the needs
+-- where the code goes on, the clauses so far hold, and the rest decides
+past-1 : (c : tie.Else1) (rest : Bool) {r : Bool} → r ≡ rest → r ≡ both (isSize (host c .sector)) rest
+past-1 c rest e = on _ _ (c .before .is-size .ensures) (c .if1 .left) e
 
-returns : tie.Need-returns
-unfolding inOrder
-returns c = no _ _ _ (sym (c .before .is-size .ensures) ∙ not-true _ (c .if1 .taken)) refl
+past-3 : (c : tie.Else3) (rest : Bool) {r : Bool} → let h = host (one (two c)) in r ≡ rest
+    → r ≡ both (isSize (h .sector)) (both (lent 64 (h .disk)) (both (lent 16 (h .stage)) rest))
+past-3 c rest e = past-1 (one (two c)) _
+    (on _ _ (two c .before .lent .ensures) (two c .if2 .left) (on _ _ (c .before .lent2 .ensures) (c .if3 .left) e))
 
-returns-2 : tie.Need-returns-2
-unfolding inOrder
-returns-2 c =
-    yes _ _ _ (sized (c .before .before))
-    (no _ _ _ (sym (c .before .lent .ensures) ∙ not-true _ (c .if2 .taken)) refl)
-
-returns-3 : tie.Need-returns-3
-unfolding inOrder
-returns-3 c =
-    let at = c .before .before in
-    yes _ _ _ (sized (one at))
-    (yes _ _ _ (disk at)
-    (no _ _ _ (sym (c .before .lent2 .ensures) ∙ not-true _ (c .if3 .taken)) refl))
-
-places-in-order-requires : tie.Need-places-in-order-requires
-places-in-order-requires c κs = some _ (size (one (two c)))
-
-returns-4 : tie.Need-returns-4
-unfolding inOrder
-returns-4 c =
-    let at = c .before .before in
-    yes _ _ _ (sized (one (two at)))
-    (yes _ _ _ (disk (two at))
-    (yes _ _ _ (stage at)
-    (no _ _ _ (sym (c .before .places-in-order .ensures) ∙ not-true _ (c .if4 .taken)) refl)))
-
-returns-5 : tie.Need-returns-5
-unfolding inOrder
-returns-5 c =
-    let at = c .before .before in
-    yes _ _ _ (sized (one (two (three at))))
-    (yes _ _ _ (disk (two (three at)))
-    (yes _ _ _ (stage (three at))
-    (yes _ _ _ (contracts at)
-    (yes _ _ _ (c .if5 .taken) refl))))
-
-program-in-order-requires : tie.Need-program-in-order-requires
-program-in-order-requires c κs =
-    let at = two (three (c .before .before)) in
-    (size (one at), lent-facts 64 _ (disk at) .1)
-
-returns-6 : tie.Need-returns-6
-unfolding inOrder
-returns-6 c =
-    let at = c .before .before .before in
-    yes _ _ _ (sized (one (two (three at))))
-    (yes _ _ _ (disk (two (three at)))
-    (yes _ _ _ (stage (three at))
-    (yes _ _ _ (contracts at)
-    (no _ _ _ (c .before .if5 .left)
-    (c .program-in-order .ensures)))))
+size : (c : tie.Else1) → Size (host c .sector)
+size c = size-facts _ (sym (c .before .is-size .ensures) ∙ not-false _ (c .if1 .left))
 
 pub in-order-spec : {M : Type 1} → statement M
-in-order-spec =
-    tie.close (tie.spec (λ c κs. search needs) returns (λ c κs. search needs) returns-2 (λ c κs. search needs) returns-3
-        places-in-order-requires returns-4 returns-5 program-in-order-requires returns-6)
+unfolding inOrder
+in-order-spec = tie.close (tie.spec
+    (λ c κs. search needs)
+    (λ c. off _ _ (c .before .is-size .ensures) (c .if1 .taken))
+    (λ c κs. search needs)
+    (λ c. past-1 (c .before .before) _ (off _ _ (c .before .lent .ensures) (c .if2 .taken)))
+    (λ c κs. search needs)
+    (λ c. let at = c .before .before in
+        past-1 (one at) _ (on _ _ (at .before .lent .ensures) (at .if2 .left) (off _ _ (c .before .lent2 .ensures) (c .if3 .taken))))
+    (λ c κs. some _ (size (one (two c))))
+    (λ c. past-3 (c .before .before) _ (off _ _ (c .before .places-in-order .ensures) (c .if4 .taken)))
+    (λ c. let at = c .before .before in
+        past-3 (three at) _ (on _ _ (at .before .places-in-order .ensures) (at .if4 .left) (yes _ _ _ (c .if5 .taken) refl)))
+    (λ c κs. let at = two (three (c .before .before)) in
+        (size (one at), lent-facts 64 _ (sym (at .before .lent .ensures) ∙ not-false _ (at .if2 .left)) .1))
+    (λ c. let at = c .before .before .before in
+        past-3 (three at) _ (on _ _ (at .before .places-in-order .ensures) (at .if4 .left)
+        (no _ _ _ (c .before .if5 .left) (c .program-in-order .ensures)))))

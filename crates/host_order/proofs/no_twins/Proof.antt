@@ -29,9 +29,6 @@ Inv-loop places i₀ i = apart twins places ≡ apart twins (slice i 8 places)
 abbrev μ-loop : tie.MeasureT-loop
 μ-loop places i₀ i = 8 - i
 
-loop-holds : tie.Need-loop-holds Inv-loop μ-loop
-loop-holds c = ap (apart twins) (sym (slice-all (c .args .t1) (c .good .0 .1 .0 .1)))
-
 loop-again : tie.Need-loop-again Inv-loop μ-loop
 loop-again c =
     let test = c .before .before .before in
@@ -59,12 +56,10 @@ loop-again-2 c =
     ∙ apart-further twins (s .args .t1) (l .i) 8 blank (s .good .0 .1 .0 .1) (omega (arith, test .loop-test .taken)) (omega arith)
     (sym (c .before .has-twin .ensures) ∙ c .if2 .left)
 
-returns-2 : tie.Need-returns-2 Inv-loop μ-loop
-returns-2 c =
-    let s = c .before .before in
-    apart-done twins (s .args .t1) (c .before .loop .i) 8 (omega arith) ∙ sym (c .before .loop .inv)
-
 pub no-twins-spec : {M : Type 1} → statement M
-no-twins-spec =
-    tie.close (tie.spec Inv-loop μ-loop loop-holds (λ c. search needs) (λ c. search needs) (λ c. search needs) (λ c. search needs)
-        loop-again (λ c κs. tt) returns (λ c. search needs) loop-again-2 returns-2)
+no-twins-spec = tie.close (tie.spec
+    Inv-loop μ-loop
+    (λ c. ap (apart twins) (sym (slice-all (c .args .t1) (c .good .0 .1 .0 .1))))
+    (λ c. search needs) (λ c. search needs) (λ c. search needs) (λ c. search needs) loop-again (λ c κs. tt) returns
+    (λ c. search needs) loop-again-2
+    (λ c. let s = c .before .before in apart-done twins (s .args .t1) (c .before .loop .i) 8 (omega arith) ∙ sym (c .before .loop .inv)))

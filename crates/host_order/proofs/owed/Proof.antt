@@ -4,12 +4,5 @@ use Rattle.area.proofs.Laws.Pick.{yes, no}
 use Rattle.host_order.proofs.owed.Statement.{statement}
 use Rattle.host_order.proofs.owed.Tie as tie
 
-returns : tie.Need-returns
-returns c = yes _ _ _ (c .if1 .taken) refl
-
-returns-2 : tie.Need-returns-2
-returns-2 c = no _ _ _ (c .if1 .left) refl
-
 pub owed-spec : {M : Type 1} → statement M
-owed-spec =
-    tie.close (tie.spec returns returns-2)
+owed-spec = tie.close (tie.spec (λ c. yes _ _ _ (c .if1 .taken) refl) (λ c. no _ _ _ (c .if1 .left) refl))

@@ -7,16 +7,11 @@ use borrow.Author.Needs.{needs}
 use Rattle.host_order.proofs.parent_in_order.Statement.{statement}
 use Rattle.host_order.proofs.parent_in_order.Tie as tie
 
-returns : tie.Need-returns
-unfolding parentInOrder
-returns c = yes _ _ _ (sym (c .before .is-read-only .ensures) ∙ c .if1 .taken) refl
-
-returns-2 : tie.Need-returns-2
-unfolding parentInOrder
-returns-2 c =
-    let at-is-read-only = c .before .before in
-    no _ _ _ (sym (at-is-read-only .is-read-only .ensures) ∙ c .before .if1 .left) (ap (λ (p : Place). p .held) (c .place-of .ensures))
-
 pub parent-in-order-spec : {M : Type 1} → statement M
-parent-in-order-spec =
-    tie.close (tie.spec (λ c κs. search needs) returns (λ c κs. search needs) returns-2)
+unfolding parentInOrder
+parent-in-order-spec = tie.close (tie.spec
+    (λ c κs. search needs)
+    (λ c. yes _ _ _ (sym (c .before .is-read-only .ensures) ∙ c .if1 .taken) refl)
+    (λ c κs. search needs)
+    (λ c. let at-is-read-only = c .before .before in
+        no _ _ _ (sym (at-is-read-only .is-read-only .ensures) ∙ c .before .if1 .left) (ap (λ (p : Place). p .held) (c .place-of .ensures))))

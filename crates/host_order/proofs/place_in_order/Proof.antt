@@ -8,16 +8,6 @@ use borrow.Author.Needs.{needs}
 use Rattle.host_order.proofs.place_in_order.Statement.{statement}
 use Rattle.host_order.proofs.place_in_order.Tie as tie
 
-returns : tie.Need-returns
-unfolding placeInOrder
-returns c = yes _ _ _ (c .if1 .taken) refl
-
-returns-2 : tie.Need-returns-2
-unfolding placeInOrder
-returns-2 c =
-    let at-if1 = c .before .before .before in
-    no _ _ _ (at-if1 .if1 .left) (no _ _ _ (ap not (sym (c .before .is-read-only .ensures) ∙ c .if2 .taken)) refl)
-
 returns-3 : tie.Need-returns-3
 unfolding placeInOrder
 returns-3 c =
@@ -37,5 +27,9 @@ returns-4 c =
         (yes _ _ _ (eq-eqb _ _ (c .before .if3 .left)) refl))
 
 pub place-in-order-spec : {M : Type 1} → statement M
-place-in-order-spec =
-    tie.close (tie.spec returns (λ c κs. search needs) returns-2 (λ c. search needs) returns-3 (λ c. search needs) returns-4)
+unfolding placeInOrder
+place-in-order-spec = tie.close (tie.spec
+    (λ c. yes _ _ _ (c .if1 .taken) refl) (λ c κs. search needs)
+    (λ c. let at-if1 = c .before .before .before in
+        no _ _ _ (at-if1 .if1 .left) (no _ _ _ (ap not (sym (c .before .is-read-only .ensures) ∙ c .if2 .taken)) refl))
+    (λ c. search needs) returns-3 (λ c. search needs) returns-4)

@@ -7,10 +7,6 @@ use borrow.Author.Needs.{needs}
 use Rattle.host_order.proofs.program_in_order.Statement.{statement}
 use Rattle.host_order.proofs.program_in_order.Tie as tie
 
-returns : tie.Need-returns
-unfolding programInOrder
-returns c = no _ _ _ (sym (c .before .terms-in-order .ensures) ∙ not-true _ (c .if1 .taken)) refl
-
 returns-2 : tie.Need-returns-2
 unfolding programInOrder
 returns-2 c =
@@ -29,5 +25,8 @@ returns-3 c =
     (c .progress-in-order .ensures))
 
 pub program-in-order-spec : {M : Type 1} → statement M
-program-in-order-spec =
-    tie.close (tie.spec (λ c κs. search needs) returns returns-2 (λ c κs. search needs) returns-3)
+unfolding programInOrder
+program-in-order-spec = tie.close (tie.spec
+    (λ c κs. search needs)
+    (λ c. no _ _ _ (sym (c .before .terms-in-order .ensures) ∙ not-true _ (c .if1 .taken)) refl)
+    returns-2 (λ c κs. search needs) returns-3)

@@ -1,113 +1,62 @@
 -- `host_order::progress_in_order` meets its contract: a walk down the definition. Assumes nothing.
-use mathlib.Core.Path.{refl, sym, ap, _∙_}
+use mathlib.Core.Path.{_≡_, refl, ap, _∙_}
+use mathlib.Core.Bool.{Bool}
 use Prim.Native.Nat.{ℕ, _+_, _/_}
 use native.Mathlib.Nat.{mul-le-mul}
 use native.Mathlib.Omega.{arith}
 use lib.Dec.{leb}
-use borrow.Author.Tests.{not-true, not-false, eq-eqb, ne-eqb, le-leb, lt-leb}
+use borrow.Author.Tests.{eq-eqb, ne-eqb, le-leb, lt-leb}
+use Rattle.area.specs.Pick.{pick, both}
 use Rattle.area.proofs.Laws.Pick.{yes, no}
 use Rattle.area.proofs.Laws.Slots.{some}
 use Rattle.host.specs.Order.{stagedInOrder, progressInOrder}
 use Rattle.host.specs.declared.Place.{Place}
 use borrow.Author.Needs.{needs}
+use Rattle.host_order.proofs.Laws.Tests.{on, off}
 use Rattle.host_order.proofs.progress_in_order.Statement.{statement}
 use Rattle.host_order.proofs.progress_in_order.Tie as tie
 
-returns : tie.Need-returns
-unfolding progressInOrder
-returns c = no _ _ _ (lt-leb _ _ (c .if1 .taken)) refl
+-- the way back from test to test
+abbrev one : tie.Else2 → tie.Else1
+one c = c .before .before .before
 
-returns-2 : tie.Need-returns-2
-unfolding progressInOrder
-returns-2 c =
-    let at-if1 = c .before .before .before in
-    yes _ _ _ (le-leb _ _ (at-if1 .if1 .left))
-    (no _ _ _ (lt-leb _ _ (c .if2 .taken)) refl)
+abbrev two : tie.Else3 → tie.Else2
+two c = c .before .before .before
 
-returns-3 : tie.Need-returns-3
-unfolding progressInOrder
-returns-3 c =
-    let at-owed = c .before .before in
-    let at-if2 = at-owed .before in
-    let at-if1 = at-if2 .before .before .before in
-    let s = at-if1 .before .before .before .before .before in
-    yes _ _ _ (le-leb _ _ (at-if1 .if1 .left))
-    (yes _ _ _ (le-leb _ _ (at-if2 .if2 .left))
-    (no _ _ _ (ap (λ (n : ℕ). leb (s .args .p .written + n) (s .args .t .room)) (sym (at-owed .owed .ensures)) ∙ sym (c .before .sum-fits .ensures)
-        ∙ not-true _ (c .if3 .taken)) refl))
+abbrev start-2 : tie.Else2 → tie.Start
+start-2 c = let at = one c in at .before .before .before .before .before
 
-returns-4 : tie.Need-returns-4
-unfolding progressInOrder
-returns-4 c =
-    let at-if3 = c .before .before in
-    let at-sum-fits = at-if3 .before in
-    let at-owed = at-sum-fits .before in
-    let at-if2 = at-owed .before in
-    let at-if1 = at-if2 .before .before .before in
-    let s = at-if1 .before .before .before .before .before in
-    yes _ _ _ (le-leb _ _ (at-if1 .if1 .left))
-    (yes _ _ _ (le-leb _ _ (at-if2 .if2 .left))
-    (yes _ _ _ (ap (λ (n : ℕ). leb (s .args .p .written + n) (s .args .t .room)) (sym (at-owed .owed .ensures)) ∙ sym (at-sum-fits .sum-fits .ensures)
-        ∙ not-false _ (at-if3 .if3 .left))
-    (no _ _ _ (ne-eqb _ _ (c .if4 .taken)) refl)))
-
--- the beginning, from where the running size is whole sectors
 abbrev start : tie.Else4 → tie.Start
-start c = c .before .before .before .before .before .before .before .before .before .before .before .before .before
+start c = start-2 (two (c .before .before))
 
-rem-if4 : tie.Need-rem-if4
-rem-if4 c = some _ (c .before .before .before .before .before .before .before .before .before .before .before .before .pre .0)
-
-mul-sizes-fit : tie.Need-mul-sizes-fit
-mul-sizes-fit c = omega (arith, mul-le-mul (start c .pre .1) (start c .pre .0 .most))
-
-returns-5 : tie.Need-returns-5
-unfolding progressInOrder
-returns-5 c =
-    let at-if4 = c .before .before in
-    let at-if3 = at-if4 .before .before in
-    let at-sum-fits = at-if3 .before in
-    let at-owed = at-sum-fits .before in
-    let at-if2 = at-owed .before in
-    let at-if1 = at-if2 .before .before .before in
-    let s = at-if1 .before .before .before .before .before in
-    yes _ _ _ (le-leb _ _ (at-if1 .if1 .left))
-    (yes _ _ _ (le-leb _ _ (at-if2 .if2 .left))
-    (yes _ _ _ (ap (λ (n : ℕ). leb (s .args .p .written + n) (s .args .t .room)) (sym (at-owed .owed .ensures)) ∙ sym (at-sum-fits .sum-fits .ensures)
-        ∙ not-false _ (at-if3 .if3 .left))
-    (yes _ _ _ (eq-eqb _ _ (at-if4 .if4 .left))
-    (no _ _ _ (sym (c .before .sizes-fit .ensures) ∙ not-true _ (c .if5 .taken)) refl))))
-
-staged-in-order-requires : tie.Need-staged-in-order-requires
-staged-in-order-requires c κs = some _ (start (c .before .before .before .before .before) .pre .0)
-
-div-staged-in-order : tie.Need-div-staged-in-order
-div-staged-in-order c = some _ (start (c .before .before .before .before .before) .pre .0)
-
-returns-6 : tie.Need-returns-6
-unfolding progressInOrder
-returns-6 c =
-    let at-place-of = c .before .before .before in
-    let at-if5 = at-place-of .before in
-    let at-sizes-fit = at-if5 .before in
-    let at-if4 = at-sizes-fit .before in
-    let at-if3 = at-if4 .before .before in
-    let at-sum-fits = at-if3 .before in
-    let at-owed = at-sum-fits .before in
-    let at-if2 = at-owed .before in
-    let at-if1 = at-if2 .before .before .before in
-    let s = at-if1 .before .before .before .before .before in
-    yes _ _ _ (le-leb _ _ (at-if1 .if1 .left))
-    (yes _ _ _ (le-leb _ _ (at-if2 .if2 .left))
-    (yes _ _ _ (ap (λ (n : ℕ). leb (s .args .p .written + n) (s .args .t .room)) (sym (at-owed .owed .ensures)) ∙ sym (at-sum-fits .sum-fits .ensures)
-        ∙ not-false _ (at-if3 .if3 .left))
-    (yes _ _ _ (eq-eqb _ _ (at-if4 .if4 .left))
-    (yes _ _ _ (sym (at-sizes-fit .sizes-fit .ensures) ∙ not-false _ (at-if5 .if5 .left))
-    (c .staged-in-order .ensures
-    ∙ ap (λ (w : Place). stagedInOrder (s .args .stage) (w .size / s .args .z) (s .args .p .size / s .args .z) (s .args .p .staged))
-        (at-place-of .place-of .ensures))))))
+-- past the third test the first three clauses hold, and the rest decides
+counted : (c : tie.Else3) (rest : Bool) {r : Bool} → let a = start-2 (two c) .args in r ≡ rest
+    → r ≡ both (leb (a .p .ran) (a .t .head .count)) (both (leb (a .p .tally) (a .t .budget))
+        (both (leb (a .p .written + pick (a .p .failed) 0 72) (a .t .room)) rest))
+counted c rest e =
+    let a = start-2 (two c) .args in
+    yes _ _ _ (le-leb _ _ (one (two c) .if1 .left)) (yes _ _ _ (le-leb _ _ (two c .if2 .left))
+    (on _ _ (c .before .sum-fits .ensures ∙ ap (λ (n : ℕ). leb (a .p .written + n) (a .t .room)) (c .before .before .owed .ensures)) (c .if3 .left) e))
 
 pub progress-in-order-spec : {M : Type 1} → statement M
-progress-in-order-spec =
-    tie.close (tie.spec returns returns-2 (λ c κs. search needs) (λ c κs. search needs) returns-3 rem-if4 returns-4 mul-sizes-fit
-        (λ c κs. search needs) returns-5 (λ c κs. search needs) div-staged-in-order staged-in-order-requires returns-6)
+unfolding progressInOrder
+progress-in-order-spec = tie.close (tie.spec
+    (λ c. no _ _ _ (lt-leb _ _ (c .if1 .taken)) refl)
+    (λ c. yes _ _ _ (le-leb _ _ (c .before .before .before .if1 .left)) (no _ _ _ (lt-leb _ _ (c .if2 .taken)) refl))
+    (λ c κs. search needs) (λ c κs. search needs)
+    (λ c. let owed = c .before .before in let at = owed .before in let a = start-2 at .args in
+        yes _ _ _ (le-leb _ _ (one at .if1 .left)) (yes _ _ _ (le-leb _ _ (at .if2 .left))
+        (off _ _ (c .before .sum-fits .ensures ∙ ap (λ (n : ℕ). leb (a .p .written + n) (a .t .room)) (owed .owed .ensures)) (c .if3 .taken))))
+    (λ c. some _ (start-2 (two (c .before)) .pre .0))
+    (λ c. counted (c .before .before) _ (no _ _ _ (ne-eqb _ _ (c .if4 .taken)) refl))
+    (λ c. omega (arith, mul-le-mul (start c .pre .1) (start c .pre .0 .most)))
+    (λ c κs. search needs)
+    (λ c. let four = c .before .before in
+        counted (four .before .before) _ (yes _ _ _ (eq-eqb _ _ (four .if4 .left)) (off _ _ (c .before .sizes-fit .ensures) (c .if5 .taken))))
+    (λ c κs. search needs)
+    (λ c. let five = c .before .before .before in some _ (start (five .before .before) .pre .0))
+    (λ c κs. let five = c .before .before .before in some _ (start (five .before .before) .pre .0))
+    (λ c. let place = c .before .before .before in let five = place .before in let four = five .before .before in let a = start four .args in
+        counted (four .before .before) _ (yes _ _ _ (eq-eqb _ _ (four .if4 .left)) (on _ _ (five .before .sizes-fit .ensures) (five .if5 .left)
+        (c .staged-in-order .ensures
+            ∙ ap (λ (w : Place). stagedInOrder (a .stage) (w .size / a .z) (a .p .size / a .z) (a .p .staged)) (place .place-of .ensures))))))

@@ -11,25 +11,11 @@ Inv-loop input place₀ at₀ place at = (at ≤ length input) × (place ≤ at 
 abbrev μ-loop : tie.MeasureT-loop
 μ-loop input place₀ at₀ place at = length input - at
 
-record-requires : tie.Need-record-requires Inv-loop μ-loop
-record-requires c κs = c .before .before .parts-at .ensures .1 (c .if1 .left)
-
-add-place : tie.Need-add-place Inv-loop μ-loop
-add-place c =
-    let whole = c .before .before .before .parts-at .ensures .1 (c .before .if1 .left) in
-    search needs
-
-loop-less : tie.Need-loop-less Inv-loop μ-loop
-loop-less c =
-    let whole = c .before .before .before .parts-at .ensures .1 (c .before .if1 .left) in
-    search needs
-
-loop-again : tie.Need-loop-again Inv-loop μ-loop
-loop-again c =
-    let whole = c .before .before .before .parts-at .ensures .1 (c .before .if1 .left) in
-    search needs
-
 pub records-spec : {M : Type 1} → statement M
-records-spec =
-    tie.close (tie.spec Inv-loop μ-loop (λ c. search needs) (λ c κs. search needs) (λ c κs. search needs) (λ c. search needs)
-        record-requires add-place loop-less loop-again (λ c. search needs))
+records-spec = tie.close (tie.spec
+    Inv-loop μ-loop (λ c. search needs) (λ c κs. search needs) (λ c κs. search needs) (λ c. search needs)
+    (λ c κs. c .before .before .parts-at .ensures .1 (c .if1 .left))
+    (λ c. let whole = c .before .before .before .parts-at .ensures .1 (c .before .if1 .left) in search needs)
+    (λ c. let whole = c .before .before .before .parts-at .ensures .1 (c .before .if1 .left) in search needs)
+    (λ c. let whole = c .before .before .before .parts-at .ensures .1 (c .before .if1 .left) in search needs)
+    (λ c. search needs))

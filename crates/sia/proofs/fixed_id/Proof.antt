@@ -5,9 +5,8 @@ use Rattle.area.proofs.Laws.Same.{same-eq}
 use Rattle.sia.proofs.fixed_id.Statement.{statement}
 use Rattle.sia.proofs.fixed_id.Tie as tie
 
-returns : tie.Need-returns
-returns c = sym (same-eq _ _ (sym (c .before .is-read-only .ensures) ∙ c .if1 .taken))
-
 pub fixed-id-spec : {M : Type 1} → statement M
-fixed-id-spec =
-    tie.close (tie.spec (λ c κs. search needs) returns (λ c. search needs))
+fixed-id-spec = tie.close (tie.spec
+    (λ c κs. search needs)
+    (λ c. sym (same-eq _ _ (sym (c .before .is-read-only .ensures) ∙ c .if1 .taken)))
+    (λ c. search needs))

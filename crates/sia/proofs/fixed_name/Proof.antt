@@ -19,11 +19,7 @@ six = 0 ∷ 1 ∷ 2 ∷ 3 ∷ 4 ∷ 5 ∷ []
 known : (o : Op) → OneOf six (tagOf op.the-type o) → o ≡ Unknown → ⊥
 known o h e = miss six 6 tt (subst (OneOf six) (ap (tagOf op.the-type) e) h)
 
-returns-2 : tie.Need-returns-2
-returns-2 c =
-    let asked = c .before .before in
-    c .name .ensures ∙ sym (name-of-op _ _ (known _ (c .before .match .keys2)) (sym (asked .op-of .ensures)))
-
 pub fixed-name-spec : {M : Type 1} → statement M
-fixed-name-spec =
-    tie.close (tie.spec (λ c κs. search needs) (λ c. search needs) (λ c. search needs) (λ c κs. search needs) returns-2)
+fixed-name-spec = tie.close (tie.spec
+    (λ c κs. search needs) (λ c. search needs) (λ c. search needs) (λ c κs. search needs)
+    (λ c. let asked = c .before .before in c .name .ensures ∙ sym (name-of-op _ _ (known _ (c .before .match .keys2)) (sym (asked .op-of .ensures)))))

@@ -9,16 +9,9 @@ use Rattle.sia.specs.Number.{decoded, number}
 use Rattle.sia.proofs.number_of.Statement.{statement}
 use Rattle.sia.proofs.number_of.Tie as tie
 
-returns : tie.Need-returns
-unfolding number
-returns c = no _ _ _ (ne-eqb _ _ (c .if1 .taken)) refl
-
-returns-2 : tie.Need-returns-2
-unfolding number
-returns-2 c =
-    let eight = c .before .if1 .left in
-    yes _ _ _ (eq-eqb _ _ eight) (ap (decoded 0) (c .load .ensures ∙ ap valueOf (part-whole _ 8 (sym eight))))
-
 pub number-of-spec : {M : Type 1} → statement M
-number-of-spec =
-    tie.close (tie.spec returns (λ c κs. search needs) returns-2)
+unfolding number
+number-of-spec = tie.close (tie.spec
+    (λ c. no _ _ _ (ne-eqb _ _ (c .if1 .taken)) refl) (λ c κs. search needs)
+    (λ c. let eight = c .before .if1 .left in
+        yes _ _ _ (eq-eqb _ _ eight) (ap (decoded 0) (c .load .ensures ∙ ap valueOf (part-whole _ 8 (sym eight))))))

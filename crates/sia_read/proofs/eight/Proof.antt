@@ -10,12 +10,6 @@ use borrow.Author.Needs.{needs}
 use Rattle.sia_read.proofs.eight.Statement.{statement}
 use Rattle.sia_read.proofs.eight.Tie as tie
 
-returns : tie.Need-returns
-unfolding number
-returns c =
-    let a = c .before .before .args in
-    record { stays = omega arith; says = short _ (a .bytes .now) (a .at) 8 _ _ (c .if1 .taken) }
-
 returns-2 : tie.Need-returns-2
 unfolding number reading pick
 returns-2 c =
@@ -28,5 +22,8 @@ returns-2 c =
     }
 
 pub eight-spec : {M : Type 1} → statement M
-eight-spec =
-    tie.close (tie.spec (λ c. search needs) returns (λ c. search needs) (λ c κs. search needs) returns-2)
+unfolding number
+eight-spec = tie.close (tie.spec
+    (λ c. search needs)
+    (λ c. let a = c .before .before .args in record { stays = omega arith; says = short _ (a .bytes .now) (a .at) 8 _ _ (c .if1 .taken) })
+    (λ c. search needs) (λ c κs. search needs) returns-2)

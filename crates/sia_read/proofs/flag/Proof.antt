@@ -16,12 +16,6 @@ use borrow.Author.Needs.{needs}
 use Rattle.sia_read.proofs.flag.Statement.{statement}
 use Rattle.sia_read.proofs.flag.Tie as tie
 
-returns : tie.Need-returns
-unfolding flag
-returns c =
-    let a = c .before .args in
-    record { stays = search needs; says = short _ (a .bytes .now) (a .at) 1 _ _ (c .if1 .taken) }
-
 returns-2 : tie.Need-returns-2
 unfolding flag reading pick
 returns-2 c =
@@ -46,5 +40,8 @@ returns-3 c =
     }
 
 pub flag-spec : {M : Type 1} → statement M
-flag-spec =
-    tie.close (tie.spec (λ c. search needs) returns (λ c. search needs) returns-2 (λ c. search needs) returns-3)
+unfolding flag
+flag-spec = tie.close (tie.spec
+    (λ c. search needs)
+    (λ c. let a = c .before .args in record { stays = search needs; says = short _ (a .bytes .now) (a .at) 1 _ _ (c .if1 .taken) })
+    (λ c. search needs) returns-2 (λ c. search needs) returns-3)

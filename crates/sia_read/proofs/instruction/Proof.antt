@@ -37,55 +37,11 @@ named c next q = long next (start c .args .bytes .now) (start c .args .at) 16 (t
 
 -- ---- the answers
 
-returns : tie.Need-returns
-unfolding instruction
-returns c =
-    let a = c .before .before .args in
-    record { stays = search needs; says = short _ (a .bytes .now) (a .at) 16 _ _ (c .if1 .taken) }
-
-copy-between-requires : tie.Need-copy-between-requires
-copy-between-requires c κs =
-    let named = ap (λ (x : Instruction). length (x .name)) (c .before .before .before .before .pre .1) in
-    (omega arith, omega arith)
-
-returns-2 : tie.Need-returns-2
-unfolding instruction
-returns-2 c =
-    let count = c .before .before in
-    record { stays = search needs; says = named count _ (stops _ _ _ (count .limited .ensures) (c .if2 .taken)) }
-
 operands-requires : tie.Need-operands-requires
 operands-requires c κs =
     let count = c .before .before .before in
     let read = count .limited .ensures in
     (read .stays, (limited-within _ _ (sym (read .says) ∙ fine _ _ _ (c .before .if2 .left)), ap (λ (x : Instruction). x .operands) (start count .pre .1)))
-
-returns-3 : tie.Need-returns-3
-unfolding instruction
-returns-3 c =
-    let list = c .before .before in
-    let count = list .before .before .before .before in
-    record {
-      stays = search needs;
-      says =
-          named count _
-          (goes _ (count .limited .ensures) (list .before .before .if2 .left)
-          (stops _ _ _ (list .operands .ensures) (c .if3 .taken)));
-    }
-
-returns-4 : tie.Need-returns-4
-unfolding instruction
-returns-4 c =
-    let list = c .before .before .before .before .before in
-    let count = list .before .before .before .before in
-    record {
-      stays = search needs;
-      says =
-          named count _
-          (goes _ (count .limited .ensures) (list .before .before .if2 .left)
-          (goes _ (list .operands .ensures) (c .before .before .before .if3 .left)
-          (stops _ _ _ (c .before .before .flag .ensures) (c .if4 .taken))));
-    }
 
 returns-5 : tie.Need-returns-5
 unfolding instruction reading pick
@@ -99,18 +55,29 @@ returns-5 c =
     let name =
     count .before .fixed-name .ensures
     ∙ put-part entry bytes (start count .args .at) 16 empty (omega (arith, there count)) (copied count .copy-between .ensures) in
-    record {
-      stays = proof .flag .ensures .stays;
-      says =
-          named count _
-          (goes _ (count .limited .ensures) (list .before .before .if2 .left)
-          (goes _ (list .operands .ensures) (proof .before .if3 .left)
-          (goes _ (proof .flag .ensures) (c .before .if4 .left)
-          (ap (λ (bs : List ℕ). value (record { name = bs; count = count .limited .result .value; operands = list .operands .result .list;
-              proof = proof .flag .result .value }) (drop (proof .flag .result .next) bytes)) name))));
-    }
+    record { stays = proof .flag .ensures .stays; says =
+        named count _ (goes _ (count .limited .ensures) (list .before .before .if2 .left)
+        (goes _ (list .operands .ensures) (proof .before .if3 .left) (goes _ (proof .flag .ensures) (c .before .if4 .left)
+        (ap (λ (bs : List ℕ). value (record { name = bs; count = count .limited .result .value; operands = list .operands .result .list;
+            proof = proof .flag .result .value }) (drop (proof .flag .result .next) bytes)) name)))) }
 
 pub instruction-spec : {M : Type 1} → statement M
-instruction-spec =
-    tie.close (tie.spec (λ c. search needs) returns (λ c. search needs) copy-between-requires (λ c κs. search needs) (λ c. search needs)
-        (λ c κs. search needs) returns-2 operands-requires returns-3 (λ c κs. search needs) returns-4 returns-5)
+unfolding instruction
+instruction-spec = tie.close (tie.spec
+    (λ c. search needs)
+    (λ c. let a = c .before .before .args in record { stays = search needs; says = short _ (a .bytes .now) (a .at) 16 _ _ (c .if1 .taken) })
+    (λ c. search needs)
+    (λ c κs. let named = ap (λ (x : Instruction). length (x .name)) (c .before .before .before .before .pre .1) in (omega arith, omega arith))
+    (λ c κs. search needs) (λ c. search needs) (λ c κs. search needs)
+    (λ c. let count = c .before .before in
+        record { stays = search needs; says = named count _ (stops _ _ _ (count .limited .ensures) (c .if2 .taken)) })
+    operands-requires
+    (λ c. let list = c .before .before in let test = list .before .before in let count = test .before .before in
+        record { stays = start count .pre .0; says = named count _ (goes _ (count .limited .ensures) (test .if2 .left)
+            (stops _ _ _ (list .operands .ensures) (c .if3 .taken))) })
+    (λ c κs. search needs)
+    (λ c. let proof = c .before .before in let list = proof .before .before .before in let test = list .before .before in
+        let count = test .before .before in
+        record { stays = start count .pre .0; says = named count _ (goes _ (count .limited .ensures) (test .if2 .left)
+            (goes _ (list .operands .ensures) (proof .before .if3 .left) (stops _ _ _ (proof .flag .ensures) (c .if4 .taken)))) })
+    returns-5)

@@ -18,17 +18,6 @@ Inv-loop bytes at n list₀ place₀ i₀ list place i = Entered instruction 32 
 abbrev μ-loop : tie.MeasureT-loop
 μ-loop bytes at n list₀ place₀ i₀ list place i = n - i
 
-loop-holds : tie.Need-loop-holds Inv-loop μ-loop
-loop-holds c = begin _ _ _ _ _ _ (c .before .before .pre .0) (ap (λ (none : Instruction). replicate 32 none) (c .empty .ensures))
-
-instruction-requires : tie.Need-instruction-requires Inv-loop μ-loop
-instruction-requires c κs = (c .before .before .loop .inv .stays, fresh _ _ _ _ _ _ (c .before .before .loop .inv) _ (omega arith))
-
-returns : tie.Need-returns Inv-loop μ-loop
-returns c =
-    let l = c .before .before .before .before .before .loop in
-    stop _ _ _ _ _ _ (l .inv) (c .before .before .before .before .loop-test .taken) (c .before .before .instruction .ensures) (c .if1 .taken)
-
 loop-again : tie.Need-loop-again Inv-loop μ-loop
 loop-again c =
     let l = c .before .before .before .before .before .before .loop in
@@ -36,10 +25,13 @@ loop-again c =
     further _ _ _ _ _ _ (l .inv) (c .before .before .before .before .before .loop-test .taken) (a .pre .1)
         (c .before .before .before .instruction .ensures) (c .before .if1 .left)
 
-returns-2 : tie.Need-returns-2 Inv-loop μ-loop
-returns-2 c = done _ _ _ _ _ _ (c .before .loop .inv) (c .loop-test .left) (c .before .before .before .before .pre .1)
-
 pub instructions-spec : {M : Type 1} → statement M
-instructions-spec =
-    tie.close (tie.spec Inv-loop μ-loop (λ c κs. search needs) loop-holds (λ c. search needs) (λ c. omega arith) instruction-requires
-        returns (λ c. search needs) (λ c. omega arith) (λ c. search needs) (λ c. omega arith) loop-again returns-2)
+instructions-spec = tie.close (tie.spec
+    Inv-loop μ-loop (λ c κs. search needs)
+    (λ c. begin _ _ _ _ _ _ (c .before .before .pre .0) (ap (λ (none : Instruction). replicate 32 none) (c .empty .ensures)))
+    (λ c. search needs) (λ c. omega arith)
+    (λ c κs. (c .before .before .loop .inv .stays, fresh _ _ _ _ _ _ (c .before .before .loop .inv) _ (omega arith)))
+    (λ c. let l = c .before .before .before .before .before .loop in
+        stop _ _ _ _ _ _ (l .inv) (c .before .before .before .before .loop-test .taken) (c .before .before .instruction .ensures) (c .if1 .taken))
+    (λ c. search needs) (λ c. omega arith) (λ c. search needs) (λ c. omega arith) loop-again
+    (λ c. done _ _ _ _ _ _ (c .before .loop .inv) (c .loop-test .left) (c .before .before .before .before .pre .1)))

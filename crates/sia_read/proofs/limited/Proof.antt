@@ -9,25 +9,13 @@ use borrow.Author.Needs.{needs}
 use Rattle.sia_read.proofs.limited.Statement.{statement}
 use Rattle.sia_read.proofs.limited.Tie as tie
 
-returns : tie.Need-returns
-unfolding limited
-returns c =
-    let read = c .before .before .eight .ensures in
-    record { stays = read .stays; says = stops _ _ _ read (c .if1 .taken) }
-
-returns-2 : tie.Need-returns-2
-unfolding limited reading pick
-returns-2 c =
-    let read = c .before .before .before .before .eight .ensures in
-    record { stays = search needs; says = goes _ read (c .before .before .if1 .left) (yes _ _ _ (lt-ltb _ _ (c .if2 .taken)) refl) }
-
-returns-3 : tie.Need-returns-3
-unfolding limited
-returns-3 c =
-    let read = c .before .before .before .before .eight .ensures in
-    let zero = c .before .before .if1 .left in
-    record { stays = read .stays; says = goes _ read zero (no _ _ _ (le-ltb _ _ (c .if2 .left)) (fine _ _ _ zero)) }
-
 pub limited-spec : {M : Type 1} → statement M
-limited-spec =
-    tie.close (tie.spec (λ c κs. search needs) returns returns-2 returns-3)
+unfolding limited pick reading
+limited-spec = tie.close (tie.spec
+    (λ c κs. search needs)
+    (λ c. let read = c .before .before .eight .ensures in record { stays = read .stays; says = stops _ _ _ read (c .if1 .taken) })
+    (λ c. let read = c .before .before .before .before .eight .ensures in
+        record { stays = search needs; says = goes _ read (c .before .before .if1 .left) (yes _ _ _ (lt-ltb _ _ (c .if2 .taken)) refl) })
+    (λ c. let read = c .before .before .before .before .eight .ensures in
+        let zero = c .before .before .if1 .left in
+        record { stays = read .stays; says = goes _ read zero (no _ _ _ (le-ltb _ _ (c .if2 .left)) (fine _ _ _ zero)) }))

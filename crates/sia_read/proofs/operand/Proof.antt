@@ -7,10 +7,6 @@ use borrow.Author.Needs.{needs}
 use Rattle.sia_read.proofs.operand.Statement.{statement}
 use Rattle.sia_read.proofs.operand.Tie as tie
 
-returns : tie.Need-returns
-unfolding operand
-returns c = record { stays = search needs; says = stops _ _ _ (c .before .before .eight .ensures) (c .if1 .taken) }
-
 returns-2 : tie.Need-returns-2
 unfolding operand
 returns-2 c =
@@ -20,13 +16,12 @@ returns-2 c =
       says = goes _ first (c .before .before .before .if1 .left) (stops _ _ _ (c .before .before .eight2 .ensures) (c .if2 .taken));
     }
 
-returns-3 : tie.Need-returns-3
-unfolding operand reading pick
-returns-3 c =
-    let first = c .before .before .before .before .before .eight .ensures in
-    let second = c .before .before .eight2 .ensures in
-    record { stays = second .stays; says = goes _ first (c .before .before .before .if1 .left) (goes _ second (c .if2 .left) refl) }
-
 pub operand-spec : {M : Type 1} → statement M
-operand-spec =
-    tie.close (tie.spec (λ c κs. search needs) returns (λ c κs. search needs) returns-2 returns-3)
+unfolding operand pick reading
+operand-spec = tie.close (tie.spec
+    (λ c κs. search needs)
+    (λ c. record { stays = search needs; says = stops _ _ _ (c .before .before .eight .ensures) (c .if1 .taken) })
+    (λ c κs. search needs) returns-2
+    (λ c. let first = c .before .before .before .before .before .eight .ensures in
+        let second = c .before .before .eight2 .ensures in
+        record { stays = second .stays; says = goes _ first (c .before .before .before .if1 .left) (goes _ second (c .if2 .left) refl) }))

@@ -15,17 +15,6 @@ Inv-loop bytes at n list₀ place₀ i₀ list place i = Entered operand 4 noOpe
 abbrev μ-loop : tie.MeasureT-loop
 μ-loop bytes at n list₀ place₀ i₀ list place i = n - i
 
-loop-holds : tie.Need-loop-holds Inv-loop μ-loop
-loop-holds c = begin _ _ _ _ _ _ (c .before .pre .0) (c .before .pre .1 .1)
-
-operand-requires : tie.Need-operand-requires Inv-loop μ-loop
-operand-requires c κs = c .before .loop .inv .stays
-
-returns : tie.Need-returns Inv-loop μ-loop
-returns c =
-    let l = c .before .before .before .before .loop in
-    stop _ _ _ _ _ _ (l .inv) (c .before .before .before .loop-test .taken) (c .before .before .operand .ensures) (c .if1 .taken)
-
 loop-again : tie.Need-loop-again Inv-loop μ-loop
 loop-again c =
     let l = c .before .before .before .before .before .loop in
@@ -33,10 +22,12 @@ loop-again c =
     further _ _ _ _ _ _ (l .inv) (c .before .before .before .before .loop-test .taken) (a .pre .1 .0) (c .before .before .before .operand .ensures)
         (c .before .if1 .left)
 
-returns-2 : tie.Need-returns-2 Inv-loop μ-loop
-returns-2 c = done _ _ _ _ _ _ (c .before .loop .inv) (c .loop-test .left) (c .before .before .before .pre .1 .0)
-
 pub operands-spec : {M : Type 1} → statement M
-operands-spec =
-    tie.close (tie.spec Inv-loop μ-loop loop-holds operand-requires returns (λ c. search needs) (λ c. omega arith) (λ c. search needs)
-        (λ c. omega arith) loop-again returns-2)
+operands-spec = tie.close (tie.spec
+    Inv-loop μ-loop
+    (λ c. begin _ _ _ _ _ _ (c .before .pre .0) (c .before .pre .1 .1))
+    (λ c κs. c .before .loop .inv .stays)
+    (λ c. let l = c .before .before .before .before .loop in
+        stop _ _ _ _ _ _ (l .inv) (c .before .before .before .loop-test .taken) (c .before .before .operand .ensures) (c .if1 .taken))
+    (λ c. search needs) (λ c. omega arith) (λ c. search needs) (λ c. omega arith) loop-again
+    (λ c. done _ _ _ _ _ _ (c .before .loop .inv) (c .loop-test .left) (c .before .before .before .pre .1 .0)))

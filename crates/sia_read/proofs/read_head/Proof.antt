@@ -7,19 +7,12 @@ use borrow.Author.Needs.{needs}
 use Rattle.sia_read.proofs.read_head.Statement.{statement}
 use Rattle.sia_read.proofs.read_head.Tie as tie
 
-returns : tie.Need-returns
-unfolding decode
-returns c = ap (told _) (c .empty .ensures) ∙ answer-fault (c .before .before .before .head .ensures) (c .before .if1 .taken)
-
-returns-2 : tie.Need-returns-2
-unfolding decode
-returns-2 c = ap (told 9) (c .empty2 .ensures) ∙ answer-more (c .before .before .before .before .before .head .ensures)
-    (c .before .before .before .if1 .left) (λ e. omega (arith, c .before .if2 .taken))
-
-returns-3 : tie.Need-returns-3
-unfolding decode
-returns-3 c = answer-all (c .before .before .before .before .before .head .ensures) (c .before .before .before .if1 .left) (omega (arith, c .before .if2 .left))
-
 pub read-head-spec : {M : Type 1} → statement M
-read-head-spec =
-    tie.close (tie.spec (λ c κs. search needs) (λ c κs. search needs) returns (λ c κs. search needs) returns-2 returns-3)
+unfolding decode
+read-head-spec = tie.close (tie.spec
+    (λ c κs. search needs) (λ c κs. search needs)
+    (λ c. ap (told _) (c .empty .ensures) ∙ answer-fault (c .before .before .before .head .ensures) (c .before .if1 .taken))
+    (λ c κs. search needs)
+    (λ c. ap (told 9) (c .empty2 .ensures) ∙ answer-more (c .before .before .before .before .before .head .ensures)
+        (c .before .before .before .if1 .left) (λ e. omega (arith, c .before .if2 .taken)))
+    (λ c. answer-all (c .before .before .before .before .before .head .ensures) (c .before .before .before .if1 .left) (omega (arith, c .before .if2 .left))))

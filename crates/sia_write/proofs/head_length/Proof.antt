@@ -8,21 +8,9 @@ use Rattle.sia.proofs.Laws.Joined.{length-head}
 use Rattle.sia_write.proofs.head_length.Statement.{statement}
 use Rattle.sia_write.proofs.head_length.Tie as tie
 
-instructions-length-requires : tie.Need-instructions-length-requires
-instructions-length-requires c κs =
-    let w = within-is (c .before .args .head) (c .before .pre) in
-    (w .count, w .few)
-
-add-result : tie.Need-add-result
-add-result c =
-    let w = within-is (c .before .before .args .head) (c .before .before .pre) in
-    omega arith
-
-returns : tie.Need-returns
-returns c =
-    let s = c .before .before in
-    ap (λ (n : ℕ). 48 + n) (c .instructions-length .ensures .0) ∙ sym (length-head (s .args .head) (known-head (s .args .head) _ (s .good .0) .0))
-
 pub head-length-spec : {M : Type 1} → statement M
-head-length-spec =
-    tie.close (tie.spec instructions-length-requires add-result returns)
+head-length-spec = tie.close (tie.spec
+    (λ c κs. let w = within-is (c .before .args .head) (c .before .pre) in (w .count, w .few))
+    (λ c. let w = within-is (c .before .before .args .head) (c .before .before .pre) in omega arith)
+    (λ c. let s = c .before .before in
+        ap (λ (n : ℕ). 48 + n) (c .instructions-length .ensures .0) ∙ sym (length-head (s .args .head) (known-head (s .args .head) _ (s .good .0) .0))))

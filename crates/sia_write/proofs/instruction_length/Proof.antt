@@ -7,11 +7,8 @@ use borrow.Author.Needs.{needs}
 use Rattle.sia_write.proofs.instruction_length.Statement.{statement}
 use Rattle.sia_write.proofs.instruction_length.Tie as tie
 
-returns : tie.Need-returns
-returns c =
-    let long = known-instruction (c .args .x) _ (c .good .0) in
-    (sym (length-instruction (c .args .x) (long .0) (long .1) (c .pre)), omega arith)
-
 pub instruction-length-spec : {M : Type 1} → statement M
-instruction-length-spec =
-    tie.close (tie.spec (λ c. search needs) (λ c. search needs) returns)
+instruction-length-spec = tie.close (tie.spec
+    (λ c. search needs) (λ c. search needs)
+    (λ c. let long = known-instruction (c .args .x) _ (c .good .0) in
+        (sym (length-instruction (c .args .x) (long .0) (long .1) (c .pre)), omega arith)))

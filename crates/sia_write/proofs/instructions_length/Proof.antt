@@ -18,15 +18,6 @@ Inv-loop n list total₀ i₀ total i = (i ≤ n) × (total ≡ length (joined i
 abbrev μ-loop : tie.MeasureT-loop
 μ-loop n list total₀ i₀ total i = n - i
 
-loop-holds : tie.Need-loop-holds Inv-loop μ-loop
-unfolding joined
-loop-holds c = (omega arith, refl, omega arith)
-
-instruction-length-requires : tie.Need-instruction-length-requires Inv-loop μ-loop
-instruction-length-requires c κs =
-    let s = c .before .before .before in
-    leb-true _ _ (every-at fewOperands _ _ (c .before .before .loop .i) _ (s .pre .1) (c .before .loop-test .taken) (omega (arith, s .good .0 .1 .0 .1)))
-
 loop-again : tie.Need-loop-again Inv-loop μ-loop
 loop-again c =
     let l = c .before .before .before .loop in
@@ -44,6 +35,9 @@ returns c =
     (l .inv .1 ∙ ap (λ (k : ℕ). length (joined instructionBytes (take k (c .before .before .args .t1)))) all, omega arith)
 
 pub instructions-length-spec : {M : Type 1} → statement M
-instructions-length-spec =
-    tie.close (tie.spec Inv-loop μ-loop loop-holds (λ c. search needs) (λ c. omega arith) instruction-length-requires (λ c. omega arith)
-        (λ c. search needs) (λ c. omega arith) loop-again returns)
+unfolding joined
+instructions-length-spec = tie.close (tie.spec
+    Inv-loop μ-loop (λ c. (omega arith, refl, omega arith)) (λ c. search needs) (λ c. omega arith)
+    (λ c κs. let s = c .before .before .before in
+        leb-true _ _ (every-at fewOperands _ _ (c .before .before .loop .i) _ (s .pre .1) (c .before .loop-test .taken) (omega (arith, s .good .0 .1 .0 .1))))
+    (λ c. omega arith) (λ c. search needs) (λ c. omega arith) loop-again returns)

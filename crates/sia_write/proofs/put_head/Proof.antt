@@ -51,17 +51,6 @@ copy-between-requires c κs =
     let long = ap length (at-fixed .fixed-id .ensures) in
     (omega arith, omega arith)
 
-store-requires : tie.Need-store-requires
-store-requires c κs = let r = room (before-id (c .before .before .before)) in omega arith
-
-put-instructions-requires : tie.Need-put-instructions-requires
-put-instructions-requires c κs = let r = room (before-id (before-count (c .before .before .before .before))) in
-    (r .limits .count, (r .limits .few, omega arith))
-
-store-requires-2 : tie.Need-store-requires-2
-store-requires-2 c κs = let r = room (before-id (before-count (before-list (c .before .before .before)))) in
-    omega (arith, c .before .before .before .put-instructions .ensures .0)
-
 returns : tie.Need-returns
 unfolding encode
 returns c =
@@ -78,6 +67,10 @@ returns c =
     (r .contract) (length-bytes 8 _) refl refl refl (list .put-instructions .ensures .0)
 
 pub put-head-spec : {M : Type 1} → statement M
-put-head-spec =
-    tie.close (tie.spec (λ c κs. search needs) (λ c. search needs) copy-between-requires store-requires put-instructions-requires
-        store-requires-2 (λ c. search needs) returns)
+put-head-spec = tie.close (tie.spec
+    (λ c κs. search needs) (λ c. search needs) copy-between-requires
+    (λ c κs. let r = room (before-id (c .before .before .before)) in omega arith)
+    (λ c κs. let r = room (before-id (before-count (c .before .before .before .before))) in (r .limits .count, (r .limits .few, omega arith)))
+    (λ c κs. let r = room (before-id (before-count (before-list (c .before .before .before)))) in
+        omega (arith, c .before .before .before .put-instructions .ensures .0))
+    (λ c. search needs) returns)

@@ -53,15 +53,6 @@ copy-between-requires c κs =
     let long = ap length (at-fixed .fixed-name .ensures) in
     (omega arith, omega arith)
 
-store-requires : tie.Need-store-requires
-store-requires c κs = let r = room (before-name (c .before .before .before)) in omega arith
-
-put-operands-requires : tie.Need-put-operands-requires
-put-operands-requires c κs = let r = room (before-name (before-count (c .before .before .before .before))) in (r .few, omega arith)
-
-fill-requires : tie.Need-fill-requires
-fill-requires c κs = let r = room (before-name (before-count (before-operands (c .before .before .before .before)))) in omega arith
-
 returns : tie.Need-returns
 unfolding instructionBytes
 returns c =
@@ -80,7 +71,11 @@ returns c =
     refl (omega arith) refl
 
 pub put-instruction-spec : {M : Type 1} → statement M
-put-instruction-spec =
-    tie.close (tie.spec (λ c κs. search needs) (λ c. search needs) copy-between-requires (λ c. search needs) store-requires
-        (λ c. search needs) put-operands-requires (λ c. search needs) (λ c. search needs) (λ c. search needs) (λ c κs. search needs)
-        fill-requires (λ c. search needs) returns)
+put-instruction-spec = tie.close (tie.spec
+    (λ c κs. search needs) (λ c. search needs) copy-between-requires (λ c. search needs)
+    (λ c κs. let r = room (before-name (c .before .before .before)) in omega arith)
+    (λ c. search needs)
+    (λ c κs. let r = room (before-name (before-count (c .before .before .before .before))) in (r .few, omega arith))
+    (λ c. search needs) (λ c. search needs) (λ c. search needs) (λ c κs. search needs)
+    (λ c κs. let r = room (before-name (before-count (before-operands (c .before .before .before .before)))) in omega arith)
+    (λ c. search needs) returns)

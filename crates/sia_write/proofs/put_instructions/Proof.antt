@@ -32,10 +32,6 @@ Inv-loop n out₀ at list place₀ i₀ out place i =
 abbrev μ-loop : tie.MeasureT-loop
 μ-loop n out₀ at list place₀ i₀ out place i = n - i
 
-loop-holds : tie.Need-loop-holds Inv-loop μ-loop
-unfolding joined
-loop-holds c = (omega arith, refl, omega arith, sym (put-nil _ _))
-
 put-instruction-requires : tie.Need-put-instruction-requires Inv-loop μ-loop
 put-instruction-requires c κs =
     let l = c .before .before .before .loop in
@@ -46,12 +42,6 @@ put-instruction-requires c κs =
       leb-true _ _ (every-at fewOperands _ _ (l .i) _ (s .pre .1 .0) t (omega arith)),
       room-next instructionBytes (s .args .t1) (l .i) (s .args .n) (s .args .at) _ t long room (l .inv .2),
     )
-
-instruction-length-requires : tie.Need-instruction-length-requires Inv-loop μ-loop
-instruction-length-requires c κs =
-    let s = c .before .before .before .before .before .before .before .before in
-    leb-true _ _ (every-at fewOperands _ _ (c .before .before .before .before .before .before .loop .i) _ (s .pre .1 .0)
-        (c .before .before .before .before .before .loop-test .taken) (omega (arith, s .good .0 .1 .0 .1)))
 
 add-place : tie.Need-add-place Inv-loop μ-loop
 add-place c =
@@ -83,6 +73,11 @@ returns c =
     )
 
 pub put-instructions-spec : {M : Type 1} → statement M
-put-instructions-spec =
-    tie.close (tie.spec Inv-loop μ-loop loop-holds (λ c. search needs) (λ c. omega arith) put-instruction-requires
-        instruction-length-requires add-place (λ c. search needs) (λ c. omega arith) loop-again (λ c. search needs) returns)
+unfolding joined
+put-instructions-spec = tie.close (tie.spec
+    Inv-loop μ-loop (λ c. (omega arith, refl, omega arith, sym (put-nil _ _))) (λ c. search needs) (λ c. omega arith)
+    put-instruction-requires
+    (λ c κs. let s = c .before .before .before .before .before .before .before .before in
+        leb-true _ _ (every-at fewOperands _ _ (c .before .before .before .before .before .before .loop .i) _ (s .pre .1 .0)
+        (c .before .before .before .before .before .loop-test .taken) (omega (arith, s .good .0 .1 .0 .1))))
+    add-place (λ c. search needs) (λ c. omega arith) loop-again (λ c. search needs) returns)

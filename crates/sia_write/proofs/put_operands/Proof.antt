@@ -20,10 +20,6 @@ Inv-loop n out₀ at list i₀ out i = (i ≤ n) × (length out ≡ length out�
 abbrev μ-loop : tie.MeasureT-loop
 μ-loop n out₀ at list i₀ out i = n - i
 
-loop-holds : tie.Need-loop-holds Inv-loop μ-loop
-unfolding joined
-loop-holds c = (omega arith, refl, sym (put-nil _ _))
-
 loop-again : tie.Need-loop-again Inv-loop μ-loop
 unfolding operandBytes
 loop-again c =
@@ -45,7 +41,8 @@ returns c =
     l .inv .2 ∙ ap (λ (k : ℕ). put (s .args .out .now) (s .args .at) (joined operandBytes (take k (s .args .t1)))) all
 
 pub put-operands-spec : {M : Type 1} → statement M
-put-operands-spec =
-    tie.close (tie.spec Inv-loop μ-loop loop-holds (λ c. search needs) (λ c. omega arith) (λ c. omega arith) (λ c. omega arith)
-        (λ c κs. omega arith) (λ c. omega arith) (λ c κs. search needs) (λ c. search needs) (λ c. omega arith) loop-again
-        (λ c. search needs) returns)
+unfolding joined
+put-operands-spec = tie.close (tie.spec
+    Inv-loop μ-loop (λ c. (omega arith, refl, sym (put-nil _ _))) (λ c. search needs) (λ c. omega arith)
+    (λ c. omega arith) (λ c. omega arith) (λ c κs. omega arith) (λ c. omega arith) (λ c κs. search needs)
+    (λ c. search needs) (λ c. omega arith) loop-again (λ c. search needs) returns)

@@ -11,24 +11,6 @@ use borrow.Author.Needs.{needs}
 use Rattle.sia_write.proofs.write_head.Statement.{statement}
 use Rattle.sia_write.proofs.write_head.Tie as tie
 
-returns : tie.Need-returns
-unfolding write
-returns c = yes _ _ _ (ap not (sym (c .before .within .ensures)) ∙ c .if1 .taken) refl
-
-head-length-requires : tie.Need-head-length-requires
-head-length-requires c κs = sym (c .before .within .ensures) ∙ not-false _ (c .if1 .left)
-
-returns-2 : tie.Need-returns-2
-unfolding write
-returns-2 c =
-    let a = c .before .before .before .before .before .args in
-    let short : length (a .out .now) < length (encode (a .head)) = omega (arith, c .before .head-length .ensures, c .if2 .taken) in
-    no _ _ _ (ap not (sym (c .before .before .before .within .ensures)) ∙ c .before .before .if1 .left) (yes _ _ _ (lt-ltb _ _ short) refl)
-
-put-head-requires : tie.Need-put-head-requires
-put-head-requires c κs = (sym (c .before .before .before .before .within .ensures) ∙ not-false _ (c .before .before .before .if1 .left),
-    omega (arith, c .before .before .head-length .ensures, c .before .if2 .left))
-
 returns-3 : tie.Need-returns-3
 unfolding write
 returns-3 c =
@@ -41,5 +23,13 @@ returns-3 c =
         (c .before .before .put-head .ensures i)))
 
 pub write-head-spec : {M : Type 1} → statement M
-write-head-spec =
-    tie.close (tie.spec (λ c κs. search needs) returns head-length-requires returns-2 put-head-requires (λ c. search needs) returns-3)
+unfolding write
+write-head-spec = tie.close (tie.spec
+    (λ c κs. search needs) (λ c. yes _ _ _ (ap not (sym (c .before .within .ensures)) ∙ c .if1 .taken) refl)
+    (λ c κs. sym (c .before .within .ensures) ∙ not-false _ (c .if1 .left))
+    (λ c. let a = c .before .before .before .before .before .args in
+        let short : length (a .out .now) < length (encode (a .head)) = omega (arith, c .before .head-length .ensures, c .if2 .taken) in
+        no _ _ _ (ap not (sym (c .before .before .before .within .ensures)) ∙ c .before .before .if1 .left) (yes _ _ _ (lt-ltb _ _ short) refl))
+    (λ c κs. (sym (c .before .before .before .before .within .ensures) ∙ not-false _ (c .before .before .before .if1 .left),
+        omega (arith, c .before .before .head-length .ensures, c .before .if2 .left)))
+    (λ c. search needs) returns-3)

@@ -9,19 +9,13 @@ use Rattle.blake2b.proofs.Laws.Steps.{vector}
 use Rattle.blake2b.proofs.compression.local.Statement.{statement}
 use Rattle.blake2b.proofs.compression.local.Tie as tie
 
-returns : tie.Need-returns
-unfolding local xorAt
-returns c =
-    let at = c .before in
-    yes _ _ _ (c .if1 .taken)
-    (ap (λ (v : List ℕ). xorAt v 14 0xFFFF_FFFF_FFFF_FFFF) (vector (at .args .t1) _ (at .good .0 .1 .0 .1) (at .fits .t .fits)))
-
-returns-2 : tie.Need-returns-2
-unfolding local xorAt
-returns-2 c = let at = c .before in no _ _ _ (c .if1 .left) (vector (at .args .t1) _ (at .good .0 .1 .0 .1) (at .fits .t .fits))
-
 pub local-spec : {M : Type 1} → statement M
-local-spec =
-    tie.close (tie.spec (λ c. search needs) (λ c. search needs) (λ c. search needs) (λ c. search needs) (λ c. search needs)
-        (λ c. search needs) (λ c. search needs) (λ c. search needs) (λ c. search needs) (λ c. search needs) (λ c. search needs)
-        (λ c. search needs) returns returns-2)
+unfolding local xorAt
+local-spec = tie.close (tie.spec
+    (λ c. search needs) (λ c. search needs) (λ c. search needs) (λ c. search needs) (λ c. search needs)
+    (λ c. search needs) (λ c. search needs) (λ c. search needs) (λ c. search needs) (λ c. search needs)
+    (λ c. search needs) (λ c. search needs)
+    (λ c. let at = c .before in
+        yes _ _ _ (c .if1 .taken)
+        (ap (λ (v : List ℕ). xorAt v 14 0xFFFF_FFFF_FFFF_FFFF) (vector (at .args .t1) _ (at .good .0 .1 .0 .1) (at .fits .t .fits))))
+    (λ c. let at = c .before in no _ _ _ (c .if1 .left) (vector (at .args .t1) _ (at .good .0 .1 .0 .1) (at .fits .t .fits))))

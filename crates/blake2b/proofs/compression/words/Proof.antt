@@ -17,19 +17,11 @@ Inv-loop b m₀ i₀ m i = (i ≤ 16) × (length m ≡ 16) × (take i m ≡ tab 
 abbrev μ-loop : tie.MeasureT-loop
 μ-loop b m₀ i₀ m i = 16 - i
 
-loop-holds : tie.Need-loop-holds Inv-loop μ-loop
-loop-holds c = (omega arith, refl, fill-none (zeros 16) _)
-
-loop-again : tie.Need-loop-again Inv-loop μ-loop
-loop-again c =
-    let l = c .before .before .loop in
-    (omega arith, search needs, fill-one _ _ (l .i) _ (l .inv .1) (omega arith) (c .load .ensures) (l .inv .2))
-
-returns : tie.Need-returns Inv-loop μ-loop
-unfolding words
-returns c = let l = c .before .loop in fill-all _ _ (l .i) _ (l .inv .1) (l .inv .0) (c .loop-test .left) (l .inv .2)
-
 pub words-spec : {M : Type 1} → statement M
-words-spec =
-    tie.close (tie.spec Inv-loop μ-loop loop-holds (λ c. omega arith) (λ c κs. omega arith) (λ c. omega arith) (λ c. omega arith)
-        (λ c. omega arith) (λ c. omega arith) loop-again returns)
+unfolding words
+words-spec = tie.close (tie.spec
+    Inv-loop μ-loop (λ c. (omega arith, refl, fill-none (zeros 16) _)) (λ c. omega arith) (λ c κs. omega arith)
+    (λ c. omega arith) (λ c. omega arith) (λ c. omega arith) (λ c. omega arith)
+    (λ c. let l = c .before .before .loop in
+        (omega arith, search needs, fill-one _ _ (l .i) _ (l .inv .1) (omega arith) (c .load .ensures) (l .inv .2)))
+    (λ c. let l = c .before .loop in fill-all _ _ (l .i) _ (l .inv .1) (l .inv .0) (c .loop-test .left) (l .inv .2)))

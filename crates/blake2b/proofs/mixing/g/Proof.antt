@@ -4,11 +4,8 @@ use Rattle.blake2b.specs.Compression.{G}
 use Rattle.blake2b.proofs.mixing.g.Statement.{statement}
 use Rattle.blake2b.proofs.mixing.g.Tie as tie
 
-returns : tie.Need-returns
-unfolding G
-returns c = cc
-
 pub g-spec : {M : Type 1} → statement M
-g-spec =
-    tie.close (tie.spec (λ c κs. search needs) (λ c κs. search needs) (λ c κs. search needs) (λ c κs. search needs) (λ c κs. search needs)
-        (λ c κs. search needs) (λ c κs. search needs) (λ c κs. search needs) returns)
+unfolding G
+g-spec = tie.close (tie.spec
+    (λ c κs. search needs) (λ c κs. search needs) (λ c κs. search needs) (λ c κs. search needs) (λ c κs. search needs)
+    (λ c κs. search needs) (λ c κs. search needs) (λ c κs. search needs) (λ c. cc))

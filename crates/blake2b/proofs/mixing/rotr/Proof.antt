@@ -4,10 +4,6 @@ use Rattle.blake2b.specs.Compression.{rotr}
 use Rattle.blake2b.proofs.mixing.rotr.Statement.{statement}
 use Rattle.blake2b.proofs.mixing.rotr.Tie as tie
 
-returns : tie.Need-returns
-unfolding rotr
-returns c = search needs
-
 pub rotr-spec : {M : Type 1} → statement M
-rotr-spec =
-    tie.close (tie.spec (λ c. search needs) (λ c. search needs) (λ c. search needs) (λ c. search needs) returns)
+unfolding rotr
+rotr-spec = tie.close (tie.spec (λ c. search needs) (λ c. search needs) (λ c. search needs) (λ c. search needs) (λ c. search needs))

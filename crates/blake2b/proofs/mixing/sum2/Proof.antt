@@ -4,11 +4,8 @@ use Rattle.blake2b.specs.Compression.{sum2}
 use Rattle.blake2b.proofs.mixing.sum2.Statement.{statement}
 use Rattle.blake2b.proofs.mixing.sum2.Tie as tie
 
-returns : tie.Need-returns
-unfolding sum2
-returns c = cc
-
 pub sum2-spec : {M : Type 1} → statement M
-sum2-spec =
-    tie.close (tie.spec (λ c. search needs) (λ c. search needs) (λ c. search needs) (λ c. search needs) (λ c κs. search needs)
-        (λ c. search needs) (λ c. search needs) returns)
+unfolding sum2
+sum2-spec = tie.close (tie.spec
+    (λ c. search needs) (λ c. search needs) (λ c. search needs) (λ c. search needs) (λ c κs. search needs)
+    (λ c. search needs) (λ c. search needs) (λ c. cc))

@@ -4,11 +4,8 @@ use Rattle.blake2b.specs.Compression.{sum3}
 use Rattle.blake2b.proofs.mixing.sum3.Statement.{statement}
 use Rattle.blake2b.proofs.mixing.sum3.Tie as tie
 
-returns : tie.Need-returns
-unfolding sum3
-returns c = cc
-
 pub sum3-spec : {M : Type 1} → statement M
-sum3-spec =
-    tie.close (tie.spec (λ c. search needs) (λ c. search needs) (λ c. search needs) (λ c. search needs) (λ c κs. search needs)
-        (λ c. search needs) (λ c. search needs) returns)
+unfolding sum3
+sum3-spec = tie.close (tie.spec
+    (λ c. search needs) (λ c. search needs) (λ c. search needs) (λ c. search needs) (λ c κs. search needs)
+    (λ c. search needs) (λ c. search needs) (λ c. cc))

@@ -4,11 +4,8 @@ use Rattle.blake2b.specs.Compression.{turn}
 use Rattle.blake2b.proofs.mixing.turn.Statement.{statement}
 use Rattle.blake2b.proofs.mixing.turn.Tie as tie
 
-returns : tie.Need-returns
-unfolding turn
-returns c = cc
-
 pub turn-spec : {M : Type 1} → statement M
-turn-spec =
-    tie.close (tie.spec (λ c. search needs) (λ c. search needs) (λ c. search needs) (λ c. search needs) (λ c κs. search needs)
-        (λ c. search needs) (λ c. search needs) returns)
+unfolding turn
+turn-spec = tie.close (tie.spec
+    (λ c. search needs) (λ c. search needs) (λ c. search needs) (λ c. search needs) (λ c κs. search needs)
+    (λ c. search needs) (λ c. search needs) (λ c. cc))

@@ -6,11 +6,8 @@ use borrow.Author.Needs.{needs}
 use Rattle.blake2b_vectors.proofs.self_test.grand_digest.Statement.{statement}
 use Rattle.blake2b_vectors.proofs.self_test.grand_digest.Tie as tie
 
-slice-aggregate-digest-2 : tie.Need-slice-aggregate-digest-2
-slice-aggregate-digest-2 c = sym (length-take-le _ _ (omega arith))
-
 pub grand-digest-spec : {M : Type 1} → statement M
-grand-digest-spec =
-    tie.close (tie.spec (λ c κs. search needs) (λ c κs. search needs) (λ c κs. search needs) (λ c κs. search needs) (λ c. search needs)
-        (λ c. search needs) slice-aggregate-digest-2 (λ c. search needs) (λ c κs. search needs) (λ c. search needs) (λ c κs. search needs)
-        (λ c. search needs) (λ c. search needs))
+grand-digest-spec = tie.close (tie.spec
+    (λ c κs. search needs) (λ c κs. search needs) (λ c κs. search needs) (λ c κs. search needs) (λ c. search needs)
+    (λ c. search needs) (λ c. sym (length-take-le _ _ (omega arith))) (λ c. search needs) (λ c κs. search needs)
+    (λ c. search needs) (λ c κs. search needs) (λ c. search needs) (λ c. search needs))

@@ -8,12 +8,9 @@ use borrow.Author.Needs.{needs}
 use Rattle.host.proofs.Program.none.Statement.{statement}
 use Rattle.host.proofs.Program.none.Tie as tie
 
-returns : tie.Need-returns
-unfolding noProgram
-returns c =
-    ap₂ (λ (terms : Terms) (progress : Progress). record { active = false; terms = terms; came = 0; progress = progress })
-    (c .before .none .ensures) (c .none2 .ensures)
-
 pub none-spec : {M : Type 1} → statement M
-none-spec =
-    tie.close (tie.spec (λ c κs. search needs) (λ c κs. search needs) returns)
+unfolding noProgram
+none-spec = tie.close (tie.spec
+    (λ c κs. search needs) (λ c κs. search needs)
+    (λ c. ap₂ (λ (terms : Terms) (progress : Progress). record { active = false; terms = terms; came = 0; progress = progress })
+        (c .before .none .ensures) (c .none2 .ensures)))

@@ -8,22 +8,12 @@ use borrow.Author.Needs.{needs}
 use Rattle.host.proofs.places.own_size.Statement.{statement}
 use Rattle.host.proofs.places.own_size.Tie as tie
 
-returns : tie.Need-returns
-unfolding ownSize
-returns c = no _ _ _ (sym (no _ _ _ (not-true _ (c .if1 .taken)) refl)) refl
-
-returns-2 : tie.Need-returns-2
-unfolding ownSize
-returns-2 c =
-    let at-if1 = c .before .before .before in
-    no _ _ _ (sym (yes _ _ _ (not-false _ (at-if1 .if1 .left)) (sym (ap not (sym (c .before .same-id .ensures) ∙ c .if2 .taken))))) refl
-
-returns-3 : tie.Need-returns-3
-unfolding ownSize
-returns-3 c =
-    let at-if1 = c .before .before .before in
-    yes _ _ _ (sym (yes _ _ _ (not-false _ (at-if1 .if1 .left)) (sym (ap not (sym (c .before .same-id .ensures) ∙ c .if2 .left))))) refl
-
 pub own-size-spec : {M : Type 1} → statement M
-own-size-spec =
-    tie.close (tie.spec returns (λ c κs. search needs) returns-2 returns-3)
+unfolding ownSize
+own-size-spec = tie.close (tie.spec
+    (λ c. no _ _ _ (sym (no _ _ _ (not-true _ (c .if1 .taken)) refl)) refl)
+    (λ c κs. search needs)
+    (λ c. let at-if1 = c .before .before .before in
+        no _ _ _ (sym (yes _ _ _ (not-false _ (at-if1 .if1 .left)) (sym (ap not (sym (c .before .same-id .ensures) ∙ c .if2 .taken))))) refl)
+    (λ c. let at-if1 = c .before .before .before in
+        yes _ _ _ (sym (yes _ _ _ (not-false _ (at-if1 .if1 .left)) (sym (ap not (sym (c .before .same-id .ensures) ∙ c .if2 .left))))) refl))

@@ -17,11 +17,6 @@ Inv-loop id places i₀ i = firstOf (hasId id) places ≡ i + firstOf (hasId id)
 abbrev μ-loop : tie.MeasureT-loop
 μ-loop id places i₀ i = 8 - i
 
-loop-holds : tie.Need-loop-holds Inv-loop μ-loop
-loop-holds c =
-    let whole = ap (firstOf (hasId (c .args .id))) (slice-all (c .args .t1) (c .good .0 .1 .0 .1)) in
-    omega (arith, whole)
-
 returns : tie.Need-returns Inv-loop μ-loop
 returns c =
     let at-place = c .before .before in
@@ -42,13 +37,11 @@ loop-again c =
     (sym (c .before .has-id .ensures) ∙ c .if1 .left) in
     omega (arith, further, l .inv)
 
-returns-2 : tie.Need-returns-2 Inv-loop μ-loop
-returns-2 c =
-    let l = c .before .loop in
-    let s = c .before .before in
-    omega (arith, first-done (hasId (s .args .id)) (s .args .t1) (l .i) 8 (omega arith), l .inv)
-
 pub place-number-spec : {M : Type 1} → statement M
-place-number-spec =
-    tie.close (tie.spec Inv-loop μ-loop loop-holds (λ c. search needs) (λ c. search needs) (λ c κs. tt) returns (λ c. search needs)
-        (λ c. search needs) loop-again returns-2)
+place-number-spec = tie.close (tie.spec
+    Inv-loop μ-loop
+    (λ c. let whole = ap (firstOf (hasId (c .args .id))) (slice-all (c .args .t1) (c .good .0 .1 .0 .1)) in omega (arith, whole))
+    (λ c. search needs) (λ c. search needs) (λ c κs. tt) returns (λ c. search needs) (λ c. search needs) loop-again
+    (λ c. let l = c .before .loop in
+        let s = c .before .before in
+        omega (arith, first-done (hasId (s .args .id)) (s .args .t1) (l .i) 8 (omega arith), l .inv)))

@@ -17,28 +17,18 @@ Inv-loop id places i₀ i = whose id places ≡ whose id (slice i 8 places)
 abbrev μ-loop : tie.MeasureT-loop
 μ-loop id places i₀ i = 8 - i
 
-loop-holds : tie.Need-loop-holds Inv-loop μ-loop
-loop-holds c = ap (whose (c .args .id)) (sym (slice-all _ (c .good .0 .1 .0 .1)))
-
-returns : tie.Need-returns Inv-loop μ-loop
-returns c =
-    let l = c .before .before .before .before .loop in
-    let s = c .before .before .before .before .before in
-    whose-here _ (s .args .t1) (l .i) 8 (s .good .0 .1 .0 .1) (omega arith) (sym (c .before .has-id .ensures) ∙ c .if1 .taken) ∙ sym (l .inv)
-
-loop-again : tie.Need-loop-again Inv-loop μ-loop
-loop-again c =
-    let l = c .before .before .before .before .loop in
-    let s = c .before .before .before .before .before in
-    l .inv ∙ whose-further _ (s .args .t1) (l .i) 8 (s .good .0 .1 .0 .1) (omega arith) (sym (c .before .has-id .ensures) ∙ c .if1 .left)
-
-returns-2 : tie.Need-returns-2 Inv-loop μ-loop
-returns-2 c =
-    let l = c .before .before .loop in
-    let s = c .before .before .before in
-    c .none .ensures ∙ whose-done _ (s .args .t1) (l .i) 8 (s .good .0 .1 .0 .1) (omega arith) ∙ sym (l .inv)
-
 pub place-of-spec : {M : Type 1} → statement M
-place-of-spec =
-    tie.close (tie.spec Inv-loop μ-loop loop-holds (λ c. search needs) (λ c. search needs) (λ c κs. tt) returns (λ c. search needs)
-        (λ c. search needs) loop-again (λ c κs. tt) returns-2)
+place-of-spec = tie.close (tie.spec
+    Inv-loop μ-loop (λ c. ap (whose (c .args .id)) (sym (slice-all _ (c .good .0 .1 .0 .1)))) (λ c. search needs)
+    (λ c. search needs) (λ c κs. tt)
+    (λ c. let l = c .before .before .before .before .loop in
+        let s = c .before .before .before .before .before in
+        whose-here _ (s .args .t1) (l .i) 8 (s .good .0 .1 .0 .1) (omega arith) (sym (c .before .has-id .ensures) ∙ c .if1 .taken) ∙ sym (l .inv))
+    (λ c. search needs) (λ c. search needs)
+    (λ c. let l = c .before .before .before .before .loop in
+        let s = c .before .before .before .before .before in
+        l .inv ∙ whose-further _ (s .args .t1) (l .i) 8 (s .good .0 .1 .0 .1) (omega arith) (sym (c .before .has-id .ensures) ∙ c .if1 .left))
+    (λ c κs. tt)
+    (λ c. let l = c .before .before .loop in
+        let s = c .before .before .before in
+        c .none .ensures ∙ whose-done _ (s .args .t1) (l .i) 8 (s .good .0 .1 .0 .1) (omega arith) ∙ sym (l .inv)))

@@ -21,9 +21,6 @@ Inv-loop id by places ps₀ i₀ ps i = (length ps ≡ 8) × (ps ≡ each (λ q.
 abbrev μ-loop : tie.MeasureT-loop
 μ-loop id by places ps₀ i₀ ps i = 8 - i
 
-loop-holds : tie.Need-loop-holds Inv-loop μ-loop
-loop-holds c = (c .good .0 .1 .0 .1, each-none _ _)
-
 loop-again : tie.Need-loop-again Inv-loop μ-loop
 loop-again c =
     let l = c .before .before .before .loop in
@@ -33,14 +30,11 @@ loop-again c =
           ∙ each-one (λ q. pick (hasId (s .args .id) q) (s .args .by) q) (s .args .t1) (l .ps) (l .i) blank (s .good .0 .1 .0 .1) (omega arith) (l .inv .1),
     )
 
-returns : tie.Need-returns Inv-loop μ-loop
-unfolding replaced
-returns c =
-    let s = c .before .before in
-    each-all (λ q. pick (hasId (s .args .id) q) (s .args .by) q) (s .args .t1) (c .before .loop .ps) (c .before .loop .i) (s .good .0 .1 .0 .1)
-        (omega arith) (c .before .loop .inv .1)
-
 pub replaced-in-spec : {M : Type 1} → statement M
-replaced-in-spec =
-    tie.close (tie.spec Inv-loop μ-loop loop-holds (λ c. search needs) (λ c. search needs) (λ c κs. tt) (λ c. search needs)
-        (λ c. search needs) (λ c. search needs) (λ c. search needs) loop-again returns)
+unfolding replaced
+replaced-in-spec = tie.close (tie.spec
+    Inv-loop μ-loop (λ c. (c .good .0 .1 .0 .1, each-none _ _)) (λ c. search needs) (λ c. search needs) (λ c κs. tt)
+    (λ c. search needs) (λ c. search needs) (λ c. search needs) (λ c. search needs) loop-again
+    (λ c. let s = c .before .before in
+        each-all (λ q. pick (hasId (s .args .id) q) (s .args .by) q) (s .args .t1) (c .before .loop .ps) (c .before .loop .i) (s .good .0 .1 .0 .1)
+        (omega arith) (c .before .loop .inv .1)))

@@ -5,12 +5,8 @@ use borrow.Author.Needs.{needs}
 use Rattle.host.proofs.places.replacing.Statement.{statement}
 use Rattle.host.proofs.places.replacing.Tie as tie
 
-returns : tie.Need-returns
-returns c = yes _ _ _ (sym (c .before .has-id .ensures) ∙ c .if1 .taken) refl
-
-returns-2 : tie.Need-returns-2
-returns-2 c = no _ _ _ (sym (c .before .has-id .ensures) ∙ c .if1 .left) refl
-
 pub replacing-spec : {M : Type 1} → statement M
-replacing-spec =
-    tie.close (tie.spec (λ c κs. search needs) returns returns-2)
+replacing-spec = tie.close (tie.spec
+    (λ c κs. search needs)
+    (λ c. yes _ _ _ (sym (c .before .has-id .ensures) ∙ c .if1 .taken) refl)
+    (λ c. no _ _ _ (sym (c .before .has-id .ensures) ∙ c .if1 .left) refl))

@@ -18,12 +18,6 @@ Inv-loop id size limit places left₀ i₀ left i = leb (size + others id places
 abbrev μ-loop : tie.MeasureT-loop
 μ-loop id size limit places left₀ i₀ left i = 8 - i
 
-returns : tie.Need-returns Inv-loop μ-loop
-returns c = above-first _ _ _ (c .if1 .taken)
-
-loop-holds : tie.Need-loop-holds Inv-loop μ-loop
-loop-holds c = fits-first (c .before .args .id) (c .before .args .t1) 8 (c .before .good .0 .1 .0 .1) _ _ (c .if1 .left)
-
 returns-2 : tie.Need-returns-2 Inv-loop μ-loop
 returns-2 c =
     let l = c .before .before .before .before .loop in
@@ -36,12 +30,10 @@ loop-again c =
     let s = c .before .before .before .before .before .before in
     l .inv ∙ fits-further (s .args .id) (s .args .t1) (l .i) 8 (s .good .0 .1 .0 .1) blank _ _ (c .before .own-size .ensures) (omega arith) (c .if2 .left)
 
-returns-3 : tie.Need-returns-3 Inv-loop μ-loop
-returns-3 c =
-    let s = c .before .before .before in
-    fits-done (s .args .id) (s .args .t1) (c .before .loop .i) 8 (s .good .0 .1 .0 .1) _ (omega arith) ∙ sym (c .before .loop .inv)
-
 pub sizes-fit-spec : {M : Type 1} → statement M
-sizes-fit-spec =
-    tie.close (tie.spec Inv-loop μ-loop returns loop-holds (λ c. search needs) (λ c. search needs) (λ c κs. tt) returns-2
-        (λ c. search needs) (λ c. search needs) loop-again returns-3)
+sizes-fit-spec = tie.close (tie.spec
+    Inv-loop μ-loop (λ c. above-first _ _ _ (c .if1 .taken))
+    (λ c. fits-first (c .before .args .id) (c .before .args .t1) 8 (c .before .good .0 .1 .0 .1) _ _ (c .if1 .left))
+    (λ c. search needs) (λ c. search needs) (λ c κs. tt) returns-2 (λ c. search needs) (λ c. search needs) loop-again
+    (λ c. let s = c .before .before .before in
+        fits-done (s .args .id) (s .args .t1) (c .before .loop .i) 8 (s .good .0 .1 .0 .1) _ (omega arith) ∙ sym (c .before .loop .inv)))

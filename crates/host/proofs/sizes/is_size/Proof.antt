@@ -14,13 +14,6 @@ Inv-loop z d₀ at₀ d at = (d ≤ 11) × (at ≡ 4096 * 2 ^ d) × (doubled 11 
 abbrev μ-loop : tie.MeasureT-loop
 μ-loop z d₀ at₀ d at = d
 
-returns : tie.Need-returns Inv-loop μ-loop
-unfolding isSize
-returns c =
-    let l = c .before .before .loop in
-    let pos = c .before .loop-test .taken in
-    sym (l .inv .2 ∙ here _ _ pos (c .if1 .taken ∙ halved _ _ pos (l .inv .1)))
-
 loop-again : tie.Need-loop-again Inv-loop μ-loop
 loop-again c =
     let l = c .before .before .loop in
@@ -28,11 +21,11 @@ loop-again c =
     let half = halved _ _ pos (l .inv .1) in
     (omega arith, half, l .inv .2 ∙ further _ _ pos (λ e. c .if1 .left (e ∙ sym half)))
 
-returns-2 : tie.Need-returns-2 Inv-loop μ-loop
-unfolding isSize
-returns-2 c = sym (c .before .loop .inv .2 ∙ none _ _ (omega (arith, c .loop-test .left)))
-
 pub is-size-spec : {M : Type 1} → statement M
-is-size-spec =
-    tie.close (tie.spec Inv-loop μ-loop (λ c. omega arith) (λ c. (omega arith, refl, refl)) (λ c. omega arith) returns (λ c. omega arith)
-        loop-again returns-2)
+unfolding isSize
+is-size-spec = tie.close (tie.spec
+    Inv-loop μ-loop (λ c. omega arith) (λ c. (omega arith, refl, refl)) (λ c. omega arith)
+    (λ c. let l = c .before .before .loop in
+        let pos = c .before .loop-test .taken in
+        sym (l .inv .2 ∙ here _ _ pos (c .if1 .taken ∙ halved _ _ pos (l .inv .1))))
+    (λ c. omega arith) loop-again (λ c. sym (c .before .loop .inv .2 ∙ none _ _ (omega (arith, c .loop-test .left)))))

@@ -35,12 +35,8 @@ loop-again c =
           (ne-eqb _ _ (λ e. c .if1 .left (e ∙ sym (c .before .wide .ensures)))),
     )
 
-returns-2 : tie.Need-returns-2 Inv-loop μ-loop
-returns-2 c =
-    let s = c .before .before in
-    some-done _ (s .args .t1) (c .before .loop .i) (s .args .end) (omega arith) ∙ sym (c .before .loop .inv .1)
-
 pub again-spec : {M : Type 1} → statement M
-again-spec =
-    tie.close (tie.spec Inv-loop μ-loop (λ c. (omega arith, refl)) (λ c. search needs) (λ c κs. tt) returns (λ c. search needs)
-        (λ c. search needs) loop-again returns-2)
+again-spec = tie.close (tie.spec
+    Inv-loop μ-loop (λ c. (omega arith, refl)) (λ c. search needs) (λ c κs. tt) returns (λ c. search needs)
+    (λ c. search needs) loop-again
+    (λ c. let s = c .before .before in some-done _ (s .args .t1) (c .before .loop .i) (s .args .end) (omega arith) ∙ sym (c .before .loop .inv .1)))

@@ -35,12 +35,9 @@ loop-again c =
     ∙ every-further (λ n. ltb n (s .args .limit)) (s .args .t1) (l .i) (s .args .end) 0 (s .good .0 .1 .0 .1) (omega arith) (omega arith)
     (lt-ltb _ (s .args .limit) (rw (sym (c .before .wide .ensures)) (c .if1 .left)))
 
-returns-2 : tie.Need-returns-2 Inv-loop μ-loop
-returns-2 c =
-    let s = c .before .before in
-    every-done (λ n. ltb n (s .args .limit)) (s .args .t1) (c .before .loop .i) (s .args .end) (omega arith) ∙ sym (c .before .loop .inv)
-
 pub below-spec : {M : Type 1} → statement M
-below-spec =
-    tie.close (tie.spec Inv-loop μ-loop (λ c. refl) (λ c. search needs) (λ c κs. tt) returns (λ c. search needs) (λ c. search needs)
-        loop-again returns-2)
+below-spec = tie.close (tie.spec
+    Inv-loop μ-loop (λ c. refl) (λ c. search needs) (λ c κs. tt) returns (λ c. search needs) (λ c. search needs)
+    loop-again
+    (λ c. let s = c .before .before in
+        every-done (λ n. ltb n (s .args .limit)) (s .args .t1) (c .before .loop .i) (s .args .end) (omega arith) ∙ sym (c .before .loop .inv)))

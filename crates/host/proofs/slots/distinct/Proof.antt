@@ -38,12 +38,8 @@ loop-again c =
     (ap (λ (x : ℕ). some (eqb x) (slice (l .i + 1) (s .args .end) (s .args .t1))) (sym (at-wide .wide .ensures)) ∙ sym (c .before .again .ensures)
         ∙ c .if1 .left)
 
-returns-2 : tie.Need-returns-2 Inv-loop μ-loop
-returns-2 c =
-    let s = c .before .before in
-    apart-done _ (s .args .t1) (c .before .loop .i) (s .args .end) (omega arith) ∙ sym (c .before .loop .inv)
-
 pub distinct-spec : {M : Type 1} → statement M
-distinct-spec =
-    tie.close (tie.spec Inv-loop μ-loop (λ c. refl) (λ c. search needs) (λ c κs. tt) (λ c. search needs) (λ c κs. search needs) returns
-        (λ c. search needs) (λ c. search needs) loop-again returns-2)
+distinct-spec = tie.close (tie.spec
+    Inv-loop μ-loop (λ c. refl) (λ c. search needs) (λ c κs. tt) (λ c. search needs) (λ c κs. search needs) returns
+    (λ c. search needs) (λ c. search needs) loop-again
+    (λ c. let s = c .before .before in apart-done _ (s .args .t1) (c .before .loop .i) (s .args .end) (omega arith) ∙ sym (c .before .loop .inv)))

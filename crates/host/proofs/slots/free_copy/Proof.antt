@@ -18,9 +18,6 @@ Inv-loop stage staged i₀ i = (i ≤ stage) × (lowest (unused staged) 0 stage 
 abbrev μ-loop : tie.MeasureT-loop
 μ-loop stage staged i₀ i = stage - i
 
-loop-holds : tie.Need-loop-holds Inv-loop μ-loop
-loop-holds c = (omega arith, ap (lowest _ 0) (sym (sub-zero _)))
-
 returns : tie.Need-returns Inv-loop μ-loop
 unfolding freeCopy
 returns c =
@@ -38,12 +35,10 @@ loop-again c =
           (ap not (sym (c .before .staged-in .ensures)) ∙ c .if1 .left)),
     )
 
-returns-2 : tie.Need-returns-2 Inv-loop μ-loop
-unfolding freeCopy
-returns-2 c =
-    let s = c .before .before in
-    lowest-none (unused (s .args .staged)) (c .before .loop .i) (s .args .stage) (omega arith) ∙ sym (c .before .loop .inv .1)
-
 pub free-copy-spec : {M : Type 1} → statement M
-free-copy-spec =
-    tie.close (tie.spec Inv-loop μ-loop loop-holds (λ c κs. tt) returns (λ c. search needs) (λ c. search needs) loop-again returns-2)
+unfolding freeCopy
+free-copy-spec = tie.close (tie.spec
+    Inv-loop μ-loop (λ c. (omega arith, ap (lowest _ 0) (sym (sub-zero _)))) (λ c κs. tt) returns (λ c. search needs)
+    (λ c. search needs) loop-again
+    (λ c. let s = c .before .before in
+        lowest-none (unused (s .args .staged)) (c .before .loop .i) (s .args .stage) (omega arith) ∙ sym (c .before .loop .inv .1)))

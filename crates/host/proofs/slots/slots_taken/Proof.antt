@@ -19,15 +19,6 @@ Inv-loop z places items₀ count₀ k₀ items count k =
 abbrev μ-loop : tie.MeasureT-loop
 μ-loop z places items₀ count₀ k₀ items count k = 8 - k
 
-loop-holds : tie.Need-loop-holds Inv-loop μ-loop
-loop-holds c = (omega arith, refl, omega arith, taken-none _)
-
-slice-aggregate-with-slots : tie.Need-slice-aggregate-with-slots Inv-loop μ-loop
-slice-aggregate-with-slots c = sym (c .before .before .before .loop .inv .1)
-
-with-slots-requires : tie.Need-with-slots-requires Inv-loop μ-loop
-with-slots-requires c κs = let l = c .before .before .before .loop in (search needs, omega (arith, l .inv .1, l .inv .2))
-
 loop-again : tie.Need-loop-again Inv-loop μ-loop
 loop-again c =
     let done = c .before in
@@ -43,13 +34,12 @@ loop-again c =
           ∙ taken-one _ (s .args .t2) (l .k) blank (s .good .1 .0 .1 .0 .1) (omega arith),
     )
 
-returns : tie.Need-returns Inv-loop μ-loop
-returns c =
-    let l = c .before .loop in
-    let s = c .before .before in
-    (l .inv .3 ∙ ap (taken (s .args .z)) (take-all (l .k) (s .args .t2) (omega (arith, s .good .1 .0 .1 .0 .1))), omega (arith, l .inv .2))
-
 pub slots-taken-spec : {M : Type 1} → statement M
-slots-taken-spec =
-    tie.close (tie.spec Inv-loop μ-loop loop-holds (λ c. search needs) (λ c. search needs) slice-aggregate-with-slots with-slots-requires
-        (λ c. search needs) (λ c. search needs) loop-again returns)
+slots-taken-spec = tie.close (tie.spec
+    Inv-loop μ-loop (λ c. (omega arith, refl, omega arith, taken-none _)) (λ c. search needs) (λ c. search needs)
+    (λ c. sym (c .before .before .before .loop .inv .1))
+    (λ c κs. let l = c .before .before .before .loop in (search needs, omega (arith, l .inv .1, l .inv .2)))
+    (λ c. search needs) (λ c. search needs) loop-again
+    (λ c. let l = c .before .loop in
+        let s = c .before .before in
+        (l .inv .3 ∙ ap (taken (s .args .z)) (take-all (l .k) (s .args .t2) (omega (arith, s .good .1 .0 .1 .0 .1))), omega (arith, l .inv .2))))

@@ -18,9 +18,6 @@ Inv-loop x staged i₀ i = some (eqb x) staged ≡ some (eqb x) (slice i 64 stag
 abbrev μ-loop : tie.MeasureT-loop
 μ-loop x staged i₀ i = 64 - i
 
-loop-holds : tie.Need-loop-holds Inv-loop μ-loop
-loop-holds c = ap (some (eqb (c .args .x))) (sym (slice-all (c .args .t1) (c .good .0 .1 .0 .1)))
-
 returns : tie.Need-returns Inv-loop μ-loop
 returns c =
     let l = c .before .before .before .loop in
@@ -36,12 +33,9 @@ loop-again c =
     ∙ some-further _ (s .args .t1) (l .i) 64 0 (s .good .0 .1 .0 .1) (omega arith) (omega arith)
     (ne-eqb _ _ (λ e. c .if1 .left (e ∙ sym (c .before .wide .ensures))))
 
-returns-2 : tie.Need-returns-2 Inv-loop μ-loop
-returns-2 c =
-    let s = c .before .before in
-    some-done _ (s .args .t1) (c .before .loop .i) 64 (omega arith) ∙ sym (c .before .loop .inv)
-
 pub staged-in-spec : {M : Type 1} → statement M
-staged-in-spec =
-    tie.close (tie.spec Inv-loop μ-loop loop-holds (λ c. search needs) (λ c κs. tt) returns (λ c. search needs) (λ c. search needs)
-        loop-again returns-2)
+staged-in-spec = tie.close (tie.spec
+    Inv-loop μ-loop
+    (λ c. ap (some (eqb (c .args .x))) (sym (slice-all (c .args .t1) (c .good .0 .1 .0 .1))))
+    (λ c. search needs) (λ c κs. tt) returns (λ c. search needs) (λ c. search needs) loop-again
+    (λ c. let s = c .before .before in some-done _ (s .args .t1) (c .before .loop .i) 64 (omega arith) ∙ sym (c .before .loop .inv)))

@@ -19,9 +19,6 @@ Inv-loop z count items₀ slots end i₀ items i =
 abbrev μ-loop : tie.MeasureT-loop
 μ-loop z count items₀ slots end i₀ items i = end - i
 
-returns : tie.Need-returns Inv-loop μ-loop
-returns c = (no-slots _ _ _ (not-true _ (c .if1 .taken)), omega arith, refl)
-
 loop-holds : tie.Need-loop-holds Inv-loop μ-loop
 loop-holds c =
     let s = c .before .before .before .before .before in
@@ -61,6 +58,8 @@ returns-2 c =
     )
 
 pub with-slots-spec : {M : Type 1} → statement M
-with-slots-spec =
-    tie.close (tie.spec Inv-loop μ-loop returns (λ c κs. search needs) loop-holds (λ c. search needs) (λ c. search needs)
-        (λ c. search needs) (λ c. search needs) (λ c. search needs) loop-again (λ c. search needs) (λ c. c .before .loop .inv .1) returns-2)
+with-slots-spec = tie.close (tie.spec
+    Inv-loop μ-loop
+    (λ c. (no-slots _ _ _ (not-true _ (c .if1 .taken)), omega arith, refl))
+    (λ c κs. search needs) loop-holds (λ c. search needs) (λ c. search needs) (λ c. search needs) (λ c. search needs)
+    (λ c. search needs) loop-again (λ c. search needs) (λ c. c .before .loop .inv .1) returns-2)

@@ -6,12 +6,9 @@ use borrow.Author.Needs.{needs}
 use Rattle.host_order.proofs.areas.areas_right.Statement.{statement}
 use Rattle.host_order.proofs.areas.areas_right.Tie as tie
 
-returns : tie.Need-returns
-returns c = no _ _ _ (sym (c .before .lent .ensures) ∙ not-true _ (c .if1 .taken)) refl
-
-returns-2 : tie.Need-returns-2
-returns-2 c = yes _ _ _ (sym (c .before .before .lent .ensures) ∙ not-false _ (c .before .if1 .left)) (c .lent2 .ensures)
-
 pub areas-right-spec : {M : Type 1} → statement M
-areas-right-spec =
-    tie.close (tie.spec (λ c κs. search needs) returns (λ c κs. search needs) returns-2)
+areas-right-spec = tie.close (tie.spec
+    (λ c κs. search needs)
+    (λ c. no _ _ _ (sym (c .before .lent .ensures) ∙ not-true _ (c .if1 .taken)) refl)
+    (λ c κs. search needs)
+    (λ c. yes _ _ _ (sym (c .before .before .lent .ensures) ∙ not-false _ (c .before .if1 .left)) (c .lent2 .ensures)))

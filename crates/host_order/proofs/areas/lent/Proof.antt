@@ -5,9 +5,7 @@ use borrow.Author.Needs.{needs}
 use Rattle.host_order.proofs.areas.lent.Statement.{statement}
 use Rattle.host_order.proofs.areas.lent.Tie as tie
 
-mul-bytes : tie.Need-mul-bytes
-mul-bytes c = omega (arith, mul-le-mul (c .pre .1) (c .pre .0 .most))
-
 pub lent-spec : {M : Type 1} → statement M
-lent-spec =
-    tie.close (tie.spec mul-bytes (λ c. search needs))
+lent-spec = tie.close (tie.spec
+    (λ c. omega (arith, mul-le-mul (c .pre .1) (c .pre .0 .most)))
+    (λ c. search needs))

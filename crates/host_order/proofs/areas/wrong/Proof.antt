@@ -5,12 +5,5 @@ use Rattle.area.proofs.Laws.Pick.{yes, no}
 use Rattle.host_order.proofs.areas.wrong.Statement.{statement}
 use Rattle.host_order.proofs.areas.wrong.Tie as tie
 
-returns : tie.Need-returns
-returns c = no _ _ _ (not-true _ (c .if1 .taken)) refl
-
-returns-2 : tie.Need-returns-2
-returns-2 c = yes _ _ _ (not-false _ (c .if1 .left)) refl
-
 pub wrong-spec : {M : Type 1} → statement M
-wrong-spec =
-    tie.close (tie.spec returns returns-2)
+wrong-spec = tie.close (tie.spec (λ c. no _ _ _ (not-true _ (c .if1 .taken)) refl) (λ c. yes _ _ _ (not-false _ (c .if1 .left)) refl))

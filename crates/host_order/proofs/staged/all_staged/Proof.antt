@@ -34,12 +34,8 @@ loop-again c =
     l .inv ∙ every-further (λ n. not (eqb n none)) (s .args .t1) (l .i) (s .args .end) 0 (s .good .0 .1 .0 .1) (omega arith) (omega arith)
         (ap not (ne-eqb _ none (c .if1 .left)))
 
-returns-2 : tie.Need-returns-2 Inv-loop μ-loop
-returns-2 c =
-    let s = c .before .before in
-    every-done (λ n. not (eqb n none)) (s .args .t1) (c .before .loop .i) (s .args .end) (omega arith) ∙ sym (c .before .loop .inv)
-
 pub all-staged-spec : {M : Type 1} → statement M
-all-staged-spec =
-    tie.close (tie.spec Inv-loop μ-loop (λ c. refl) (λ c. search needs) returns (λ c. search needs) (λ c. search needs) loop-again
-        returns-2)
+all-staged-spec = tie.close (tie.spec
+    Inv-loop μ-loop (λ c. refl) (λ c. search needs) returns (λ c. search needs) (λ c. search needs) loop-again
+    (λ c. let s = c .before .before in
+        every-done (λ n. not (eqb n none)) (s .args .t1) (c .before .loop .i) (s .args .end) (omega arith) ∙ sym (c .before .loop .inv)))

@@ -8,20 +8,9 @@ use Rattle.host.specs.Order.{clash}
 use Rattle.host_order.proofs.staged.clashes.Statement.{statement}
 use Rattle.host_order.proofs.staged.clashes.Tie as tie
 
-returns : tie.Need-returns
-unfolding clash
-returns c = no _ _ _ (ap not (eq-eqb _ none (c .if1 .taken))) refl
-
-returns-2 : tie.Need-returns-2
-unfolding clash
-returns-2 c =
-    yes _ _ _ (ap not (ne-eqb _ none (c .before .if1 .left))) (no _ _ _ (ap not (eq-eqb _ none (c .if2 .taken))) refl)
-
-returns-3 : tie.Need-returns-3
-unfolding clash
-returns-3 c =
-    yes _ _ _ (ap not (ne-eqb _ none (c .before .if1 .left))) (yes _ _ _ (ap not (ne-eqb _ none (c .if2 .left))) refl)
-
 pub clashes-spec : {M : Type 1} → statement M
-clashes-spec =
-    tie.close (tie.spec returns returns-2 returns-3)
+unfolding clash
+clashes-spec = tie.close (tie.spec
+    (λ c. no _ _ _ (ap not (eq-eqb _ none (c .if1 .taken))) refl)
+    (λ c. yes _ _ _ (ap not (ne-eqb _ none (c .before .if1 .left))) (no _ _ _ (ap not (eq-eqb _ none (c .if2 .taken))) refl))
+    (λ c. yes _ _ _ (ap not (ne-eqb _ none (c .before .if1 .left))) (yes _ _ _ (ap not (ne-eqb _ none (c .if2 .left))) refl)))

@@ -31,12 +31,8 @@ loop-again c =
     l .inv ∙ some-further (clash _) (s .args .t1) (l .i) 64 0 (s .good .0 .1 .0 .1) (omega arith) (omega arith)
         (sym (c .before .clashes .ensures) ∙ c .if1 .left)
 
-returns-2 : tie.Need-returns-2 Inv-loop μ-loop
-returns-2 c =
-    let s = c .before .before in
-    some-done (clash _) (s .args .t1) (c .before .loop .i) 64 (omega arith) ∙ sym (c .before .loop .inv)
-
 pub has-clash-spec : {M : Type 1} → statement M
-has-clash-spec =
-    tie.close (tie.spec Inv-loop μ-loop (λ c. refl) (λ c. search needs) (λ c κs. tt) returns (λ c. search needs) (λ c. search needs)
-        loop-again returns-2)
+has-clash-spec = tie.close (tie.spec
+    Inv-loop μ-loop (λ c. refl) (λ c. search needs) (λ c κs. tt) returns (λ c. search needs) (λ c. search needs)
+    loop-again
+    (λ c. let s = c .before .before in some-done (clash _) (s .args .t1) (c .before .loop .i) 64 (omega arith) ∙ sym (c .before .loop .inv)))

@@ -17,9 +17,6 @@ Inv-loop staged i₀ i = apart clash staged ≡ apart clash (slice i 64 staged)
 abbrev μ-loop : tie.MeasureT-loop
 μ-loop staged i₀ i = 64 - i
 
-loop-holds : tie.Need-loop-holds Inv-loop μ-loop
-loop-holds c = ap (apart clash) (sym (slice-all (c .args .t1) (c .good .0 .1 .0 .1)))
-
 returns : tie.Need-returns Inv-loop μ-loop
 returns c =
     let l = c .before .before .before .loop in
@@ -34,12 +31,9 @@ loop-again c =
     l .inv ∙ apart-further clash (s .args .t1) (l .i) 64 0 (s .good .0 .1 .0 .1) (omega arith) (omega arith)
         (sym (c .before .has-clash .ensures) ∙ c .if1 .left)
 
-returns-2 : tie.Need-returns-2 Inv-loop μ-loop
-returns-2 c =
-    let s = c .before .before in
-    apart-done clash (s .args .t1) (c .before .loop .i) 64 (omega arith) ∙ sym (c .before .loop .inv)
-
 pub no-clash-spec : {M : Type 1} → statement M
-no-clash-spec =
-    tie.close (tie.spec Inv-loop μ-loop loop-holds (λ c. search needs) (λ c. search needs) (λ c κs. tt) returns (λ c. search needs)
-        (λ c. search needs) loop-again returns-2)
+no-clash-spec = tie.close (tie.spec
+    Inv-loop μ-loop
+    (λ c. ap (apart clash) (sym (slice-all (c .args .t1) (c .good .0 .1 .0 .1))))
+    (λ c. search needs) (λ c. search needs) (λ c κs. tt) returns (λ c. search needs) (λ c. search needs) loop-again
+    (λ c. let s = c .before .before in apart-done clash (s .args .t1) (c .before .loop .i) 64 (omega arith) ∙ sym (c .before .loop .inv)))

@@ -31,12 +31,7 @@ loop-again c =
     let s = c .before .before .before in
     l .inv ∙ every-further (λ n. eqb n none) (s .args .t1) (l .i) 64 0 (s .good .0 .1 .0 .1) (omega arith) (omega arith) (eq-eqb _ none (c .if1 .left))
 
-returns-2 : tie.Need-returns-2 Inv-loop μ-loop
-returns-2 c =
-    let s = c .before .before in
-    every-done (λ n. eqb n none) (s .args .t1) (c .before .loop .i) 64 (omega arith) ∙ sym (c .before .loop .inv)
-
 pub none-from-spec : {M : Type 1} → statement M
-none-from-spec =
-    tie.close (tie.spec Inv-loop μ-loop (λ c. refl) (λ c. search needs) returns (λ c. search needs) (λ c. search needs) loop-again
-        returns-2)
+none-from-spec = tie.close (tie.spec
+    Inv-loop μ-loop (λ c. refl) (λ c. search needs) returns (λ c. search needs) (λ c. search needs) loop-again
+    (λ c. let s = c .before .before in every-done (λ n. eqb n none) (s .args .t1) (c .before .loop .i) 64 (omega arith) ∙ sym (c .before .loop .inv)))

@@ -10,16 +10,8 @@ use borrow.Author.Needs.{needs}
 use Rattle.host_order.proofs.staged.slot_in_order.Statement.{statement}
 use Rattle.host_order.proofs.staged.slot_in_order.Tie as tie
 
-returns : tie.Need-returns
-unfolding slotInOrder
-returns c = yes _ _ _ (eq-eqb _ none (c .if1 .taken)) refl
-
-returns-2 : tie.Need-returns-2
-unfolding slotInOrder
-returns-2 c =
-    let s = c .before .before in
-    no _ _ _ (ne-eqb _ none (c .before .if1 .left)) (ap (λ (n : ℕ). ltb n (s .args .stage)) (c .wide .ensures))
-
 pub slot-in-order-spec : {M : Type 1} → statement M
-slot-in-order-spec =
-    tie.close (tie.spec returns (λ c κs. search needs) returns-2)
+unfolding slotInOrder
+slot-in-order-spec = tie.close (tie.spec
+    (λ c. yes _ _ _ (eq-eqb _ none (c .if1 .taken)) refl) (λ c κs. search needs)
+    (λ c. let s = c .before .before in no _ _ _ (ne-eqb _ none (c .before .if1 .left)) (ap (λ (n : ℕ). ltb n (s .args .stage)) (c .wide .ensures))))

@@ -18,9 +18,6 @@ Inv-loop stage staged i₀ i = every (slotInOrder stage) staged ≡ every (slotI
 abbrev μ-loop : tie.MeasureT-loop
 μ-loop stage staged i₀ i = 64 - i
 
-loop-holds : tie.Need-loop-holds Inv-loop μ-loop
-loop-holds c = ap (every (slotInOrder (c .args .stage))) (sym (slice-all (c .args .t1) (c .good .0 .1 .0 .1)))
-
 returns : tie.Need-returns Inv-loop μ-loop
 returns c =
     let l = c .before .before .before .loop in
@@ -35,12 +32,10 @@ loop-again c =
     l .inv ∙ every-further (slotInOrder (s .args .stage)) (s .args .t1) (l .i) 64 0 (s .good .0 .1 .0 .1) (omega arith) (omega arith)
         (sym (c .before .slot-in-order .ensures) ∙ not-false _ (c .if1 .left))
 
-returns-2 : tie.Need-returns-2 Inv-loop μ-loop
-returns-2 c =
-    let s = c .before .before in
-    every-done (slotInOrder (s .args .stage)) (s .args .t1) (c .before .loop .i) 64 (omega arith) ∙ sym (c .before .loop .inv)
-
 pub slots-in-order-spec : {M : Type 1} → statement M
-slots-in-order-spec =
-    tie.close (tie.spec Inv-loop μ-loop loop-holds (λ c. search needs) (λ c κs. tt) returns (λ c. search needs) (λ c. search needs)
-        loop-again returns-2)
+slots-in-order-spec = tie.close (tie.spec
+    Inv-loop μ-loop
+    (λ c. ap (every (slotInOrder (c .args .stage))) (sym (slice-all (c .args .t1) (c .good .0 .1 .0 .1))))
+    (λ c. search needs) (λ c κs. tt) returns (λ c. search needs) (λ c. search needs) loop-again
+    (λ c. let s = c .before .before in
+        every-done (slotInOrder (s .args .stage)) (s .args .t1) (c .before .loop .i) 64 (omega arith) ∙ sym (c .before .loop .inv)))

@@ -4,10 +4,6 @@ use Rattle.showing.specs.Whole.{lacking}
 use Rattle.showing.proofs.parts.missing.Statement.{statement}
 use Rattle.showing.proofs.parts.missing.Tie as tie
 
-returns : tie.Need-returns
-unfolding lacking
-returns c = refl
-
 pub missing-spec : {M : Type 1} → statement M
-missing-spec =
-    tie.close (tie.spec returns)
+unfolding lacking
+missing-spec = tie.close (tie.spec (λ c. refl))

@@ -46,10 +46,6 @@ lacks : (k from : ℕ) (p : Parts) {C : Type 0} → p ≡ lacking k from → 0 <
 unfolding lacking
 lacks k from p e h z = absurd (omega (arith, ap (λ (q : Parts). q .fault) e))
 
-returns : tie.Need-returns
-unfolding partsAt
-returns c = (yes _ _ _ (lt-ltb _ _ (c .before .if1 .taken)) (c .missing .ensures), lacks 1 _ _ (c .missing .ensures) (search needs))
-
 returns-2 : tie.Need-returns-2
 returns-2 c = (
   short _ _ _ (c .before .before .load .ensures) (c .before .before .before .if1 .left) (c .before .if2 .taken) (c .missing2 .ensures),
@@ -84,8 +80,11 @@ returns-5 c =
     )
 
 pub parts-at-spec : {M : Type 1} → statement M
-parts-at-spec =
-    tie.close (tie.spec (λ c. search needs) (λ c κs. search needs) returns (λ c. search needs) (λ c. search needs) (λ c κs. search needs)
-        (λ c. search needs) (λ c. search needs) (λ c κs. search needs) returns-2 (λ c. search needs) (λ c. search needs) (λ c. search needs)
-        (λ c κs. search needs) returns-3 (λ c. search needs) (λ c κs. search needs) (λ c. search needs) (λ c κs. search needs) returns-4
-        (λ c. search needs) returns-5)
+unfolding partsAt
+parts-at-spec = tie.close (tie.spec
+    (λ c. search needs) (λ c κs. search needs)
+    (λ c. (yes _ _ _ (lt-ltb _ _ (c .before .if1 .taken)) (c .missing .ensures), lacks 1 _ _ (c .missing .ensures) (search needs)))
+    (λ c. search needs) (λ c. search needs) (λ c κs. search needs) (λ c. search needs) (λ c. search needs)
+    (λ c κs. search needs) returns-2 (λ c. search needs) (λ c. search needs) (λ c. search needs) (λ c κs. search needs)
+    returns-3 (λ c. search needs) (λ c κs. search needs) (λ c. search needs) (λ c κs. search needs) returns-4
+    (λ c. search needs) returns-5)

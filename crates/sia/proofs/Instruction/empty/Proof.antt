@@ -8,10 +8,7 @@ use Rattle.sia.specs.declared.Operand.{Operand}
 use Rattle.sia.proofs.Instruction.empty.Statement.{statement}
 use Rattle.sia.proofs.Instruction.empty.Tie as tie
 
-returns : tie.Need-returns
-returns c =
-    ap (λ (none : Operand). record { name = zeros 16; count = 0; operands = replicate 4 none; proof = false }) (c .empty .ensures)
-
 pub empty-spec : {M : Type 1} → statement M
-empty-spec =
-    tie.close (tie.spec (λ c κs. search needs) returns)
+empty-spec = tie.close (tie.spec
+    (λ c κs. search needs)
+    (λ c. ap (λ (none : Operand). record { name = zeros 16; count = 0; operands = replicate 4 none; proof = false }) (c .empty .ensures)))

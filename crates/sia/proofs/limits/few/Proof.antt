@@ -32,13 +32,10 @@ loop-again c =
     (omega arith, l .inv .1 ∙ every-further fewOperands _ _ (l .i) _ (c .before .before .before .loop-test .taken)
         (omega (arith, s .good .0 .1 .0 .1)) (le-leb _ _ (c .if1 .left)))
 
-returns-2 : tie.Need-returns-2 Inv-loop μ-loop
-returns-2 c =
-    let l = c .before .loop in
-    let s = c .before .before in
-    sym (l .inv .1 ∙ every-end fewOperands _ _ (l .i) noInstruction (c .loop-test .left) (omega (arith, s .good .0 .1 .0 .1)))
-
 pub few-spec : {M : Type 1} → statement M
-few-spec =
-    tie.close (tie.spec Inv-loop μ-loop (λ c. (omega arith, refl)) (λ c. search needs) (λ c. omega arith) returns (λ c. search needs)
-        (λ c. omega arith) loop-again returns-2)
+few-spec = tie.close (tie.spec
+    Inv-loop μ-loop (λ c. (omega arith, refl)) (λ c. search needs) (λ c. omega arith) returns (λ c. search needs)
+    (λ c. omega arith) loop-again
+    (λ c. let l = c .before .loop in
+        let s = c .before .before in
+        sym (l .inv .1 ∙ every-end fewOperands _ _ (l .i) noInstruction (c .loop-test .left) (omega (arith, s .good .0 .1 .0 .1)))))

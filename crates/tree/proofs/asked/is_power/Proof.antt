@@ -14,17 +14,11 @@ Inv-loop n d₀ d = (d ≤ 64) × (isPower 64 n ≡ isPower d n)
 abbrev μ-loop : tie.MeasureT-loop
 μ-loop n d₀ d = d
 
-returns : tie.Need-returns Inv-loop μ-loop
-returns c = sym (c .before .before .before .loop .inv .1 ∙ power-here _ _ _ (c .before .before .loop-test .taken) (c .before .power .ensures) (c .if1 .taken))
-
-loop-again : tie.Need-loop-again Inv-loop μ-loop
-loop-again c = (omega arith, c .before .before .before .loop .inv .1 ∙ power-further _ _ _ (c .before .before .loop-test .taken)
-    (c .before .power .ensures) (c .if1 .left))
-
-returns-2 : tie.Need-returns-2 Inv-loop μ-loop
-returns-2 c = sym (c .before .loop .inv .1 ∙ power-none _ _ (c .loop-test .left))
-
 pub is-power-spec : {M : Type 1} → statement M
-is-power-spec =
-    tie.close (tie.spec Inv-loop μ-loop (λ c. (omega arith, refl)) (λ c. omega arith) (λ c κs. omega arith) returns (λ c. omega arith)
-        loop-again returns-2)
+is-power-spec = tie.close (tie.spec
+    Inv-loop μ-loop (λ c. (omega arith, refl)) (λ c. omega arith) (λ c κs. omega arith)
+    (λ c. sym (c .before .before .before .loop .inv .1 ∙ power-here _ _ _ (c .before .before .loop-test .taken) (c .before .power .ensures) (c .if1 .taken)))
+    (λ c. omega arith)
+    (λ c. (omega arith, c .before .before .before .loop .inv .1 ∙ power-further _ _ _ (c .before .before .loop-test .taken)
+        (c .before .power .ensures) (c .if1 .left)))
+    (λ c. sym (c .before .loop .inv .1 ∙ power-none _ _ (c .loop-test .left))))

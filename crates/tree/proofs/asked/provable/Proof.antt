@@ -7,14 +7,8 @@ use borrow.Author.Needs.{needs}
 use Rattle.tree.proofs.asked.provable.Statement.{statement}
 use Rattle.tree.proofs.asked.provable.Tie as tie
 
-returns : tie.Need-returns
-unfolding provable wholes
-returns c = no _ _ _ (ne-eqb _ _ (c .if1 .taken)) refl
-
-returns-2 : tie.Need-returns-2
-unfolding provable wholes
-returns-2 c = yes _ _ _ (eq-eqb _ _ (c .before .if1 .left)) (c .ranged .ensures)
-
 pub provable-spec : {M : Type 1} → statement M
-provable-spec =
-    tie.close (tie.spec returns (λ c κs. search needs) returns-2)
+unfolding provable wholes
+provable-spec = tie.close (tie.spec
+    (λ c. no _ _ _ (ne-eqb _ _ (c .if1 .taken)) refl) (λ c κs. search needs)
+    (λ c. yes _ _ _ (eq-eqb _ _ (c .before .if1 .left)) (c .ranged .ensures)))

@@ -7,27 +7,14 @@ use borrow.Author.Needs.{needs}
 use Rattle.tree.proofs.asked.provable_in.Statement.{statement}
 use Rattle.tree.proofs.asked.provable_in.Tie as tie
 
-returns : tie.Need-returns
-unfolding provableIn wholes
-returns c = no _ _ _ (ne-eqb _ _ (c .if1 .taken)) refl
-
-returns-2 : tie.Need-returns-2
-unfolding provableIn wholes
-returns-2 c = yes _ _ _ (eq-eqb _ _ (c .before .if1 .left)) (no _ _ _ (le-ltb _ _ (c .if2 .taken)) refl)
-
-returns-3 : tie.Need-returns-3
-unfolding provableIn wholes
-returns-3 c =
-    yes _ _ _ (eq-eqb _ _ (c .before .before .before .before .if1 .left))
-    (yes _ _ _ (lt-ltb _ _ (c .before .before .before .if2 .left)) (yes _ _ _ (sym (c .before .before .is-power .ensures) ∙ c .before .if3 .taken)
-        (c .provable .ensures)))
-
-returns-4 : tie.Need-returns-4
-unfolding provableIn wholes
-returns-4 c =
-    yes _ _ _ (eq-eqb _ _ (c .before .before .before .if1 .left))
-    (yes _ _ _ (lt-ltb _ _ (c .before .before .if2 .left)) (no _ _ _ (sym (c .before .is-power .ensures) ∙ c .if3 .left) refl))
-
 pub provable-in-spec : {M : Type 1} → statement M
-provable-in-spec =
-    tie.close (tie.spec returns returns-2 (λ c κs. search needs) (λ c κs. search needs) returns-3 returns-4)
+unfolding provableIn wholes
+provable-in-spec = tie.close (tie.spec
+    (λ c. no _ _ _ (ne-eqb _ _ (c .if1 .taken)) refl)
+    (λ c. yes _ _ _ (eq-eqb _ _ (c .before .if1 .left)) (no _ _ _ (le-ltb _ _ (c .if2 .taken)) refl))
+    (λ c κs. search needs) (λ c κs. search needs)
+    (λ c. yes _ _ _ (eq-eqb _ _ (c .before .before .before .before .if1 .left))
+        (yes _ _ _ (lt-ltb _ _ (c .before .before .before .if2 .left)) (yes _ _ _ (sym (c .before .before .is-power .ensures) ∙ c .before .if3 .taken)
+        (c .provable .ensures))))
+    (λ c. yes _ _ _ (eq-eqb _ _ (c .before .before .before .if1 .left))
+        (yes _ _ _ (lt-ltb _ _ (c .before .before .if2 .left)) (no _ _ _ (sym (c .before .is-power .ensures) ∙ c .if3 .left) refl))))

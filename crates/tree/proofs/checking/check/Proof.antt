@@ -23,38 +23,6 @@ use Rattle.tree.proofs.checking.check.Tie as tie
 limited : (n : ℕ) → 1 ≤ n → n ≤ limit → both (leb 1 n) (leb n limit) ≡ true
 limited n a b = both-join _ _ (le-leb 1 n a) (le-leb n limit b)
 
-returns : tie.Need-returns
-unfolding verdict
-returns c = no _ _ _ (both-not-left _ _ (lt-leb _ _ (c .if1 .taken))) refl
-
-returns-2 : tie.Need-returns-2
-unfolding verdict
-returns-2 c = no _ _ _ (both-not-right _ _ (lt-leb _ _ (c .if2 .taken))) refl
-
-returns-3 : tie.Need-returns-3
-unfolding verdict
-returns-3 c =
-    yes _ _ _ (limited _ (c .before .before .before .if1 .left) (c .before .before .if2 .left))
-        (no _ _ _ (sym (c .before .ranged .ensures) ∙ not-true _ (c .if3 .taken)) refl)
-
-sub-if4 : tie.Need-sub-if4
-sub-if4 c = let r = ranged-tells _ _ _ (sym (c .before .ranged .ensures) ∙ not-false _ (c .if3 .left)) in omega arith
-
-mul-if4 : tie.Need-mul-if4
-mul-if4 c = let r = ranged-tells _ _ _ (sym (c .before .ranged .ensures) ∙ not-false _ (c .if3 .left)) in omega arith
-
-returns-4 : tie.Need-returns-4
-unfolding verdict
-returns-4 c =
-    yes _ _ _ (limited _ (c .before .before .before .before .if1 .left) (c .before .before .before .if2 .left))
-    (yes _ _ _ (sym (c .before .before .ranged .ensures) ∙ not-false _ (c .before .if3 .left)) (no _ _ _ (ne-eqb _ _ (c .if4 .taken)) refl))
-
-mul-if5 : tie.Need-mul-if5
-unfolding count
-mul-if5 c =
-    let a = c .before .before .before .before .before .before .before .before .before .args in
-    omega (arith, c .count .ensures, hashes-few 64 0 (a .count) (a .first) (a .end) (omega arith) (omega arith))
-
 returns-5 : tie.Need-returns-5
 unfolding verdict count
 returns-5 c =
@@ -91,6 +59,18 @@ returns-6 c =
     (c .agrees .ensures ∙ ap (λ (l : List ℕ). same (a .root .now) l) (built .1)))))
 
 pub check-spec : {M : Type 1} → statement M
-check-spec =
-    tie.close (tie.spec returns returns-2 (λ c κs. search needs) returns-3 sub-if4 mul-if4 returns-4 (λ c κs. omega arith) mul-if5 returns-5
-        (λ c κs. search needs) rebuild-requires (λ c. search needs) (λ c κs. search needs) returns-6)
+unfolding count verdict
+check-spec = tie.close (tie.spec
+    (λ c. no _ _ _ (both-not-left _ _ (lt-leb _ _ (c .if1 .taken))) refl)
+    (λ c. no _ _ _ (both-not-right _ _ (lt-leb _ _ (c .if2 .taken))) refl)
+    (λ c κs. search needs)
+    (λ c. yes _ _ _ (limited _ (c .before .before .before .if1 .left) (c .before .before .if2 .left))
+        (no _ _ _ (sym (c .before .ranged .ensures) ∙ not-true _ (c .if3 .taken)) refl))
+    (λ c. let r = ranged-tells _ _ _ (sym (c .before .ranged .ensures) ∙ not-false _ (c .if3 .left)) in omega arith)
+    (λ c. let r = ranged-tells _ _ _ (sym (c .before .ranged .ensures) ∙ not-false _ (c .if3 .left)) in omega arith)
+    (λ c. yes _ _ _ (limited _ (c .before .before .before .before .if1 .left) (c .before .before .before .if2 .left))
+        (yes _ _ _ (sym (c .before .before .ranged .ensures) ∙ not-false _ (c .before .if3 .left)) (no _ _ _ (ne-eqb _ _ (c .if4 .taken)) refl)))
+    (λ c κs. omega arith)
+    (λ c. let a = c .before .before .before .before .before .before .before .before .before .args in
+        omega (arith, c .count .ensures, hashes-few 64 0 (a .count) (a .first) (a .end) (omega arith) (omega arith)))
+    returns-5 (λ c κs. search needs) rebuild-requires (λ c. search needs) (λ c κs. search needs) returns-6)

@@ -14,25 +14,12 @@ Inv-loop z root₀ n₀ root n = Come z n root
 abbrev μ-loop : tie.MeasureT-loop
 μ-loop z root₀ n₀ root n = z - n
 
-leaf-requires : tie.Need-leaf-requires Inv-loop μ-loop
-leaf-requires c κs = segments-cover _ _ (omega arith)
-
-loop-holds : tie.Need-loop-holds Inv-loop μ-loop
-loop-holds c = come-leaf _ (c .before .before .pre) (omega arith) (c .leaf .ensures)
-
-loop-less : tie.Need-loop-less Inv-loop μ-loop
-loop-less c = omega (arith, come-some (c .before .before .before .before .loop .inv))
-
-loop-again : tie.Need-loop-again Inv-loop μ-loop
-loop-again c =
-    let test = c .before .before .before in
-    let loop = test .before in
-    come-node _ (loop .before .before .before .pre) (loop .loop .inv) (test .loop-test .taken) (omega arith) (c .node .ensures)
-
-returns : tie.Need-returns Inv-loop μ-loop
-returns c = come-all _ (c .before .before .before .before .pre) (c .before .loop .inv) (c .loop-test .left)
-
 pub zeros-root-spec : {M : Type 1} → statement M
-zeros-root-spec =
-    tie.close (tie.spec Inv-loop μ-loop (λ c. search needs) leaf-requires loop-holds (λ c κs. search needs) (λ c. omega arith) loop-less
-        loop-again returns)
+zeros-root-spec = tie.close (tie.spec
+    Inv-loop μ-loop (λ c. search needs) (λ c κs. segments-cover _ _ (omega arith))
+    (λ c. come-leaf _ (c .before .before .pre) (omega arith) (c .leaf .ensures)) (λ c κs. search needs)
+    (λ c. omega arith) (λ c. omega (arith, come-some (c .before .before .before .before .loop .inv)))
+    (λ c. let test = c .before .before .before in
+        let loop = test .before in
+        come-node _ (loop .before .before .before .pre) (loop .loop .inv) (test .loop-test .taken) (omega arith) (c .node .ensures))
+    (λ c. come-all _ (c .before .before .before .before .pre) (c .before .loop .inv) (c .loop-test .left)))

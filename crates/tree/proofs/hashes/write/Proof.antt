@@ -5,15 +5,11 @@ use Rattle.tree.proofs.Laws.Laid.{laid-deep}
 use Rattle.tree.proofs.hashes.write.Statement.{statement}
 use Rattle.tree.proofs.hashes.write.Tie as tie
 
-walk-requires : tie.Need-walk-requires
-walk-requires c κs =
-    let holds = c .before .depth .ensures in
-    let w = c .before .before .before .before .pre in
-    record { walked = walked-deep (w .walked) holds; all = w .all; room = room-deep _ _ _ _ _ _ _ holds (w .room) }
-
-returns : tie.Need-returns
-returns c = laid-deep _ _ _ _ _ _ _ _ _ (c .before .before .before .before .depth .ensures) (c .before .before .walk .ensures)
-
 pub write-spec : {M : Type 1} → statement M
-write-spec =
-    tie.close (tie.spec (λ c κs. search needs) walk-requires (λ c. search needs) returns)
+write-spec = tie.close (tie.spec
+    (λ c κs. search needs)
+    (λ c κs. let holds = c .before .depth .ensures in
+        let w = c .before .before .before .before .pre in
+        record { walked = walked-deep (w .walked) holds; all = w .all; room = room-deep _ _ _ _ _ _ _ holds (w .room) })
+    (λ c. search needs)
+    (λ c. laid-deep _ _ _ _ _ _ _ _ _ (c .before .before .before .before .depth .ensures) (c .before .before .walk .ensures)))

@@ -11,15 +11,6 @@ use Rattle.tree.proofs.Laws.Answered.{provable-tells, from-top, proof-l
 use Rattle.tree.proofs.proving.prove.Statement.{statement}
 use Rattle.tree.proofs.proving.prove.Tie as tie
 
-returns : tie.Need-returns
-unfolding proved
-returns c = not-asked _ _ _ (sym (c .before .before .provable .ensures) ∙ not-true _ (c .before .if1 .taken)) (c .refused .ensures)
-
-count-requires : tie.Need-count-requires
-count-requires c κs =
-    let p = provable-tells _ _ _ (sym (c .before .provable .ensures) ∙ not-false _ (c .if1 .left)) in
-    omega arith
-
 returns-2 : tie.Need-returns-2
 unfolding proved count
 returns-2 c =
@@ -51,6 +42,9 @@ returns-3 c =
     (proof-put _ _ _ _ (c .before .before .write .ensures .1))
 
 pub prove-spec : {M : Type 1} → statement M
-prove-spec =
-    tie.close (tie.spec (λ c κs. search needs) (λ c κs. search needs) returns count-requires (λ c κs. search needs) returns-2 write-requires
-        (λ c. search needs) returns-3)
+unfolding proved
+prove-spec = tie.close (tie.spec
+    (λ c κs. search needs) (λ c κs. search needs)
+    (λ c. not-asked _ _ _ (sym (c .before .before .provable .ensures) ∙ not-true _ (c .before .if1 .taken)) (c .refused .ensures))
+    (λ c κs. let p = provable-tells _ _ _ (sym (c .before .provable .ensures) ∙ not-false _ (c .if1 .left)) in omega arith)
+    (λ c κs. search needs) returns-2 write-requires (λ c. search needs) returns-3)

@@ -7,12 +7,8 @@ use Rattle.tree.proofs.Laws.Answered.{from-top}
 use Rattle.tree.proofs.walks.count.Statement.{statement}
 use Rattle.tree.proofs.walks.count.Tie as tie
 
-hashes-requires : tie.Need-hashes-requires
-hashes-requires c κs = walked-deep (from-top _ (c .before .pre) (omega arith)) (c .depth .ensures)
-
-returns : tie.Need-returns
-returns c = count-deep _ _ _ _ (c .before .depth .ensures) (c .hashes .ensures)
-
 pub count-spec : {M : Type 1} → statement M
-count-spec =
-    tie.close (tie.spec (λ c κs. search needs) hashes-requires returns)
+count-spec = tie.close (tie.spec
+    (λ c κs. search needs)
+    (λ c κs. walked-deep (from-top _ (c .before .pre) (omega arith)) (c .depth .ensures))
+    (λ c. count-deep _ _ _ _ (c .before .depth .ensures) (c .hashes .ensures)))

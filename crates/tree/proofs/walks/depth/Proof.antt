@@ -20,24 +20,13 @@ Inv-loop n d₀ d = (d ≤ 64) × Above n d
 abbrev μ-loop : tie.MeasureT-loop
 μ-loop n d₀ d = 64 - d
 
-loop-holds : tie.Need-loop-holds Inv-loop μ-loop
-loop-holds c = (omega arith, λ k h. absurd (omega arith))
-
-returns : tie.Need-returns Inv-loop μ-loop
-returns c =
-    let loop = c .before .before .before .loop in
-    record { deep = omega arith; holds = omega (arith, c .if1 .taken, c .before .power .ensures); least = loop .inv .1 }
-
-loop-again : tie.Need-loop-again Inv-loop μ-loop
-loop-again c =
-    (omega arith, nor-here _ _ (c .before .before .before .loop .inv .1) (omega (arith, c .if1 .left, c .before .power .ensures)))
-
-returns-2 : tie.Need-returns-2 Inv-loop μ-loop
-returns-2 c =
-    let loop = c .before .loop in
-    let most = pow-mono {i = 64} {j = loop .d} (omega (arith, c .loop-test .left)) in
-    record { deep = loop .inv .0; holds = omega (arith, most); least = loop .inv .1 }
-
 pub depth-spec : {M : Type 1} → statement M
-depth-spec =
-    tie.close (tie.spec Inv-loop μ-loop loop-holds (λ c κs. omega arith) returns (λ c. omega arith) (λ c. omega arith) loop-again returns-2)
+depth-spec = tie.close (tie.spec
+    Inv-loop μ-loop (λ c. (omega arith, λ k h. absurd (omega arith))) (λ c κs. omega arith)
+    (λ c. let loop = c .before .before .before .loop in
+        record { deep = omega arith; holds = omega (arith, c .if1 .taken, c .before .power .ensures); least = loop .inv .1 })
+    (λ c. omega arith) (λ c. omega arith)
+    (λ c. (omega arith, nor-here _ _ (c .before .before .before .loop .inv .1) (omega (arith, c .if1 .left, c .before .power .ensures))))
+    (λ c. let loop = c .before .loop in
+        let most = pow-mono {i = 64} {j = loop .d} (omega (arith, c .loop-test .left)) in
+        record { deep = loop .inv .0; holds = omega (arith, most); least = loop .inv .1 }))

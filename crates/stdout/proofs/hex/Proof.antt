@@ -1,9 +1,9 @@
--- `blake2b_vectors::show_bytes` is safe and ends. Assumes nothing.
+-- `stdout::hex` is safe and ends. Assumes nothing.
 use Prim.Native.Nat.{_≤_, _-_}
 use borrow.Author.Needs.{needs}
 use lib.ListN.{length}
-use Rattle.blake2b_vectors.proofs.show_bytes.Statement.{statement}
-use Rattle.blake2b_vectors.proofs.show_bytes.Tie as tie
+use Rattle.stdout.proofs.hex.Statement.{statement}
+use Rattle.stdout.proofs.hex.Tie as tie
 
 abbrev Inv-loop : tie.InvT-loop
 Inv-loop bytes i₀ i = i ≤ length bytes
@@ -11,7 +11,7 @@ Inv-loop bytes i₀ i = i ≤ length bytes
 abbrev μ-loop : tie.MeasureT-loop
 μ-loop bytes i₀ i = length bytes - i
 
-pub show-bytes-spec : {M : Type 1} → statement M
-show-bytes-spec =
+pub hex-spec : {M : Type 1} → statement M
+hex-spec =
     tie.close (tie.spec Inv-loop μ-loop (λ c. search needs) (λ c. search needs) (λ c κs. search needs) (λ c κs. search needs)
         (λ c. search needs) (λ c. search needs) (λ c. search needs) (λ c. search needs))
