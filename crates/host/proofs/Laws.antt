@@ -1,5 +1,4 @@
 -- The laws, a file for each subject.
-pub mod Slices
 pub mod Places
 pub mod Slots
 pub mod Sizes
@@ -7,4 +6,3 @@ pub mod Sums
 pub mod Order
 pub mod Forming
 pub mod Lengths
-pub mod Ways

@@ -10,12 +10,13 @@ use lib.ListN.{length, getD}
 use lib.IntN.{ℤ, pos, _-ℤ_}
 use lib.Dec.{ltb, eqb}
 use borrow.Author.Tests.{ltb-true, eqb-true}
-use Rattle.area.specs.Pick.{pick}
+use Rattle.lists.specs.Pick.{pick}
+use Rattle.lists.specs.Tests.{every}
+use Rattle.lists.proofs.Laws.Pick.{by, picks, skips, never, both-left, both-right}
+use Rattle.lists.proofs.Laws.Every.{every-fore, every-aft, every-at, every-get}
 use Rattle.area.specs.Area.{same, part, put, zeros}
-use Rattle.area.proofs.Laws.Pick.{by, picks, skips, never, both-left, both-right}
 use Rattle.area.proofs.Laws.Slots.{slot-ends}
 use Rattle.sia.specs.Names.{readOnly}
-use Rattle.sia.specs.Encode.{every}
 use Rattle.host.specs.Empty.{none, noPlace, noProgram}
 use Rattle.host.specs.With.{withPlaces, withProgram, withDiskRoots, withSize, withSlots}
 use Rattle.host.specs.Places.{hasId, whose, taken}
@@ -28,9 +29,7 @@ use Rattle.machine_rules.specs.Visit.{Declared}
 use Rattle.machine_rules.proofs.Committing.{final, order-places, order-some, place-twins}
 use Rattle.machine_rules.proofs.Laws.Effects.{whole-sectors}
 use Rattle.machine_rules.proofs.Laws.Sizes.{place-size, whose-whole, whose-here, whose-on, has-held}
-use Rattle.machine_rules.proofs.Laws.Slots.{every-fore, every-aft}
 use Rattle.machine_rules.proofs.Laws.Split.{split}
-use Rattle.machine_rules.proofs.Laws.Spots.{every-at, every-get}
 use Rattle.machine_rules.proofs.Laws.Taking.{order-good, order-solid, areas-stage}
 use Rattle.host.specs.declared.Place.{Place}
 use Rattle.host.specs.declared.Host.{Host}

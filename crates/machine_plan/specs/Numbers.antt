@@ -1,7 +1,7 @@
 -- What checks 26 to 42 look at: of what is read the number of sectors, of the arguments the numbers. Assumes nothing.
 use mathlib.Core.List.{[]}
 use Prim.Native.Nat.{ℕ, _≤_}
-use Rattle.area.specs.Area.{tab}
+use Rattle.lists.specs.Tab.{tab}
 use Rattle.machine_rules.specs.Inputs as Says
 use Rattle.machine_rules.specs.Plan.{Source, seen}
 use Rattle.sia.specs.declared.Op.{Op}

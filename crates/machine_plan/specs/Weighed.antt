@@ -2,7 +2,7 @@
 use mathlib.Core.Bool.{Bool}
 use Prim.Native.Nat.{ℕ, _+_, _*_}
 use lib.Dec.{ltb, eqb}
-use Rattle.area.specs.Pick.{pick}
+use Rattle.lists.specs.Pick.{pick}
 use Rattle.host.specs.Places.{others}
 use Rattle.machine_rules.specs.View.{Setting, freeCopies}
 use Rattle.machine_rules.specs.Inputs as Says

@@ -10,15 +10,18 @@ use lib.ListN.{length, getD, List·getD-append}
 use lib.IntN.{pos, _-ℤ_}
 use lib.Dec.{ltb, eqb}
 use borrow.Author.Tests.{not-true, ltb-true}
-use Rattle.area.specs.Area.{same, part, tab}
-use Rattle.area.proofs.Laws.Pick.{by, picks, skips, never, both-left}
+use Rattle.lists.specs.Tests.{every, each, apart, unused}
+use Rattle.lists.specs.Tab.{tab}
+use Rattle.lists.proofs.Laws.Pick.{by, picks, skips, never, both-left}
+use Rattle.lists.proofs.Laws.Tab.{length-tab, getD-tab}
+use Rattle.lists.proofs.Laws.Every.{every-all, every-two, every-and, every-fore, every-aft, every-at, every-get}
+use Rattle.lists.proofs.Laws.Some.{some-at}
+use Rattle.lists.proofs.Laws.Apart.{apart-out, distinct, fore-unused, aft-unused}
+use Rattle.area.specs.Area.{same, part}
 use Rattle.area.proofs.Laws.Parts.{length-part}
-use Rattle.area.proofs.Laws.Tab.{length-tab, getD-tab}
 use Rattle.tree.specs.Tree.{root}
 use Rattle.machine_rules.specs.Sound.{right}
-use Rattle.machine_rules.proofs.Laws.Rehashed.{every-all, every-two}
-use Rattle.sia.specs.Encode.{joined, every}
-use Rattle.host.specs.Lists.{each, apart, unused}
+use Rattle.sia.specs.Encode.{joined}
 use Rattle.host.specs.Empty.{none, noPlace, noProgram}
 use Rattle.host.specs.With.{withPlaces, withProgram, withDiskRoots, withSize, withSlots}
 use Rattle.host.specs.Places.{hasId, whose, committed, taken}
@@ -34,13 +37,11 @@ use Rattle.machine_rules.specs.Trace.{sectorsOf, parentIn, pairIn, start
 use Rattle.machine_rules.specs.Outcome.{Dropped, Committed}
 use Rattle.machine_rules.specs.Demand2.{Agreed}
 use Rattle.machine_rules.proofs.Laws.Effects.{whole-sectors}
-use Rattle.machine_rules.proofs.Laws.Slots.{every-and, every-fore, every-aft, apart-out}
-use Rattle.machine_rules.proofs.Laws.Spots.{every-at, every-get, whose-every, length-each, unstaged}
+use Rattle.machine_rules.proofs.Laws.Spots.{whose-every, length-each, unstaged}
 use Rattle.machine_rules.proofs.Laws.Split.{Split, split, replaced-none, replaced-split, taken-split, none-of}
 use Rattle.machine_rules.proofs.Laws.Taking.{order-good, order-solid, areas-stage}
 use Rattle.machine_rules.proofs.Laws.Filling.{held, filling-length, filling-outside, filling-inside, joined-each, joined-tab, roots-alike}
-use Rattle.machine_rules.proofs.Laws.Others.{whose-new, not-other, whose-other, none-has, none-bare, some-at, distinct, fore-unused}
-use Rattle.machine_rules.proofs.Laws.Others.{aft-unused, joined-alike}
+use Rattle.machine_rules.proofs.Laws.Others.{whose-new, not-other, whose-other, none-has, none-bare, joined-alike}
 use Rattle.machine_rules.proofs.Laws.Pairs.{same-pairs, pairs-differ, none-starts, none-runs}
 use Rattle.machine_rules.proofs.Laws.Sizes.{nothing-reached}
 use Rattle.machine_rules.proofs.Nothing.{given-up, close-ways}

@@ -6,7 +6,7 @@ use Prim.Native.Nat.{ℕ, suc, _+_, _≤_}
 use native.Mathlib.Omega.{arith}
 use lib.ListN.{length, take, length-append}
 use lib.Seq.{take-append-seam}
-use Rattle.area.specs.Pick.{pick}
+use Rattle.lists.specs.Pick.{pick}
 use Rattle.area.specs.Area.{part, put}
 use Rattle.area.proofs.Laws.Puts.{put-append, part-put}
 use Rattle.host.specs.With.{withProgram, withCame, withProgress, withStageRoots}

@@ -1,6 +1,6 @@
 -- Failures and the tally: what one instruction does by its number, and a run by induction on its turns. Assumes nothing.
 use mathlib.Core.Path.{_≡_, refl, sym, ap, _∙_, subst}
-use mathlib.Core.Bool.{Bool, true, false, not}
+use mathlib.Core.Bool.{true, false, not}
 use mathlib.Core.List.{List}
 use Prim.Native.Nat.{ℕ, zero, suc, _+_, _*_, _≤_}
 use native.Mathlib.Nat.{add-assoc}
@@ -8,12 +8,13 @@ use native.Mathlib.Omega.{arith}
 use lib.ListN.{length, getD}
 use lib.Dec.{eqb}
 use borrow.Author.Tests.{ltb-false, eqb-true, eqb-false, eq-eqb, ne-eqb}
-use Rattle.area.specs.Pick.{pick}
+use Rattle.lists.specs.Pick.{pick}
+use Rattle.lists.specs.Tests.{some}
+use Rattle.lists.proofs.Laws.Pick.{by, picks, skips, both-not-left}
+use Rattle.lists.proofs.Laws.Ways.{either-way, past-check}
 use Rattle.area.specs.Area.{part}
-use Rattle.area.proofs.Laws.Pick.{by, picks, skips, both-not-left}
 use Rattle.tree.specs.Tree.{root}
 use Rattle.sia.specs.Names.{opOf}
-use Rattle.host.specs.Lists.{some}
 use Rattle.host.specs.Empty.{none}
 use Rattle.host.specs.With.{withWritten, withFailed}
 use Rattle.machine_rules.specs.View.{Setting, Turn}
@@ -25,7 +26,6 @@ use Rattle.machine_rules.specs.Trace.{charges}
 use Rattle.machine_rules.specs.Outcome.{Failed, Instructed}
 use Rattle.machine_rules.proofs.Laws.Steps.{runs-go, runs-stop}
 use Rattle.machine_rules.proofs.Laws.Trails.{stepped-output}
-use Rattle.machine_rules.proofs.Laws.Ways.{either-way}
 use Rattle.machine_rules.proofs.Laws.Classes.{is-invalid, is-host}
 use Rattle.machine_rules.proofs.Laws.Rehashed.{rehashed-in, rehashed-out}
 use Rattle.sia.specs.declared.Op.{Op}
@@ -62,19 +62,13 @@ charged : (z : ℕ) (s : Setting) (i : Instruction) (l : List (List ℕ)) (t : T
 unfolding stepped succeeding ranProgress
 charged z s i l t e = ap (λ (x : Turn). x .progress .tally) (picks (eqb (judged z s (rootAt z s t) (t .progress) i l) 0) _ _ (eq-eqb _ _ e))
 
--- a chain of checks that comes to 0 passed its first check
-passes : (b : Bool) (n x : ℕ) → pick b (suc n) x ≡ 0 → (b ≡ false) × (x ≡ 0)
-unfolding pick
-passes true n x e = absurd (omega arith)
-passes false n x e = (refl, e)
-
 paid : (z : ℕ) (s : Setting) (f : Spot → List ℕ) (p : Progress) (i : Instruction) (l : List (List ℕ)) → judged z s f p i l ≡ 0
     → p .tally + cost (s .terms .head .length) (s .terms .prices) (opOf (i .name)) (argsOf (opOf (i .name)) l .len) ≤ s .terms .budget
 unfolding judged judgedInputs judgedSource
 paid z s f p i l e =
-    let inputs = passes _ 21 _ (passes _ 20 _ e .1) .1 in
-    let proof = passes _ 26 _ (passes _ 25 _ (passes _ 24 _ (passes _ 23 _ (passes _ 22 _ inputs .1) .1) .1) .1) .1 in
-    ltb-false _ _ (passes _ 27 _ proof .0)
+    let inputs = past-check _ 21 _ (past-check _ 20 _ e .1) .1 in
+    let proof = past-check _ 26 _ (past-check _ 25 _ (past-check _ 24 _ (past-check _ 23 _ (past-check _ 22 _ inputs .1) .1) .1) .1) .1 in
+    ltb-false _ _ (past-check _ 27 _ proof .0)
 
 same-tally : (p : Progress) → withFailed (withWritten p (p .written + 72)) true .tally ≡ p .tally
 unfolding withFailed withWritten

@@ -9,13 +9,17 @@ use native.Mathlib.Omega.{arith}
 use lib.ListN.{take, replicate}
 use lib.Dec.{ltb, eqb}
 use borrow.Author.Tests.{not-true, not-false, eq-eqb, le-leb}
-use Rattle.area.specs.Pick.{pick, both}
+use Rattle.lists.specs.Pick.{pick, both}
+use Rattle.lists.specs.Tests.{every, some, apart}
+use Rattle.lists.proofs.Laws.Pick.{by, picks, skips, never, both-left, both-right, both-join, both-not-left, both-not-right, either-join}
+use Rattle.lists.proofs.Laws.Ways.{either-way}
+use Rattle.lists.proofs.Laws.Every.{every-and, every-fore, every-aft}
+use Rattle.lists.proofs.Laws.Some.{some-and, some-fore, some-aft}
+use Rattle.lists.proofs.Laws.Apart.{tail-apart, join-apart, apart-out}
 use Rattle.area.specs.Area.{same, zeros}
-use Rattle.area.proofs.Laws.Pick.{by, picks, skips, never, both-left, both-right, both-join, both-not-left, both-not-right, either-join}
 use Rattle.area.proofs.Laws.Same.{same-eq, same-refl}
 use Rattle.sia.specs.Names.{readOnly}
-use Rattle.sia.specs.Encode.{joined, every}
-use Rattle.host.specs.Lists.{some, apart}
+use Rattle.sia.specs.Encode.{joined}
 use Rattle.host.specs.Sizes.{isSize}
 use Rattle.host.specs.Empty.{noPlace, noProgram, newPlace, bare}
 use Rattle.host.specs.With.{withPlaces}
@@ -24,11 +28,8 @@ use Rattle.host.specs.Order.{lent, placeInOrder, twins, placesInOrder, inOrder}
 use Rattle.host.specs.Calls.{lengthRight, freshed, padded, formedAt, formed, replaced, dropped}
 use Rattle.host.proofs.Laws.Order.{contracts-facts, facts-contracts}
 use Rattle.host.proofs.Theorems.{no-slots-refused}
-use Rattle.machine_rules.proofs.Laws.Pigeons.{tail-apart}
-use Rattle.machine_rules.proofs.Laws.Slots.{every-and, every-fore, every-aft, some-and, some-fore, some-aft, join-apart, apart-out}
 use Rattle.machine_rules.proofs.Laws.Split.{split, every-rest, every-cons, replaced-split, taken-split, none-of}
 use Rattle.machine_rules.proofs.Laws.Others.{none-bare}
-use Rattle.machine_rules.proofs.Laws.Ways.{either-way}
 use Rattle.host.specs.declared.Place.{Place}
 use Rattle.host.specs.declared.Host.{Host}
 use Rattle.host.specs.declared.Made.{Made}

@@ -9,15 +9,18 @@ use native.Mathlib.Omega.{arith}
 use lib.ListN.{length, take, replicate, length-take, drop-of-length-le}
 use lib.Dec.{eqb}
 use borrow.Author.Tests.{not-false, leb-true, le-leb, ltb-false, eqb-true, eq-eqb}
-use Rattle.area.specs.Pick.{pick, both, either}
+use Rattle.lists.specs.Pick.{pick, both, either}
+use Rattle.lists.specs.Tests.{every, some, apart}
+use Rattle.lists.proofs.Laws.Pick.{by, picks, skips, both-left, both-right, both-join}
+use Rattle.lists.proofs.Laws.Ways.{either-way}
+use Rattle.lists.proofs.Laws.Every.{every-drop}
+use Rattle.lists.proofs.Laws.Pigeons.{pigeons}
 use Rattle.area.specs.Area.{same, put}
 use Rattle.area.specs.Little.{Bytes}
-use Rattle.area.proofs.Laws.Pick.{by, picks, skips, both-left, both-right, both-join}
 use Rattle.sia.specs.Names.{readOnly}
-use Rattle.sia.specs.Encode.{every, within}
+use Rattle.sia.specs.Encode.{within}
 use Rattle.sia.specs.Decode.{told, decode}
 use Rattle.sia.proofs.Theorems.{read-within}
-use Rattle.host.specs.Lists.{some, apart}
 use Rattle.host.specs.Empty.{none, noProgram, started}
 use Rattle.host.specs.With.{withProgram}
 use Rattle.host.specs.Places.{whose, taken}
@@ -33,9 +36,6 @@ use Rattle.machine_rules.specs.Commit.{Closed, givenUp, close, agreedBy,
 use Rattle.machine_rules.specs.Visit.{Areas, Opening, Agreement, opens, gives, stops, closes, Declared}
 use Rattle.machine_rules.specs.Outcome.{Refused}
 use Rattle.machine_rules.proofs.Forming.{forming, dropping}
-use Rattle.machine_rules.proofs.Laws.Ways.{either-way}
-use Rattle.machine_rules.proofs.Laws.Lists.{every-drop}
-use Rattle.machine_rules.proofs.Laws.Pigeons.{pigeons}
 use Rattle.machine_rules.proofs.Laws.Sizes.{sizes, whose-whole, read-only-size}
 use Rattle.machine_rules.proofs.Laws.Steps.{not-failed}
 use Rattle.machine_rules.proofs.Laws.Kept.{failed-good, runs-good, facts-staged}

@@ -3,11 +3,12 @@ use mathlib.Core.Path.{_≡_, refl, sym, ap, _∙_}
 use mathlib.Core.Bool.{true, false}
 use mathlib.Core.List.{List, [], _∷_}
 use Prim.Native.Nat.{ℕ}
-use Rattle.area.specs.Pick.{pick, either}
+use Rattle.lists.specs.Pick.{pick, either}
+use Rattle.lists.specs.Tests.{some, each}
+use Rattle.lists.proofs.Laws.Pick.{by, picks, skips, never, both-left, both-right, both-join}
+use Rattle.lists.proofs.Laws.Ways.{either-way}
 use Rattle.area.specs.Area.{same}
-use Rattle.area.proofs.Laws.Pick.{by, picks, skips, never, both-left, both-right, both-join}
 use Rattle.area.proofs.Laws.Same.{same-eq}
-use Rattle.host.specs.Lists.{some, each}
 use Rattle.host.specs.Empty.{noPlace, newPlace, bare}
 use Rattle.host.specs.With.{withPlaces, withProgram, withSize, withSlots, withDiskRoots}
 use Rattle.host.specs.Places.{hasId, whose}
@@ -18,7 +19,6 @@ use Rattle.machine_rules.specs.Visit.{Areas, Agreement, closes}
 use Rattle.host.proofs.Padded.{padding, word, fifteen}
 use Rattle.host.proofs.Renaming.Exchange.{exchange}
 use Rattle.machine_rules.specs.Padded.{holds, NoneFormed, ShortIds}
-use Rattle.machine_rules.proofs.Laws.Ways.{either-way}
 use Rattle.machine_rules.proofs.Nothing.{nothing, close-ways}
 use Rattle.machine_rules.proofs.Renaming.Alike.{alike}
 use Rattle.host.specs.declared.Place.{Place}

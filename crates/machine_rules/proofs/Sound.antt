@@ -10,12 +10,12 @@ use Prim.Native.Nat.{ℕ, _*_, _/_, _^_, _≤_}
 use native.Mathlib.Nat.{zero-mul, mul-le-mul-right}
 use native.Mathlib.Omega.{arith}
 use lib.ListN.{length}
+use Rattle.lists.specs.Tests.{every}
+use Rattle.lists.proofs.Laws.Pick.{picks, skips}
+use Rattle.lists.proofs.Laws.Tab.{length-tab}
 use Rattle.area.specs.Area.{same}
 use Rattle.area.specs.Slots.{Size}
-use Rattle.area.proofs.Laws.Pick.{picks, skips}
-use Rattle.area.proofs.Laws.Tab.{length-tab}
 use Rattle.tree.specs.Tree as Tree
-use Rattle.sia.specs.Encode.{every}
 use Rattle.host.specs.Places.{whose, committed}
 use Rattle.host.specs.Calls.{freshed}
 use Rattle.machine_rules.specs.View.{kept, worked, Setting, settingBy, settingOf, areasRight, parent, sector, spotOf, parentSpots, committedSpots}

@@ -7,8 +7,8 @@ use native.Mathlib.Nat.{suc-mul, mul-le-mul-right, mul-assoc, mod-lt, div-add-mo
 use native.Mathlib.Omega.{arith}
 use lib.Dec.{ltb}
 use borrow.Author.Tests.{ltb-true, ltb-false}
+use Rattle.lists.proofs.Laws.Pick.{by}
 use Rattle.area.specs.Slots.{Size}
-use Rattle.area.proofs.Laws.Pick.{by}
 
 -- a slot below m ends where the m slots end, or before
 pub slot-ends : (z n m : ℕ) → n < m → n * z + z ≤ m * z

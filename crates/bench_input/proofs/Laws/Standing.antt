@@ -7,9 +7,9 @@ use lib.ListN.{length, take, drop, length-append, length-take}
 use lib.Seq.{take-at, take-take, length-take-le}
 use lib.Dec.{leb, ltb}
 use borrow.Author.Tests.{le-ltb, leb-true, leb-false}
+use Rattle.lists.proofs.Laws.Pick.{by, picks, skips}
 use Rattle.area.specs.Area.{part, put}
 use Rattle.area.specs.Little.{valueOf, bytesOf, le8, Bytes}
-use Rattle.area.proofs.Laws.Pick.{by, picks, skips}
 use Rattle.area.proofs.Laws.Parts.{part-whole}
 use Rattle.area.proofs.Laws.Puts.{length-put, put-is}
 use Rattle.area.proofs.Laws.Little.{length-bytes, bytes-value}

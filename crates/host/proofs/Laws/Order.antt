@@ -4,7 +4,7 @@ use mathlib.Core.Bool.{true, not}
 use mathlib.Core.List.{List}
 use Prim.Native.Nat.{ℕ, _≤_}
 use borrow.Author.Tests.{leb-true, le-leb, eqb-true, eq-eqb}
-use Rattle.area.proofs.Laws.Pick.{picks, skips, by, both-join, both-left, both-right}
+use Rattle.lists.proofs.Laws.Pick.{picks, skips, by, both-join, both-left, both-right}
 use Rattle.host.specs.Order.{lent, placesInOrder, stagedInOrder, termsInOrder, progressInOrder, programInOrder, inOrder}
 use Rattle.host.specs.Facts.{Contracts, Staged, Agreed, Orderly, Running, Order}
 use Rattle.host.specs.declared.Place.{Place}

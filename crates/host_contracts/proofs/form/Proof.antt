@@ -4,11 +4,11 @@ use mathlib.Core.Path.{_≡_, refl, sym, ap, _∙_}
 use mathlib.Core.Bool.{not}
 use mathlib.Core.List.{List}
 use Prim.Native.Nat.{ℕ}
-use Rattle.area.specs.Pick.{pick}
+use Rattle.lists.specs.Pick.{pick}
+use Rattle.lists.specs.Tests.{some}
+use Rattle.lists.proofs.Laws.Pick.{yes, no}
 use Rattle.area.specs.Area.{same}
-use Rattle.area.proofs.Laws.Pick.{yes, no}
 use Rattle.sia.specs.Names.{readOnly}
-use Rattle.host.specs.Lists.{some}
 use Rattle.host.specs.With.{withPlaces}
 use Rattle.host.specs.Places.{whose}
 use Rattle.host.specs.Calls.{answered, padded, formedAt, formed}

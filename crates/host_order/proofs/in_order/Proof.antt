@@ -2,8 +2,8 @@
 use mathlib.Core.Path.{_≡_, refl, sym, _∙_}
 use mathlib.Core.Bool.{true}
 use borrow.Author.Tests.{not-true, not-false}
+use Rattle.lists.proofs.Laws.Pick.{yes, no}
 use Rattle.area.specs.Slots.{Size}
-use Rattle.area.proofs.Laws.Pick.{yes, no}
 use Rattle.area.proofs.Laws.Slots.{some}
 use Rattle.host.specs.Sizes.{isSize}
 use Rattle.host.specs.Order.{lent, placesInOrder, inOrder}

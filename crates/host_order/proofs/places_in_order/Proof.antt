@@ -2,9 +2,8 @@
 use mathlib.Core.Path.{refl, sym, ap, _∙_}
 use lib.Dec.{ltb, eqb}
 use borrow.Author.Tests.{not-true, not-false}
-use Rattle.area.proofs.Laws.Pick.{yes, no}
-use Rattle.sia.specs.Encode.{every}
-use Rattle.host.specs.Lists.{apart}
+use Rattle.lists.specs.Tests.{every, apart}
+use Rattle.lists.proofs.Laws.Pick.{yes, no}
 use Rattle.host.specs.Order.{placesInOrder}
 use borrow.Author.Needs.{needs}
 use Rattle.host_order.proofs.places_in_order.Statement.{statement}

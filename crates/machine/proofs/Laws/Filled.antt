@@ -5,8 +5,8 @@ use mathlib.Core.List.{List, [], _∷_, _++_, append-assoc}
 use Prim.Native.Nat.{ℕ, zero, suc, _+_, _-_, _/_, _≤_, min}
 use native.Mathlib.Omega.{arith}
 use lib.ListN.{length, take, length-take, length-append}
+use Rattle.lists.proofs.Laws.Pick.{by, picks, skips}
 use Rattle.area.specs.Area.{put, zeros}
-use Rattle.area.proofs.Laws.Pick.{by, picks, skips}
 use Rattle.host.specs.Places.{committed, taken}
 use Rattle.host.specs.Calls.{replaced}
 use Rattle.machine_rules.specs.Commit.{cut, newSlots, finalSlots}

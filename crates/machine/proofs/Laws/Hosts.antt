@@ -2,14 +2,13 @@
 use mathlib.Core.Path.{_≡_, refl, sym, ap, ap₂, _∙_}
 use mathlib.Core.Bool.{Bool, true, false, not}
 use mathlib.Core.List.{List, []}
-use Prim.Native.Nat.{ℕ, _+_, _-_, _≤_}
+use Prim.Native.Nat.{ℕ, _+_, _≤_}
 use native.Mathlib.Omega.{arith}
 use lib.ListN.{length}
-use lib.Dec.{ltb}
-use borrow.Author.Tests.{leb-true, not-true, not-false, eqb-true, lt-ltb, le-ltb, ltb-true, ltb-false}
-use Rattle.area.specs.Pick.{pick, both}
+use borrow.Author.Tests.{leb-true, not-true, not-false, eqb-true}
+use Rattle.lists.specs.Pick.{pick, both}
+use Rattle.lists.proofs.Laws.Pick.{picks, skips, both-left, both-right, both-join, both-not-left}
 use Rattle.area.specs.Area.{put}
-use Rattle.area.proofs.Laws.Pick.{by, picks, skips, both-left, both-right, both-join, both-not-left}
 use Rattle.sia.specs.Encode.{within}
 use Rattle.host.specs.Order.{inOrder}
 use Rattle.host.proofs.Laws.Order.{order-facts}
@@ -45,13 +44,6 @@ pub wrong-second : (active one two : Bool) → both active (not one) ≡ false �
 unfolding pick
 wrong-second true one two e = ap (λ (b : Bool). not b) (sym (picks one two false (not-false _ e)))
 wrong-second false one two e = refl
-
--- what is left of a limit against a sum
-pub rest-less : (limit one n : ℕ) → one ≤ limit → ltb (limit - one) n ≡ ltb limit (one + n)
-rest-less limit one n h =
-    by (ltb (limit - one) n)
-    (λ e. e ∙ sym (lt-ltb limit (one + n) (omega (arith, ltb-true (limit - one) n e))))
-    (λ e. e ∙ sym (le-ltb limit (one + n) (omega (arith, ltb-false (limit - one) n e))))
 
 pub input-long : (h : Host) (input : List ℕ) → inputRight h input ≡ true → length input ≡ h .program .terms .head .length
 unfolding inputRight

@@ -8,10 +8,10 @@ use native.Mathlib.Omega.{arith}
 use lib.ListN.{length, getD}
 use lib.Dec.{ltb, eqb}
 use borrow.Author.Tests.{ltb-true, ltb-false, lt-ltb}
-use Rattle.area.specs.Pick.{pick}
-use Rattle.area.proofs.Laws.Pick.{picks, either-left, either-right}
+use Rattle.lists.specs.Pick.{pick}
+use Rattle.lists.specs.Tests.{those, count, unused}
+use Rattle.lists.proofs.Laws.Pick.{picks, either-left, either-right, neither}
 use Rattle.area.proofs.Laws.Slots.{slot-ends, some}
-use Rattle.host.specs.Lists.{those, count, unused}
 use Rattle.host.specs.Empty.{none}
 use Rattle.host.specs.Places.{whose}
 use Rattle.machine_rules.specs.View.{Setting, parent, freeCopies}
@@ -19,7 +19,7 @@ use Rattle.machine_rules.specs.Inputs.{Args}
 use Rattle.machine_rules.specs.Plan.{badSpan, badSpans, touched, wanted, newSize}
 use Rattle.machine_rules.specs.Facts.{Good, Solid}
 use Rattle.machine_rules.specs.Effect.{groundOf, Staging, copied, effect}
-use Rattle.machine_rules.proofs.Laws.Effects.{Passed, neither, whole-sectors, sector-below, asks, asks-some, asks-two, copied-map, wanted-one}
+use Rattle.machine_rules.proofs.Laws.Effects.{Passed, whole-sectors, sector-below, asks, asks-some, asks-two, copied-map, wanted-one}
 use Rattle.machine_rules.proofs.Laws.Effects.{swap-asks, span-in, past-first}
 use Rattle.machine_rules.proofs.Laws.Spots.{unstaged, committed-slot}
 use Rattle.sia.specs.declared.Op.{Op}

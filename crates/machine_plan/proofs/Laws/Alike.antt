@@ -5,7 +5,7 @@ use mathlib.Core.List.{[]}
 use Prim.Native.Nat.{ℕ, _+_, _*_, _/_}
 use lib.ListN.{length}
 use lib.Dec.{ltb, eqb}
-use Rattle.area.specs.Pick.{pick, both}
+use Rattle.lists.specs.Pick.{pick, both}
 use Rattle.tree.specs.Walk.{count}
 use Rattle.host.specs.Places.{others}
 use Rattle.machine_rules.specs.View.{Setting, setting, freeCopies}

@@ -6,12 +6,12 @@ use Prim.Native.Nat.{ℕ, _+_, _*_, _≤_}
 use native.Mathlib.Omega.{arith}
 use lib.ListN.{length}
 use borrow.Author.Tests.{leb-true}
-use Rattle.area.specs.Pick.{pick}
+use Rattle.lists.specs.Pick.{pick}
+use Rattle.lists.specs.Tests.{every}
+use Rattle.lists.proofs.Laws.Pick.{yes, no, by, picks, skips, both-left, both-right}
 use Rattle.area.specs.Area.{same}
-use Rattle.area.proofs.Laws.Pick.{yes, no, by, picks, skips, both-left, both-right}
 use Rattle.area.proofs.Laws.Same.{same-eq}
 use Rattle.sia.specs.Names.{readOnly}
-use Rattle.sia.specs.Encode.{every}
 use Rattle.host.specs.Empty.{noPlace}
 use Rattle.host.specs.Places.{hasId, whose}
 use Rattle.host.specs.Order.{placeInOrder}

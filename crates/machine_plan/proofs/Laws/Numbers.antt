@@ -5,9 +5,9 @@ use Prim.Native.Nat.{ℕ, _*_, _+_, _%_, _≤_}
 use native.Mathlib.Omega.{arith}
 use lib.ListN.{length}
 use borrow.Author.Tests.{ltb-false}
+use Rattle.lists.proofs.Laws.Pick.{either-left, either-right}
+use Rattle.lists.proofs.Laws.Tab.{length-tab}
 use Rattle.area.specs.Slots.{Size}
-use Rattle.area.proofs.Laws.Pick.{either-left, either-right}
-use Rattle.area.proofs.Laws.Tab.{length-tab}
 use Rattle.machine_rules.specs.Inputs as Says
 use Rattle.machine_rules.specs.Plan.{Source, spots, badSpan, badSpans}
 use Rattle.sia.specs.declared.Op.{Op}

@@ -7,8 +7,8 @@ use native.Mathlib.Nat.{mul-le-mul-right, div-le-of-le-mul}
 use native.Mathlib.Omega.{arith}
 use lib.Dec.{eqb}
 use borrow.Author.Tests.{eq-eqb, ne-eqb, eqb-true, eqb-false}
-use Rattle.area.specs.Pick.{pick, both}
-use Rattle.area.proofs.Laws.Pick.{yes, no, by, picks, skips}
+use Rattle.lists.specs.Pick.{pick, both}
+use Rattle.lists.proofs.Laws.Pick.{yes, no, by, picks, skips}
 use Rattle.sia.specs.Names.{opOf}
 use Rattle.sia.proofs.Laws.Limits.{within-is}
 use Rattle.host.proofs.Laws.Order.{terms-facts}

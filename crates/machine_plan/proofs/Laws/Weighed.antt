@@ -6,9 +6,9 @@ use native.Mathlib.Omega.{arith}
 use lib.ListN.{length}
 use lib.Dec.{leb, ltb, eqb}
 use borrow.Author.Tests.{leb-true, leb-false, le-ltb, lt-ltb, eqb-true, eq-eqb, ne-eqb}
-use Rattle.area.specs.Pick.{both}
+use Rattle.lists.specs.Pick.{both}
+use Rattle.lists.proofs.Laws.Pick.{yes, no, by, never, picks, skips, either-left}
 use Rattle.area.specs.Slots.{Size}
-use Rattle.area.proofs.Laws.Pick.{yes, no, by, never, picks, skips, either-left}
 use Rattle.host.specs.Places.{others}
 use Rattle.machine_rules.specs.View.{Setting, freeCopies}
 use Rattle.machine_rules.specs.Inputs as Says

@@ -9,13 +9,15 @@ use lib.ListN.{length, drop, getD, set, length-set}
 use lib.Seq.{getD-set-same, getD-set-other}
 use lib.Dec.{ltb, eqb}
 use borrow.Author.Tests.{not-true, not-false, ltb-true, ltb-false, eqb-true, eqb-false, ne-eqb}
-use Rattle.area.specs.Pick.{pick, both, either}
+use Rattle.lists.specs.Pick.{pick, both}
+use Rattle.lists.specs.Tests.{every, those, count, unused}
+use Rattle.lists.specs.Lowest.{lowest}
+use Rattle.lists.proofs.Laws.Pick.{by, picks, skips, never, both-left, either-left, either-right, neither}
+use Rattle.lists.proofs.Laws.Ways.{past-check}
+use Rattle.lists.proofs.Laws.Some.{some-set}
+use Rattle.lists.proofs.Laws.Counts.{lowest-is, count-but-one}
 use Rattle.area.specs.Area.{zeros}
-use Rattle.area.specs.Lowest.{lowest}
-use Rattle.area.proofs.Laws.Pick.{by, picks, skips, never, both-left, either-left, either-right}
 use Rattle.sia.specs.Names.{opOf}
-use Rattle.sia.specs.Encode.{every}
-use Rattle.host.specs.Lists.{those, count, unused}
 use Rattle.host.specs.Empty.{none}
 use Rattle.host.specs.Places.{others, freeCopy}
 use Rattle.host.specs.Facts.{Staged}
@@ -24,24 +26,12 @@ use Rattle.machine_rules.specs.Inputs.{Args, argsOf}
 use Rattle.machine_rules.specs.Plan.{sourceOf, changes, badSpan, badSize, badSpans, cost, touched, wanted, newSize, recordCount}
 use Rattle.machine_rules.specs.Plan.{judgedSource, judgedInputs, judged}
 use Rattle.machine_rules.specs.Effect.{Ground, groundOf, Staging, newCopy, copied, laid, spanWritten, resized, effect}
-use Rattle.machine_rules.proofs.Laws.Lists.{some-set, lowest-is, count-but-one}
 use Rattle.machine_rules.proofs.Laws.Staged.{Free, copy-kept, grow-kept, shrink-kept}
 use Rattle.sia.specs.declared.Op.{Op}
 use Rattle.sia.specs.declared.Op.the-variants.{Read, ReadSector, Write, Copy, Swap, Truncate, Unknown}
 use Rattle.sia.specs.declared.Instruction.{Instruction}
 use Rattle.host.specs.declared.Progress.{Progress}
 use Rattle.machine_rules.specs.declared.Spot.{Spot}
-
--- both parts of a test that does not hold
-pub neither : (a b : Bool) → either a b ≡ false → (a ≡ false) × (b ≡ false)
-neither a b e = (either-left a b e, either-right a b e)
-
--- ---- a check that did not apply
-
-pub passes : (b : Bool) (n r : ℕ) → pick b (suc n) r ≡ 0 → (b ≡ false) × (r ≡ 0)
-unfolding pick
-passes true n r e = absurd (omega arith)
-passes false n r e = (refl, e)
 
 -- what is known of an instruction that runs
 pub record Passed (z : ℕ) (s : Setting) (f : Spot → List ℕ) (p : Progress) (op : Op) (a : Args) (count : ℕ) : Type 0 where
@@ -56,15 +46,15 @@ passed-inputs : (z : ℕ) (s : Setting) (f : Spot → List ℕ) (p : Progress) (
     → Passed z s f p op (argsOf op l) (recordCount z (i .proof) (sourceOf z s f p op (argsOf op l .key)) op (argsOf op l))
 unfolding judgedInputs judgedSource
 passed-inputs z s f p i op l e =
-    let c23 = passes _ 22 _ e in
-    let c24 = passes _ 23 _ (c23 .1) in
-    let c25 = passes _ 24 _ (c24 .1) in
-    let c26 = passes _ 25 _ (c25 .1) in
-    let c27 = passes _ 26 _ (c26 .1) in
-    let c28 = passes _ 27 _ (c27 .1) in
-    let c40 = passes _ 39 _ (c28 .1) in
-    let c41 = passes _ 40 _ (c40 .1) in
-    let c42 = passes _ 41 _ (c41 .1) in
+    let c23 = past-check _ 22 _ e in
+    let c24 = past-check _ 23 _ (c23 .1) in
+    let c25 = past-check _ 24 _ (c24 .1) in
+    let c26 = past-check _ 25 _ (c25 .1) in
+    let c27 = past-check _ 26 _ (c26 .1) in
+    let c28 = past-check _ 27 _ (c27 .1) in
+    let c40 = past-check _ 39 _ (c28 .1) in
+    let c41 = past-check _ 40 _ (c40 .1) in
+    let c42 = past-check _ 41 _ (c41 .1) in
     record { allowed = c24 .0; spans = c26 .0; paid = ltb-false _ _ (c28 .0); free = ltb-false _ _ (c40 .0); fits = ltb-false _ _ (c41 .0);
         room = ltb-false _ _ (c42 .0) }
 
@@ -72,7 +62,7 @@ pub passed : (z : ℕ) (s : Setting) (f : Spot → List ℕ) (p : Progress) (i :
     → Passed z s f p (opOf (i .name)) (argsOf (opOf (i .name)) l)
         (recordCount z (i .proof) (sourceOf z s f p (opOf (i .name)) (argsOf (opOf (i .name)) l .key)) (opOf (i .name)) (argsOf (opOf (i .name)) l))
 unfolding judged
-passed z s f p i l e = passed-inputs z s f p i (opOf (i .name)) l (passes _ 21 _ (passes _ 20 _ e .1) .1)
+passed z s f p i l e = passed-inputs z s f p i (opOf (i .name)) l (past-check _ 21 _ (past-check _ 20 _ e .1) .1)
 
 -- ---- positions
 

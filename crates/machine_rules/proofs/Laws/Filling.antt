@@ -8,13 +8,14 @@ use native.Mathlib.Omega.{arith}
 use lib.ListN.{length, drop, getD, length-take}
 use lib.Dec.{ltb, eqb}
 use borrow.Author.Tests.{ltb-true, ltb-false}
-use Rattle.area.specs.Pick.{pick}
-use Rattle.area.specs.Area.{part, put, tab}
-use Rattle.area.proofs.Laws.Pick.{by, picks, skips}
+use Rattle.lists.specs.Pick.{pick}
+use Rattle.lists.specs.Tests.{each}
+use Rattle.lists.specs.Tab.{tab}
+use Rattle.lists.proofs.Laws.Pick.{by, picks, skips}
+use Rattle.area.specs.Area.{part, put}
 use Rattle.area.proofs.Laws.Puts.{length-put, part-put, part-before, part-behind}
 use Rattle.tree.specs.Tree.{join}
 use Rattle.sia.specs.Encode.{joined}
-use Rattle.host.specs.Lists.{each}
 use Rattle.host.specs.Empty.{none}
 use Rattle.machine_rules.specs.Roots.{contractRoot}
 use Rattle.machine_rules.specs.Commit.{copiedBack}

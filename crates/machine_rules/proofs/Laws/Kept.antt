@@ -8,8 +8,8 @@ use native.Mathlib.Omega.{arith}
 use lib.ListN.{length}
 use lib.Dec.{eqb}
 use borrow.Author.Tests.{leb-true, eqb-true, le-leb, eq-eqb}
-use Rattle.area.specs.Pick.{pick, both}
-use Rattle.area.proofs.Laws.Pick.{by, picks, skips, never, both-left, both-right, both-join}
+use Rattle.lists.specs.Pick.{pick}
+use Rattle.lists.proofs.Laws.Pick.{by, picks, skips, both-left, both-right, both-join, not-both}
 use Rattle.sia.specs.Names.{opOf}
 use Rattle.area.proofs.Laws.Slots as Slots
 use Rattle.host.specs.Places.{whose}
@@ -112,9 +112,6 @@ ran-good z s p op a n bytes L e lt q g =
       terms = terms-size (s .places) (s .terms) (p .size) _ (λ r. size-read op (p .size) a (not-both (changes op) (q .allowed) r)) (g .terms);
       entries = effect-length z (groundOf s) (p .size) op a _ ∙ g .entries;
     }
-  where
-    not-both : (b : Bool) {c : Bool} → both b c ≡ false → c ≡ true → b ≡ false
-    not-both b e h = by b (λ u. never (sym (both-join b _ u h) ∙ e)) (λ u. u)
 
 -- ---- a step, a run
 

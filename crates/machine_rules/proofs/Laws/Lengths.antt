@@ -8,19 +8,22 @@ use native.Mathlib.Omega.{arith}
 use lib.ListN.{length, getD, length-append, length-replicate}
 use lib.Dec.{ltb, eqb}
 use borrow.Author.Tests.{not-false, ltb-true, ltb-false, eqb-true, eqb-false, eq-eqb}
-use Rattle.area.specs.Pick.{pick}
+use Rattle.lists.specs.Pick.{pick}
+use Rattle.lists.specs.Tests.{every}
+use Rattle.lists.proofs.Laws.Pick.{by, picks, skips, never, both-left, either-left, neither}
+use Rattle.lists.proofs.Laws.Ways.{past-check}
+use Rattle.lists.proofs.Laws.Every.{every-at}
 use Rattle.area.specs.Area.{part}
-use Rattle.area.proofs.Laws.Pick.{by, picks, skips, never, both-left, either-left}
 use Rattle.area.proofs.Laws.Parts.{length-part}
 use Rattle.area.proofs.Laws.Little.{length-bytes}
 use Rattle.tree.specs.Walk.{count}
 use Rattle.tree.proofs.Promise.{roots}
 use Rattle.sia.specs.Names.{opOf}
-use Rattle.sia.specs.Encode.{joined, every}
+use Rattle.sia.specs.Encode.{joined}
 use Rattle.machine_rules.specs.View.{Way, kept, worked, Setting, Turn, sector, parent, committedSpots}
 use Rattle.machine_rules.specs.Roots.{sectorRoot, keptRoot, rootBy, rootOf, contractRoot, segments, rangeProof, rootAt, rootOnDisk}
 use Rattle.machine_rules.proofs.Laws.Worked.{proof-counted}
-use Rattle.machine_rules.proofs.Laws.Areas.{rehashed-length}
+use Rattle.machine_rules.proofs.Laws.Areas.{rehashed-length, effect-bytes}
 use Rattle.machine_rules.specs.Inputs.{Args, argsOf, illFormed, pastEnd, wellFormed}
 use Rattle.machine_rules.specs.Plan.{Source, spots, sourceOf, reads, badSpan, badSpans, badProof, newSize, proofCount, outputCount}
 use Rattle.machine_rules.specs.Plan.{recordCount, judgedSource, judgedInputs, judged}
@@ -29,9 +32,8 @@ use Rattle.machine_rules.specs.Record.{pairOf, startingPair, runningPair
 use Rattle.machine_rules.specs.Run.{failedProgress, failing, ranProgress, succeeding, stepped}
 use Rattle.machine_rules.specs.Trace.{recordOf}
 use Rattle.machine_rules.specs.Facts.{Good, Solid, Within, valid}
-use Rattle.machine_rules.proofs.Laws.Effects.{passes, neither, Passed, passed, whole-sectors}
-use Rattle.machine_rules.proofs.Laws.Areas.{effect-bytes}
-use Rattle.machine_rules.proofs.Laws.Spots.{every-at, source-valid, few-spots}
+use Rattle.machine_rules.proofs.Laws.Effects.{Passed, passed, whole-sectors}
+use Rattle.machine_rules.proofs.Laws.Spots.{source-valid, few-spots}
 use Rattle.sia.specs.declared.Op.{Op}
 use Rattle.sia.specs.declared.Op.the-variants.{Read, ReadSector, Write, Copy, Swap, Truncate, Unknown}
 use Rattle.sia.specs.declared.Instruction.{Instruction}
@@ -174,8 +176,8 @@ pub asked-reads : (z : ℕ) (s : Setting) (f : Spot → List ℕ) (p : Progress)
     → reads (opOf (i .name)) ≡ true
 unfolding judged judgedInputs judgedSource badProof
 asked-reads z s f p i l e h =
-    let inputs = passes _ 21 _ (passes _ 20 _ e .1) .1 in
-    let c = passes _ 26 _ (passes _ 25 _ (passes _ 24 _ (passes _ 23 _ (passes _ 22 _ inputs .1) .1) .1) .1) in
+    let inputs = past-check _ 21 _ (past-check _ 20 _ e .1) .1 in
+    let c = past-check _ 26 _ (past-check _ 25 _ (past-check _ 24 _ (past-check _ 23 _ (past-check _ 22 _ inputs .1) .1) .1) .1) in
     not-false _ (either-left _ _ (sym (picks (i .proof) _ false h) ∙ c .0))
 
 -- and then 27 did not apply
@@ -183,8 +185,8 @@ pub asked-right : (z : ℕ) (s : Setting) (f : Spot → List ℕ) (p : Progress)
     → badProof (opOf (i .name)) (argsOf (opOf (i .name)) l) ≡ false
 unfolding judged judgedInputs judgedSource
 asked-right z s f p i l e h =
-    let inputs = passes _ 21 _ (passes _ 20 _ e .1) .1 in
-    let c = passes _ 26 _ (passes _ 25 _ (passes _ 24 _ (passes _ 23 _ (passes _ 22 _ inputs .1) .1) .1) .1) in
+    let inputs = past-check _ 21 _ (past-check _ 20 _ e .1) .1 in
+    let c = past-check _ 26 _ (past-check _ 25 _ (past-check _ 24 _ (past-check _ 23 _ (past-check _ 22 _ inputs .1) .1) .1) .1) in
     sym (picks (i .proof) _ false h) ∙ c .0
 
 -- 21 to 23 did not apply to an instruction that runs
@@ -192,9 +194,9 @@ pub well-formed : (z : ℕ) (s : Setting) (f : Spot → List ℕ) (p : Progress)
     → (illFormed i ≡ false) × (pastEnd (s .terms .head .length) i ≡ false) × (wellFormed (opOf (i .name)) l ≡ true)
 unfolding judged judgedInputs
 well-formed z s f p i l e =
-    let c21 = passes _ 20 _ e in
-    let c22 = passes _ 21 _ (c21 .1) in
-    (c21 .0, c22 .0, not-false _ (passes _ 22 _ (c22 .1) .0))
+    let c21 = past-check _ 20 _ e in
+    let c22 = past-check _ 21 _ (c21 .1) in
+    (c21 .0, c22 .0, not-false _ (past-check _ 22 _ (c22 .1) .0))
 
 -- ---- a record is as long as its numbers say
 

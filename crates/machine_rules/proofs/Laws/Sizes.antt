@@ -9,19 +9,18 @@ use lib.ListN.{length, take, length-append}
 use lib.Seq.{length-take-le}
 use lib.Dec.{eqb}
 use borrow.Author.Tests.{not-true, leb-true, eqb-true}
-use Rattle.area.specs.Pick.{pick, both}
+use Rattle.lists.specs.Pick.{pick, both}
+use Rattle.lists.specs.Tests.{every, each, sum}
+use Rattle.lists.proofs.Laws.Pick.{by, picks, skips, never, both-left, both-right, both-join, second-not}
 use Rattle.area.specs.Area.{same}
-use Rattle.area.proofs.Laws.Pick.{by, picks, skips, never, both-left, both-right, both-join}
 use Rattle.area.proofs.Laws.Same.{same-eq}
 use Rattle.sia.specs.Names.{readOnly}
-use Rattle.sia.specs.Encode.{joined, every}
-use Rattle.host.specs.Lists.{each, sum}
+use Rattle.sia.specs.Encode.{joined}
 use Rattle.host.specs.Empty.{noPlace}
 use Rattle.host.specs.Places.{hasId, whose, ownSize, others, committed, taken}
 use Rattle.host.specs.Order.{placeInOrder, parentInOrder}
 use Rattle.machine_rules.specs.Visit.{Shaped}
 use Rattle.machine_rules.proofs.Laws.Effects.{whole-sectors}
-use Rattle.machine_rules.proofs.Laws.Areas.{either-second as second-not}
 use Rattle.machine_rules.proofs.Laws.Spots.{whose-nobody}
 use Rattle.host.specs.declared.Place.{Place}
 

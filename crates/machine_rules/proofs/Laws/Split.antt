@@ -9,12 +9,13 @@ use lib.ListN.{length, take, drop, length-take, take-append-drop}
 use lib.Seq.{take-take}
 use lib.Dec.{ltb}
 use borrow.Author.Tests.{not-true, ltb-true, ltb-false}
-use Rattle.area.specs.Pick.{pick, both, either}
+use Rattle.lists.specs.Pick.{pick, both, either}
+use Rattle.lists.specs.Tests.{every, some, each, apart, sum}
+use Rattle.lists.proofs.Laws.Pick.{by, picks, skips, never, both-left, both-right, both-join, either-left, either-right}
+use Rattle.lists.proofs.Laws.Apart.{tail-apart}
 use Rattle.area.specs.Area.{same}
-use Rattle.area.proofs.Laws.Pick.{by, picks, skips, never, both-left, both-right, both-join, either-left, either-right}
 use Rattle.area.proofs.Laws.Same.{same-eq, eq-same}
-use Rattle.sia.specs.Encode.{joined, every}
-use Rattle.host.specs.Lists.{some, each, apart, sum}
+use Rattle.sia.specs.Encode.{joined}
 use Rattle.host.specs.Empty.{noPlace}
 use Rattle.host.specs.With.{withSize}
 use Rattle.host.specs.Places.{hasId, whose, ownSize, others, committed, taken}
@@ -22,7 +23,6 @@ use Rattle.host.specs.Order.{placeInOrder, twins}
 use Rattle.host.specs.Calls.{replaced}
 use Rattle.machine_rules.specs.Commit.{cut}
 use Rattle.machine_rules.specs.Visit.{Shaped}
-use Rattle.machine_rules.proofs.Laws.Pigeons.{tail-apart}
 use Rattle.machine_rules.proofs.Laws.Sizes.{has-id, has-held, has-same, whose-here, whose-on, others-kept, others-left, taken-length, committed-bytes}
 use Rattle.host.specs.declared.Place.{Place}
 

@@ -1,20 +1,21 @@
 -- What is seen lies in slots that there are, at most 64 sectors. Assumes nothing.
 use mathlib.Core.Path.{_≡_, refl, sym, ap, _∙_, subst}
 use mathlib.Core.Bool.{Bool, true, false, not}
-use mathlib.Core.List.{List, [], _∷_, _++_}
-use Prim.Native.Nat.{ℕ, zero, suc, _+_, _-_, _/_, _≤_, _<_}
+use mathlib.Core.List.{List, [], _∷_}
+use Prim.Native.Nat.{ℕ, suc, _+_, _-_, _/_, _≤_, _<_}
 use native.Mathlib.Nat.{zero-div}
 use native.Mathlib.Omega.{arith}
 use lib.ListN.{length, take, drop, getD, length-take, length-drop}
 use lib.Seq.{getD-take, getD-drop, length-take-le}
 use lib.Dec.{leb, ltb, eqb}
 use borrow.Author.Tests.{not-true, leb-true, ltb-true, ltb-false, lt-ltb}
-use Rattle.area.specs.Pick.{pick, both, either}
-use Rattle.area.specs.Area.{same, tab}
-use Rattle.area.proofs.Laws.Pick.{by, picks, skips, never, both-left, both-right, both-join}
-use Rattle.area.proofs.Laws.Tab.{length-tab}
-use Rattle.sia.specs.Encode.{joined, every}
-use Rattle.host.specs.Lists.{each}
+use Rattle.lists.specs.Pick.{pick}
+use Rattle.lists.specs.Tests.{every, each}
+use Rattle.lists.proofs.Laws.Pick.{by, picks, skips, never, both-left, both-right, both-join, second-not, either-second}
+use Rattle.lists.proofs.Laws.Tab.{length-tab, every-tab}
+use Rattle.lists.proofs.Laws.Every.{every-at, every-get, every-fore, every-aft, every-pick, every-append}
+use Rattle.area.specs.Area.{same}
+use Rattle.sia.specs.Encode.{joined}
 use Rattle.host.specs.Empty.{none, noPlace}
 use Rattle.host.specs.Places.{hasId, whose, committed, taken}
 use Rattle.host.specs.Order.{placeInOrder, slotInOrder}
@@ -24,7 +25,6 @@ use Rattle.machine_rules.specs.Seats.{seated, committedSeats, seats, sea
 use Rattle.machine_rules.specs.Plan.{Source, missing, seen, spots, contractSource, soughtSource, sectorSource, sourceOf}
 use Rattle.machine_rules.specs.Facts.{Solid, startOf, valid}
 use Rattle.machine_rules.proofs.Laws.Staged.{slot-none}
-use Rattle.machine_rules.proofs.Laws.Areas.{either-second as second-not}
 use Rattle.sia.specs.declared.Op.{Op}
 use Rattle.sia.specs.declared.Op.the-variants.{Read, ReadSector, Write, Copy, Swap, Truncate, Unknown}
 use Rattle.host.specs.declared.Place.{Place}
@@ -36,43 +36,6 @@ use Rattle.machine_rules.specs.declared.Sought.{Sought}
 use Rattle.machine_rules.specs.declared.Sought.the-variants.{At, Nowhere}
 
 -- ---- spots are slots that there are
-
-pub every-at : {A : Type 0} (p : A → Bool) (l : List A) (i : ℕ) (d : A) → every p l ≡ true → p d ≡ true → p (getD l i d) ≡ true
-unfolding every
-every-at p [] i d h e = e
-every-at p (x ∷ xs) zero d h e = both-left _ _ h
-every-at p (x ∷ xs) (suc i) d h e = every-at p xs i d (both-right _ _ h) e
-
-pub every-get : {A : Type 0} (p : A → Bool) (l : List A) (i : ℕ) (d : A) → i < length l → every p l ≡ true → p (getD l i d) ≡ true
-unfolding every
-every-get p [] i d h e = absurd (omega arith)
-every-get p (x ∷ xs) zero d h e = both-left _ _ e
-every-get p (x ∷ xs) (suc i) d h e = every-get p xs i d (omega arith) (both-right _ _ e)
-
-pub either-second : (a b : Bool) → either a b ≡ true → a ≡ false → b ≡ true
-unfolding pick
-either-second true b e f = never f
-either-second false b e f = e
-
-pub every-fore : {A : Type 0} (p : A → Bool) (l m : List A) → every p (l ++ m) ≡ true → every p l ≡ true
-unfolding every
-every-fore p [] m h = refl
-every-fore p (x ∷ xs) m h = both-join _ _ (both-left _ _ h) (every-fore p xs m (both-right _ _ h))
-
-pub every-aft : {A : Type 0} (p : A → Bool) (l m : List A) → every p (l ++ m) ≡ true → every p m ≡ true
-unfolding every
-every-aft p [] m h = h
-every-aft p (x ∷ xs) m h = every-aft p xs m (both-right _ _ h)
-
-pub every-tab : {A : Type 0} (p : A → Bool) (f : ℕ → A) (i n : ℕ) → ((j : ℕ) → i ≤ j → j < i + n → p (f j) ≡ true) → every p (tab i n f) ≡ true
-unfolding every tab
-every-tab p f i zero g = refl
-every-tab p f i (suc n) g = both-join _ _ (g i (omega arith) (omega arith)) (every-tab p f (suc i) n (λ j lo hi. g j (omega arith) (omega arith)))
-
-pub every-pick : {A : Type 0} (p : A → Bool) (b : Bool) (l m : List A) → every p l ≡ true → every p m ≡ true → every p (pick b l m) ≡ true
-unfolding pick
-every-pick p true l m u v = u
-every-pick p false l m u v = v
 
 pub disk-valid : (s : Setting) (l : List ℕ) → every (λ n. ltb n (s .sectors)) l ≡ true → every (valid s) (each OnDisk l) ≡ true
 unfolding every each valid
@@ -120,16 +83,6 @@ seated-every : (P : Spot → Bool) (i at : ℕ) (l : List Spot) → every P l �
 unfolding seated every
 seated-every P i at [] h = refl
 seated-every P i at (x ∷ xs) h = both-join _ _ (both-left _ _ h) (seated-every P i (suc at) xs (both-right _ _ h))
-
-both-both : (a b c : Bool) → both a (both b c) ≡ both (both a b) c
-unfolding pick
-both-both true b c = refl
-both-both false b c = refl
-
-every-append : {A : Type 0} (p : A → Bool) (l m : List A) → every p (l ++ m) ≡ both (every p l) (every p m)
-unfolding every pick
-every-append p [] m = refl
-every-append p (x ∷ xs) m = ap (both (p x)) (every-append p xs m) ∙ both-both (p x) (every p xs) (every p m)
 
 no-seats : (Q : Seat → Bool) → every Q [] ≡ true
 unfolding every

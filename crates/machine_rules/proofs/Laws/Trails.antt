@@ -9,12 +9,12 @@ use lib.ListN.{length, take}
 use lib.Seq.{take-append-seam}
 use lib.Dec.{leb, ltb, eqb}
 use borrow.Author.Tests.{leb-true, ltb-false, le-leb}
-use Rattle.area.specs.Pick.{pick, both}
+use Rattle.lists.specs.Pick.{pick}
+use Rattle.lists.specs.Tests.{some}
+use Rattle.lists.proofs.Laws.Pick.{by, picks, skips, both-join, both-not-left, both-not-right}
 use Rattle.area.specs.Area.{put}
-use Rattle.area.proofs.Laws.Pick.{by, picks, skips, both-join}
 use Rattle.sia.specs.Names.{opOf}
 use Rattle.sia.specs.Encode.{operandsIn}
-use Rattle.host.specs.Lists.{some}
 use Rattle.machine_rules.specs.View.{Setting, Turn}
 use Rattle.machine_rules.specs.Inputs.{illFormed, pastEnd, largest, need, inputsOf, argsOf}
 use Rattle.machine_rules.specs.Plan.{judged}
@@ -135,18 +135,11 @@ ready-if s k t g h = both-join _ _ g (le-leb _ _ h)
 
 going-stops : (s : Setting) (k : ℕ) (t : Turn) → going (s .terms) (t .progress) ≡ false → ready s k t ≡ false
 unfolding ready
-going-stops s k t e = picks-no (going (s .terms) (t .progress)) _ e
-  where
-    picks-no : (b c : Bool) → b ≡ false → both b c ≡ false
-    picks-no b c e = skips b c false e
+going-stops s k t e = both-not-left (going (s .terms) (t .progress)) _ e
 
 need-stops : (s : Setting) (k : ℕ) (t : Turn) → leb (need (s .terms .head .length) (current s t)) k ≡ false → ready s k t ≡ false
-unfolding ready pick
-need-stops s k t e = both-no (going (s .terms) (t .progress)) _ e
-  where
-    both-no : (b c : Bool) → c ≡ false → both b c ≡ false
-    both-no true c e = e
-    both-no false c e = refl
+unfolding ready
+need-stops s k t e = both-not-right (going (s .terms) (t .progress)) _ e
 
 module _ (z : ℕ) (s : Setting) (a : List ℕ) where
   -- m: as many records as instructions in a row whose need has come, but no more than the whole run writes

@@ -7,17 +7,18 @@ use Prim.Native.Nat.{ℕ, zero, suc, _+_, _*_, _/_, _%_, _^_, _≤_, _<_}
 use native.Mathlib.Nat.{div-add-mod', mul-left-comm, mul-comm}
 use native.Mathlib.Omega.{arith}
 use lib.ListN.{length, getD}
+use Rattle.lists.specs.Tests.{every}
+use Rattle.lists.proofs.Laws.Every.{every-get}
 use Rattle.area.specs.Area.{part}
 use Rattle.tree.specs.Tree.{root, join}
 use Rattle.tree.specs.Walk.{count, proof, proofIn}
 use Rattle.tree.specs.Promise.{Parted}
 use Rattle.tree.proofs.Promise.{roots, proofs}
-use Rattle.sia.specs.Encode.{joined, every}
+use Rattle.sia.specs.Encode.{joined}
 use Rattle.machine_rules.specs.View.{sector, whole}
 use Rattle.machine_rules.specs.Roots.{sectorRoot, contractRoot, rangeProof, rangeCount}
 use Rattle.machine_rules.specs.Facts.{Within}
 use Rattle.machine_rules.proofs.Laws.Pieces.{length-pieces, part-pieces}
-use Rattle.machine_rules.proofs.Laws.Spots.{every-get}
 use Rattle.machine_rules.specs.declared.Spot.{Spot}
 use Rattle.machine_rules.specs.declared.Spot.the-variants.{OnDisk}
 

@@ -6,15 +6,17 @@ use Prim.Native.Nat.{ℕ, zero, suc}
 use native.Mathlib.Nat.{zero-div}
 use lib.ListN.{take, replicate}
 use lib.Dec.{eqb}
-use Rattle.area.specs.Pick.{pick}
+use Rattle.lists.specs.Pick.{pick}
+use Rattle.lists.specs.Tests.{every, each}
+use Rattle.lists.proofs.Laws.Pick.{by, picks, skips, both-right, both-join, or-right}
+use Rattle.lists.proofs.Laws.Ways.{either-way}
+use Rattle.lists.proofs.Laws.Every.{every-and, every-fore, every-aft}
 use Rattle.area.specs.Area.{zeros}
 use Rattle.area.specs.Little.{Bytes}
-use Rattle.area.proofs.Laws.Pick.{by, picks, skips, both-right, both-join}
-use Rattle.sia.specs.Encode.{joined, every}
+use Rattle.sia.specs.Encode.{joined}
 use Rattle.sia.specs.Decode.{decode}
 use Rattle.host.specs.Empty.{none, noPlace, newPlace, noProgram, bare, started}
 use Rattle.host.specs.With.{withPlaces, withProgram}
-use Rattle.host.specs.Lists.{each}
 use Rattle.host.specs.Places.{hasId, committed, taken}
 use Rattle.host.specs.Calls.{freshed, formedAt, formed, replaced, dropped}
 use Rattle.host.specs.Calls as Contracts
@@ -23,9 +25,6 @@ use Rattle.machine_rules.specs.Sound.{right, stagedRight, rootsRight, so
 use Rattle.machine_rules.specs.Calls.{answered, begun, openedHead, opened}
 use Rattle.machine_rules.specs.Visit.{Declared}
 use Rattle.machine_rules.proofs.Forming.{making, forming, dropping}
-use Rattle.machine_rules.proofs.Laws.Slots.{every-and, every-fore, every-aft}
-use Rattle.machine_rules.proofs.Laws.Areas.{or-right}
-use Rattle.machine_rules.proofs.Laws.Ways.{either-way}
 use Rattle.machine_rules.proofs.Ordering.{opening as opening-order}
 use Rattle.machine_rules.proofs.Sound.Programs.{sound-order, sound-disk}
 use Rattle.host.specs.declared.Host.{Host}

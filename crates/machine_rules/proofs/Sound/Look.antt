@@ -3,12 +3,12 @@ use mathlib.Core.Path.{_≡_, sym, ap, _∙_}
 use mathlib.Core.Bool.{true, not}
 use mathlib.Core.List.{List, [], _∷_}
 use Prim.Native.Nat.{ℕ, _*_}
-use Rattle.area.specs.Pick.{pick}
+use Rattle.lists.specs.Pick.{pick}
+use Rattle.lists.specs.Tests.{every}
+use Rattle.lists.proofs.Laws.Pick.{by, picks, skips, both-left}
 use Rattle.area.specs.Area.{zeros}
-use Rattle.area.proofs.Laws.Pick.{by, picks, skips, both-left}
 use Rattle.area.proofs.Laws.Same.{same-eq}
 use Rattle.tree.specs.Tree as Tree
-use Rattle.sia.specs.Encode.{every}
 use Rattle.host.specs.Places.{taken}
 use Rattle.host.specs.Order.{inOrder}
 use Rattle.machine_rules.specs.View.{Way, kept, worked, settingBy, settingOf, readOnlyMode, sector, parent, parentSpots}

@@ -6,10 +6,11 @@ use native.Mathlib.Numerals.{add-one}
 use native.Mathlib.Omega.{arith}
 use lib.ListN.{length, take, drop, length-append}
 use lib.Seq.{take-at, length-take-le}
-use Rattle.area.specs.Area.{part, put, tab}
+use Rattle.lists.specs.Tab.{tab}
+use Rattle.lists.proofs.Laws.Tab.{tab-snoc}
+use Rattle.area.specs.Area.{part, put}
 use Rattle.area.proofs.Laws.Parts.{part-whole}
 use Rattle.area.proofs.Laws.Puts.{put-is}
-use Rattle.area.proofs.Laws.Tab.{tab-snoc}
 use Rattle.sia.specs.Encode.{joined}
 use Rattle.sia.proofs.Laws.Joined.{joined-append}
 

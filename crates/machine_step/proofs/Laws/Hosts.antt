@@ -6,10 +6,10 @@ use Prim.Native.Nat.{ℕ, _*_}
 use native.Mathlib.Omega.{arith}
 use lib.ListN.{length}
 use borrow.Author.Tests.{eqb-true}
-use Rattle.area.specs.Pick.{pick}
+use Rattle.lists.specs.Pick.{pick}
+use Rattle.lists.specs.Tests.{every}
+use Rattle.lists.proofs.Laws.Pick.{by, picks, skips, both-left, both-right}
 use Rattle.area.specs.Area.{zeros}
-use Rattle.area.proofs.Laws.Pick.{by, picks, skips, both-left, both-right}
-use Rattle.sia.specs.Encode.{every}
 use Rattle.host.specs.Empty.{noPlace}
 use Rattle.host.specs.Places.{hasId, whose, taken}
 use Rattle.host.specs.Order.{placeInOrder, inOrder}

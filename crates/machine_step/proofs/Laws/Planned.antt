@@ -8,11 +8,13 @@ use native.Mathlib.Omega.{arith}
 use lib.ListN.{length, drop, length-take, length-drop}
 use lib.Dec.{eqb}
 use borrow.Author.Tests.{leb-true, eqb-true, eqb-false, eq-eqb, ne-eqb}
-use Rattle.area.specs.Pick.{pick}
-use Rattle.area.specs.Area.{part, put, tab}
-use Rattle.area.proofs.Laws.Pick.{by, picks, skips, both-left, both-right, either-left}
+use Rattle.lists.specs.Pick.{pick}
+use Rattle.lists.specs.Tests.{every}
+use Rattle.lists.specs.Tab.{tab}
+use Rattle.lists.proofs.Laws.Pick.{by, picks, skips, both-left, both-right, either-left}
+use Rattle.area.specs.Area.{part, put}
 use Rattle.sia.specs.Names.{opOf}
-use Rattle.sia.specs.Encode.{every, within}
+use Rattle.sia.specs.Encode.{within}
 use Rattle.host.specs.Order.{termsInOrder}
 use Rattle.host.specs.With.{withRunning, withStaged}
 use Rattle.machine_rules.specs.View.{Setting, Turn, turn, parent, spotOf, parentSpots}

@@ -7,8 +7,8 @@ use native.Mathlib.Omega.{arith}
 use lib.ListN.{length}
 use lib.Dec.{eqb}
 use borrow.Author.Tests.{eq-eqb, ne-eqb}
+use Rattle.lists.proofs.Laws.Pick.{picks, skips}
 use Rattle.area.specs.Area.{put}
-use Rattle.area.proofs.Laws.Pick.{picks, skips}
 use Rattle.sia.specs.Names.{opOf}
 use Rattle.host.specs.Places.{whose}
 use Rattle.machine_rules.specs.View.{kept, Setting, setting, Turn, turn, parent}

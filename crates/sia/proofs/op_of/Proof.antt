@@ -4,8 +4,8 @@ use mathlib.Core.Bool.{false}
 use mathlib.Core.List.{List}
 use Prim.Native.Nat.{ℕ}
 use borrow.Author.Needs.{needs}
+use Rattle.lists.proofs.Laws.Pick.{yes, no}
 use Rattle.area.specs.Area.{same}
-use Rattle.area.proofs.Laws.Pick.{yes, no}
 use Rattle.sia.specs.Names.{opOf, nameOf}
 use Rattle.sia.specs.declared.Op.the-variants.{Read, ReadSector, Write, Copy, Swap, Truncate}
 use Rattle.sia.proofs.op_of.Statement.{statement}

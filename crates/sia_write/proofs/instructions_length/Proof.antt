@@ -5,8 +5,8 @@ use Prim.Native.Nat.{ℕ, _+_, _-_, _*_, _≤_}
 use native.Mathlib.Omega.{arith}
 use lib.ListN.{length, take}
 use borrow.Author.Tests.{leb-true}
+use Rattle.lists.proofs.Laws.Every.{every-taken}
 use Rattle.sia.specs.Encode.{joined, instructionBytes, fewOperands}
-use Rattle.sia.proofs.Laws.Every.{every-at}
 use Rattle.sia.proofs.Laws.Joined.{length-more}
 use borrow.Author.Needs.{needs}
 use Rattle.sia_write.proofs.instructions_length.Statement.{statement}
@@ -25,7 +25,7 @@ loop-holds c = (omega arith, refl, omega arith)
 instruction-length-requires : tie.Need-instruction-length-requires Inv-loop μ-loop
 instruction-length-requires c κs =
     let s = c .before .before .before in
-    leb-true _ _ (every-at fewOperands _ _ (c .before .before .loop .i) _ (s .pre .1) (c .before .loop-test .taken) (omega (arith, s .good .0 .1 .0 .1)))
+    leb-true _ _ (every-taken fewOperands _ _ (c .before .before .loop .i) _ (s .pre .1) (c .before .loop-test .taken) (omega (arith, s .good .0 .1 .0 .1)))
 
 loop-again : tie.Need-loop-again Inv-loop μ-loop
 loop-again c =

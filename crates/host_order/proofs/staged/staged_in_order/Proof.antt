@@ -1,9 +1,9 @@
 -- `host_order::staged::staged_in_order` meets its contract: a walk down the definition. Assumes nothing.
 use mathlib.Core.Path.{refl, sym, _∙_}
 use borrow.Author.Tests.{not-true, not-false}
-use Rattle.area.proofs.Laws.Pick.{yes, no}
+use Rattle.lists.proofs.Laws.Pick.{yes, no}
+use Rattle.lists.proofs.Laws.Slices.{every-behind, every-between}
 use Rattle.host.specs.Order.{stagedInOrder}
-use Rattle.host.proofs.Laws.Slices.{every-behind, every-between}
 use borrow.Author.Needs.{needs}
 use Rattle.host_order.proofs.staged.staged_in_order.Statement.{statement}
 use Rattle.host_order.proofs.staged.staged_in_order.Tie as tie

@@ -6,8 +6,8 @@ use Prim.Native.Nat.{ℕ}
 use native.Mathlib.Omega.{arith}
 use lib.ListN.{length}
 use borrow.Author.Tests.{not-true, not-false, eq-eqb, ne-eqb}
-use Rattle.area.specs.Pick.{both}
-use Rattle.area.proofs.Laws.Pick.{yes, no}
+use Rattle.lists.specs.Pick.{both}
+use Rattle.lists.proofs.Laws.Pick.{yes, no}
 use Rattle.machine_rules.specs.View.{Setting, setting, readOnlyMode}
 use Rattle.machine_rules.specs.Roots.{keptRoot}
 use Rattle.machine_rules.specs.Plan.{changes, Source, isThere, spots, sourceOf}

@@ -3,7 +3,7 @@ use mathlib.Core.Path.{_≡_, sym, ap, _∙_}
 use mathlib.Core.Bool.{false}
 use Prim.Native.Nat.{ℕ, _+_}
 use lib.Dec.{ltb}
-use Rattle.area.specs.Pick.{both}
+use Rattle.lists.specs.Pick.{both}
 use Rattle.machine_rules.specs.Plan.{badSpans, badProof, cost}
 use Rattle.machine_plan.specs.Numbers.{sectorsOf, numbers}
 use Rattle.machine_plan.proofs.Laws.Numbers.{charged}
