@@ -1,6 +1,6 @@
 -- Failures and the tally: what one instruction does by its number, and a run by induction on its turns. Assumes nothing.
 use mathlib.Core.Path.{_≡_, refl, sym, ap, _∙_, subst}
-use mathlib.Core.Bool.{true, false, not}
+use mathlib.Core.Bool.{true}
 use mathlib.Core.List.{List}
 use Prim.Native.Nat.{ℕ, zero, suc, _+_, _*_, _≤_}
 use native.Mathlib.Nat.{add-assoc}
@@ -10,7 +10,7 @@ use lib.Dec.{eqb}
 use borrow.Author.Tests.{ltb-false, eqb-true, eqb-false, eq-eqb, ne-eqb}
 use Rattle.lists.specs.Pick.{pick}
 use Rattle.lists.specs.Tests.{some}
-use Rattle.lists.proofs.Laws.Pick.{by, picks, skips, both-not-left}
+use Rattle.lists.proofs.Laws.Pick.{by, picks, skips}
 use Rattle.lists.proofs.Laws.Ways.{either-way, past-check}
 use Rattle.area.specs.Area.{part}
 use Rattle.tree.specs.Tree.{root}
@@ -20,12 +20,12 @@ use Rattle.host.specs.With.{withWritten, withFailed}
 use Rattle.machine_rules.specs.View.{Setting, Turn}
 use Rattle.machine_rules.specs.Inputs.{argsOf, inputsOf}
 use Rattle.machine_rules.specs.Plan.{cost, touched, judgedSource, judgedInputs, judged}
-use Rattle.machine_rules.specs.Run.{failedProgress, failing, ranProgress, succeeding, stepped, current, step, going, ready, runs, run}
+use Rattle.machine_rules.specs.Run.{failedProgress, failing, ranProgress, succeeding, stepped, current, step, ready, runs, run}
 use Rattle.machine_rules.specs.Class.{isKnown, classOf}
 use Rattle.machine_rules.specs.Trace.{charges}
 use Rattle.machine_rules.specs.Outcome.{Failed, Instructed}
 use Rattle.machine_rules.proofs.Laws.Steps.{runs-go, runs-stop}
-use Rattle.machine_rules.proofs.Laws.Trails.{stepped-output}
+use Rattle.machine_rules.proofs.Laws.Trails.{stepped-output, failed-stops}
 use Rattle.machine_rules.proofs.Laws.Classes.{is-invalid, is-host}
 use Rattle.machine_rules.proofs.Laws.Rehashed.{rehashed-in, rehashed-out}
 use Rattle.sia.specs.declared.Op.{Op}
@@ -46,13 +46,9 @@ writes z s i l t n =
         (sym (skips (eqb (judged z s (rootAt z s t) (t .progress) i l) 0) _ _ (ne-eqb _ _ n)))
     (fails z s (judged z s (rootAt z s t) (t .progress) i l) t)
 
-stopped : (s : Setting) (k : ℕ) (t : Turn) → t .progress .failed ≡ true → ready s k t ≡ false
-unfolding ready going
-stopped s k t f = both-not-left _ _ (both-not-left _ _ (ap not f))
-
 ends : (z : ℕ) (s : Setting) (input : List ℕ) (k : ℕ) (t : Turn) → t .progress .failed ≡ true → run z s input k t ≡ t
 unfolding run
-ends z s input k t f = runs-stop z s input k (s .terms .head .count) t (stopped s k t f)
+ends z s input k t f = runs-stop z s input k (s .terms .head .count) t (failed-stops s k t f)
 
 -- ---- the tally
 

@@ -4,7 +4,7 @@ use mathlib.Core.List.{List, [], _∷_, _++_}
 use Prim.Native.Nat.{ℕ, _+_, _-_, _≤_, _<_}
 use native.Mathlib.Nat.{add-sub-cancel-left}
 use native.Mathlib.Omega.{arith}
-use lib.ListN.{length, take, drop, getD, length-drop}
+use lib.ListN.{length, take, drop, getD, length-take, length-drop}
 use lib.Seq.{take-add, take-all, take-take, drop-drop, length-take-le, getD-take, getD-drop, drop-cons}
 use Rattle.lists.proofs.Laws.Entries.{drop-take}
 use Rattle.area.specs.Area.{part}
@@ -12,6 +12,10 @@ use Rattle.area.specs.Area.{part}
 pub length-part : (a : List ℕ) (at n : ℕ) → at + n ≤ length a → length (part a at n) ≡ n
 unfolding part
 length-part a at n h = length-take-le n (drop at a) (omega (arith, length-drop at a))
+
+pub few-part : (a : List ℕ) (at n : ℕ) → length (part a at n) ≤ n
+unfolding part
+few-part a at n = omega (arith, length-take n (drop at a))
 
 -- a slice's part `&a[at..e]`, as the prover shows it
 pub part-is : (a : List ℕ) (at n e : ℕ) → e ≡ at + n → take (e - at) (drop at a) ≡ part a at n

@@ -130,3 +130,7 @@ facts-order h o =
     (by (h .program .active)
     (λ a. skips (not (h .program .active)) true _ (ap not a) ∙ facts-program _ _ _ _ _ (o .running a))
     (λ a. picks (not (h .program .active)) true _ (ap not a))))))
+
+-- no more has come than the head says
+pub came-within : (h : Host) → inOrder h ≡ true → h .program .active ≡ true → h .program .came ≤ h .program .terms .head .length
+came-within h o live = order-facts h o .running live .came

@@ -17,6 +17,18 @@ unfolding every
 every-none p = refl
 
 module _ {A : Type 0} (p : A → Bool) where
+  pub every-cons : (x : A) (xs : List A) → p x ≡ true → every p xs ≡ true → every p (x ∷ xs) ≡ true
+  unfolding every
+  every-cons x xs h k = both-join _ _ h k
+
+  pub every-first : (x : A) (xs : List A) → every p (x ∷ xs) ≡ true → p x ≡ true
+  unfolding every
+  every-first x xs h = both-left _ _ h
+
+  pub every-rest : (x : A) (xs : List A) → every p (x ∷ xs) ≡ true → every p xs ≡ true
+  unfolding every
+  every-rest x xs h = both-right _ _ h
+
   -- ---- at an index
 
   -- where the default passes too
@@ -57,8 +69,7 @@ module _ {A : Type 0} (p : A → Bool) where
   every-aft l m h = both-right _ _ (sym (every-append l m) ∙ h)
 
   pub every-one-more : (l : List A) (v : A) → every p l ≡ true → p v ≡ true → every p (l ++ (v ∷ [])) ≡ true
-  unfolding every
-  every-one-more l v h e = every-and l (v ∷ []) h (both-join _ _ e refl)
+  every-one-more l v h e = every-and l (v ∷ []) h (every-cons v [] e (every-none p))
 
   pub every-pick : (b : Bool) (l m : List A) → every p l ≡ true → every p m ≡ true → every p (pick b l m) ≡ true
   every-pick b l m u v = either-way (λ x. every p x ≡ true) b l m (λ e. u) (λ e. v)

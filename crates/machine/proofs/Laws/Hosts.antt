@@ -77,6 +77,3 @@ reached-any h disk stage =
 pub declared-most : (h : Host) → inOrder h ≡ true → h .program .active ≡ true → h .program .terms .head .length ≤ 65536
 unfolding within
 declared-most h o live = leb-true _ _ (both-left _ _ (both-right _ _ (order-facts h o .running live .terms .head)))
-
-pub came-within : (h : Host) → inOrder h ≡ true → h .program .active ≡ true → h .program .came ≤ h .program .terms .head .length
-came-within h o live = order-facts h o .running live .came

@@ -2,8 +2,7 @@
 use mathlib.Core.Path.{_≡_, refl, sym, ap, _∙_}
 use mathlib.Core.Bool.{true, false, not}
 use mathlib.Core.List.{List, []}
-use Prim.Native.Nat.{ℕ, _/_, _≤_, _<_}
-use native.Mathlib.Nat.{mul-le-mul-right, div-le-of-le-mul}
+use Prim.Native.Nat.{ℕ, _≤_, _<_}
 use native.Mathlib.Omega.{arith}
 use lib.Dec.{eqb}
 use borrow.Author.Tests.{eq-eqb, ne-eqb, eqb-true, eqb-false}
@@ -17,7 +16,7 @@ use Rattle.machine_rules.specs.Seats.{seatsOf}
 use Rattle.machine_rules.specs.Inputs.{Args, illFormed, pastEnd, inputsOf, wellFormed, argsOf}
 use Rattle.machine_rules.specs.Plan.{changes, Source, isThere, spots, contractSource, sectorSource, sourceOf, cost, newSize, proofCount, recordCount}
 use Rattle.machine_rules.specs.Plan.{judgedSource, judgedInputs, judged}
-use Rattle.machine_rules.specs.Facts.{Lent, Good}
+use Rattle.machine_rules.specs.Facts.{Good}
 use Rattle.sia.specs.declared.Instruction.{Instruction}
 use Rattle.sia.specs.declared.Op.{Op}
 use Rattle.sia.specs.declared.Op.the-variants.{Read, ReadSector, Write, Copy, Swap, Truncate, Unknown}
@@ -70,9 +69,6 @@ plan-same z s f p i area =
     (sym (source-same z (setting (s .sectors) (s .copies) (s .places) (s .terms) [] []) f p op (a .key)) ∙ source-same z s f p op (a .key))
 
 -- ---- limits, from the facts of a machine in order
-
-pub size-few : (z : ℕ) (s : Setting) (p : Progress) → Lent z s → Good z s p → p .size / z ≤ 64
-size-few z s p h g = div-le-of-le-mul z (omega (arith, g .orderly .within, mul-le-mul-right z (h .most)))
 
 pub length-most : (z : ℕ) (s : Setting) (p : Progress) → Good z s p → s .terms .head .length ≤ 65536
 length-most z s p g = within-is _ (terms-facts _ _ _ (g .terms) .head) .declared

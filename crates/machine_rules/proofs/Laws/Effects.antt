@@ -3,7 +3,7 @@ use mathlib.Core.Path.{_≡_, refl, sym, ap, _∙_, subst}
 use mathlib.Core.Bool.{Bool, true, false, not}
 use mathlib.Core.List.{List, [], _∷_}
 use Prim.Native.Nat.{ℕ, zero, suc, _+_, _*_, _/_, _%_, _≤_, _<_}
-use native.Mathlib.Nat.{div-add-mod', div-lt-iff-lt-mul, lt-of-mul-lt-mul-right, le-trans, suc-mul, mul-le-mul-right, le-of-mul-le-mul-right}
+use native.Mathlib.Nat.{div-add-mod', div-lt-iff-lt-mul, div-le-of-le-mul, lt-of-mul-lt-mul-right, le-trans, suc-mul, mul-le-mul-right, le-of-mul-le-mul-right}
 use native.Mathlib.Omega.{arith}
 use lib.ListN.{length, drop, getD, set, length-set}
 use lib.Seq.{getD-set-same, getD-set-other}
@@ -25,6 +25,7 @@ use Rattle.machine_rules.specs.View.{Setting, readOnlyMode, freeCopies}
 use Rattle.machine_rules.specs.Inputs.{Args, argsOf}
 use Rattle.machine_rules.specs.Plan.{sourceOf, changes, badSpan, badSize, badSpans, cost, touched, wanted, newSize, recordCount}
 use Rattle.machine_rules.specs.Plan.{judgedSource, judgedInputs, judged}
+use Rattle.machine_rules.specs.Facts.{Good, Lent}
 use Rattle.machine_rules.specs.Effect.{Ground, groundOf, Staging, newCopy, copied, laid, spanWritten, resized, effect}
 use Rattle.machine_rules.proofs.Laws.Staged.{Free, copy-kept, grow-kept, shrink-kept}
 use Rattle.sia.specs.declared.Op.{Op}
@@ -72,6 +73,10 @@ whole-sectors z n e = omega (arith, div-add-mod' n z)
 -- a byte below a whole size lies in a sector below it
 pub sector-below : (z at size : ℕ) → 0 < z → size % z ≡ 0 → at < size → at / z < size / z
 sector-below z at size pos e lt = div-lt-iff-lt-mul {k = z} {x = at} {y = size / z} pos .1 (subst (λ (n : ℕ). at < n) (sym (whole-sectors z size e)) lt)
+
+-- a running size within the disk is at most 64 sectors
+pub few-sectors : (z : ℕ) (s : Setting) (p : Progress) → Lent z s → Good z s p → p .size / z ≤ 64
+few-sectors z s p L g = div-le-of-le-mul z (omega (arith, g .orderly .within, mul-le-mul-right z (L .most)))
 
 -- ---- the stage staged
 

@@ -17,6 +17,7 @@ use Rattle.sia.specs.Names.{readOnly}
 use Rattle.host.specs.Empty.{noPlace}
 use Rattle.host.specs.Places.{hasId, whose}
 use Rattle.host.specs.Order.{placeInOrder, twins}
+use Rattle.host.proofs.Laws.Whose.{no-id}
 use Rattle.machine_rules.specs.View.{Setting, committedSpots}
 use Rattle.machine_rules.specs.Seats.{seated, committedSeats, seats, nobody, allSeats}
 use Rattle.machine_rules.specs.StageFirst.{writing, reading}
@@ -27,10 +28,6 @@ use Rattle.host.specs.declared.Progress.{Progress}
 use Rattle.machine_rules.specs.declared.Seat.{Seat}
 
 -- ---- one place
-
-no-id : (id : List ℕ) → hasId id noPlace ≡ false
-unfolding hasId noPlace pick
-no-id id = refl
 
 -- no other place has the id
 no-other : (id : List ℕ) (p : Place) (ps : List Place) (j : ℕ) → apart twins (p ∷ ps) ≡ true → hasId id p ≡ true

@@ -2,8 +2,7 @@
 use mathlib.Core.Path.{_≡_, refl, sym, ap, _∙_, subst}
 use mathlib.Core.Bool.{Bool, true, false}
 use mathlib.Core.List.{List}
-use Prim.Native.Nat.{ℕ, zero, suc, _*_, _/_, _≤_, _<_}
-use native.Mathlib.Nat.{mul-le-mul-right, le-of-mul-le-mul-right}
+use Prim.Native.Nat.{ℕ, zero, suc, _<_}
 use native.Mathlib.Omega.{arith}
 use lib.ListN.{length}
 use lib.Dec.{eqb}
@@ -13,8 +12,8 @@ use Rattle.lists.proofs.Laws.Pick.{by, picks, skips, both-left, both-right, bot
 use Rattle.sia.specs.Names.{opOf}
 use Rattle.area.proofs.Laws.Slots as Slots
 use Rattle.host.specs.Places.{whose}
-use Rattle.host.specs.Order.{stagedInOrder, parentInOrder, termsInOrder, progressInOrder}
-use Rattle.host.specs.Facts.{Staged}
+use Rattle.host.specs.Order.{parentInOrder, termsInOrder, progressInOrder}
+use Rattle.host.proofs.Laws.Order.{staged-facts, facts-staged}
 use Rattle.machine_rules.specs.View.{Setting, Turn, readOnlyMode}
 use Rattle.machine_rules.specs.Inputs.{Args, argsOf, inputsOf}
 use Rattle.machine_rules.specs.Plan.{changes, cost, newSize, judged}
@@ -22,7 +21,7 @@ use Rattle.machine_rules.specs.Effect.{groundOf, effect}
 use Rattle.machine_rules.specs.Run.{failedProgress, failing, ranProgress, succeeding, stepped, current, step, going, ready, runs}
 use Rattle.machine_rules.specs.Facts.{Good, InOrder, Lent, startOf}
 use Rattle.machine_rules.proofs.Laws.Steps.{not-failed, left-going, ready-going, runs-go, runs-stop}
-use Rattle.machine_rules.proofs.Laws.Effects.{Passed, passed, whole-sectors, effect-kept, effect-length, size-whole, size-read}
+use Rattle.machine_rules.proofs.Laws.Effects.{Passed, passed, effect-kept, effect-length, size-whole, size-read, few-sectors}
 use Rattle.sia.specs.declared.Op.{Op}
 use Rattle.sia.specs.declared.Instruction.{Instruction}
 use Rattle.host.specs.declared.Place.{Place}
@@ -35,17 +34,6 @@ use Rattle.machine_rules.specs.Roots.{rootAt}
 
 abbrev pub inProgress : ℕ → Setting → Progress → Bool
 inProgress z s p = progressInOrder z (s .sectors) (s .copies) (s .places) (s .terms) p
-
-staged-facts : (stage start size : ℕ) (l : List ℕ) → stagedInOrder stage start size l ≡ true → Staged stage start size l
-unfolding stagedInOrder
-staged-facts stage start size l h =
-    let b = both-right _ _ h in
-    let c = both-right _ _ b in
-    record { slots = both-left _ _ h; own = both-left _ _ b; below = both-left _ _ c; past = both-right _ _ c }
-
-pub facts-staged : (stage start size : ℕ) (l : List ℕ) → Staged stage start size l → stagedInOrder stage start size l ≡ true
-unfolding stagedInOrder
-facts-staged stage start size l f = both-join _ _ (f .slots) (both-join _ _ (f .own) (both-join _ _ (f .below) (f .past)))
 
 pub progress-facts : (z : ℕ) (s : Setting) (p : Progress) → inProgress z s p ≡ true → InOrder z s p
 unfolding progressInOrder
@@ -96,9 +84,7 @@ pub ran-good : (z : ℕ) (s : Setting) (p : Progress) (op : Op) (a : Args) (n : 
 unfolding ranProgress
 ran-good z s p op a n bytes L e lt q g =
     let o = g .orderly in
-    let c : s .sectors * z ≤ 64 * z = mul-le-mul-right {m = s .sectors} {n = 64} z (L .most) in
-    let w = whole-sectors z (p .size) (o .whole) in
-    let u : p .size / z ≤ 64 = le-of-mul-le-mul-right {m = p .size / z} {n = 64} {k = z} (omega (arith, w, o .within, c)) (Slots.some z (L .size)) in
+    let u = few-sectors z s p L g in
     record {
       orderly = record {
         ran = omega arith;

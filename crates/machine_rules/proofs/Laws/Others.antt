@@ -4,14 +4,12 @@ use mathlib.Core.Bool.{Bool, true, false, not}
 use mathlib.Core.List.{List, [], _∷_, _++_}
 use Prim.Native.Nat.{ℕ}
 use borrow.Author.Tests.{not-true}
-use Rattle.lists.specs.Pick.{pick}
 use Rattle.lists.specs.Tests.{every, each}
 use Rattle.lists.proofs.Laws.Pick.{by, picks, skips, both-left, both-right, both-not-right}
 use Rattle.area.specs.Area.{same}
 use Rattle.area.proofs.Laws.Same.{same-eq}
 use Rattle.sia.specs.Encode.{joined}
-use Rattle.host.specs.Empty.{noPlace}
-use Rattle.host.specs.Places.{hasId, whose, committed}
+use Rattle.host.specs.Places.{hasId, whose}
 use Rattle.host.specs.Calls.{replaced}
 use Rattle.machine_rules.proofs.Laws.Sizes.{has-same, whose-here, whose-on}
 use Rattle.host.specs.declared.Place.{Place}
@@ -39,14 +37,6 @@ whose-other id other x (p ∷ ps) no-x ne =
     ∙ by (hasId other p)
     (λ u. whose-here other p (replaced id x ps) u ∙ sym (whose-here other p ps u))
     (λ u. whose-on other p (replaced id x ps) u ∙ whose-other id other x ps no-x ne ∙ sym (whose-on other p ps u)))
-
-pub none-has : (id : List ℕ) → hasId id noPlace ≡ false
-unfolding hasId noPlace pick
-none-has id = refl
-
-pub none-bare : (z : ℕ) → committed z noPlace ≡ []
-unfolding committed noPlace pick
-none-bare z = refl
 
 pub joined-alike : (p : ℕ → Bool) (f g : ℕ → List ℕ) (l : List ℕ) → every p l ≡ true → ((n : ℕ) → p n ≡ true → f n ≡ g n) → joined f l ≡ joined g l
 unfolding joined every

@@ -12,7 +12,7 @@ use Rattle.lists.specs.Pick.{pick, both}
 use Rattle.lists.specs.Tests.{every}
 use Rattle.lists.proofs.Laws.Pick.{by, picks, skips, both-left, both-right}
 use Rattle.lists.proofs.Laws.Tab.{every-tab}
-use Rattle.lists.proofs.Laws.Every.{every-get, every-pick, every-alike}
+use Rattle.lists.proofs.Laws.Every.{every-get, every-pick, every-alike, every-none}
 use Rattle.area.specs.Area.{same}
 use Rattle.area.proofs.Laws.Same.{same-eq}
 use Rattle.tree.specs.Tree.{join}
@@ -20,8 +20,9 @@ use Rattle.tree.specs.Walk.{proofIn}
 use Rattle.sia.specs.Names.{opOf}
 use Rattle.sia.specs.Encode.{joined}
 use Rattle.host.specs.Empty.{none, noPlace}
-use Rattle.host.specs.Places.{hasId, whose, committed, taken}
+use Rattle.host.specs.Places.{hasId, whose, taken}
 use Rattle.host.specs.Facts.{Staged}
+use Rattle.host.proofs.Laws.Whose.{committed-held}
 use Rattle.machine_rules.specs.View.{Way, kept, worked, Setting, Turn, readOnlyMode, parent, freeCopies, sector, spotOf, parentSpots, committedSpots}
 use Rattle.machine_rules.specs.Roots.{sectorRoot, keptRoot, rootBy, rootOf, contractRoot, rangeProof}
 use Rattle.machine_rules.specs.Seats.{seatsOf, firstSeat}
@@ -75,10 +76,6 @@ first-agree f g key (x ∷ xs) h =
 
 -- ---- what holds of every sector in use holds of all that is seen
 
-pub every-none : (p : Spot → Bool) → every p [] ≡ true
-unfolding every
-every-none p = refl
-
 length-slots : (id : List ℕ) (ps : List Place) → Shaped ps → length (whose id ps .slots) ≡ 64
 unfolding whose noPlace
 length-slots id [] h = length-replicate {A = ℕ} 64 0
@@ -86,10 +83,6 @@ length-slots id (p ∷ ps) h =
     by (hasId id p)
     (λ e. ap (λ (x : Place). length (x .slots)) (picks (hasId id p) p (whose id ps) e) ∙ h .0)
     (λ e. ap (λ (x : Place). length (x .slots)) (skips (hasId id p) p (whose id ps) e) ∙ length-slots id ps (h .1))
-
-committed-held : (z : ℕ) (p : Place) → p .held ≡ true → committed z p ≡ take (p .size / z) (p .slots)
-unfolding committed
-committed-held z p e = picks (p .held) _ [] e
 
 module _ (z : ℕ) (s : Setting) (P : Spot → Bool) (onDisk : every (λ n. P (OnDisk n)) (taken z (s .places)) ≡ true) where
   pub all-committed : (id : List ℕ) → every P (committedSpots z (whose id (s .places))) ≡ true

@@ -22,7 +22,7 @@ use Rattle.host.specs.Order.{slotInOrder, clash}
 use Rattle.host.specs.Facts.{Staged}
 use Rattle.machine_rules.specs.Effect.{Staging, rehashed}
 use Rattle.machine_rules.specs.Sound.{right, stagedRight}
-use Rattle.machine_rules.proofs.Laws.Filling.{other-slot}
+use Rattle.area.proofs.Laws.Slots.{other-slot}
 use Rattle.machine_rules.proofs.Laws.Areas.{rehashed-length}
 use Rattle.machine_rules.proofs.Laws.Wrote.{Wrote}
 use Rattle.machine_rules.proofs.Laws.Staged.{slot-none}

@@ -13,13 +13,15 @@ use Rattle.lists.specs.Pick.{pick}
 use Rattle.lists.specs.Tests.{every, each}
 use Rattle.lists.proofs.Laws.Pick.{by, picks, skips, never, both-left, both-right, both-join, second-not, either-second}
 use Rattle.lists.proofs.Laws.Tab.{length-tab, every-tab}
-use Rattle.lists.proofs.Laws.Every.{every-at, every-get, every-fore, every-aft, every-pick, every-append}
+use Rattle.lists.proofs.Laws.Every.{every-at, every-get, every-fore, every-aft, every-pick, every-append, every-none}
+use Rattle.lists.proofs.Laws.Each.{length-each}
 use Rattle.area.specs.Area.{same}
 use Rattle.sia.specs.Encode.{joined}
 use Rattle.host.specs.Empty.{none, noPlace}
 use Rattle.host.specs.Places.{hasId, whose, committed, taken}
 use Rattle.host.specs.Order.{placeInOrder, slotInOrder}
 use Rattle.host.specs.Facts.{Staged}
+use Rattle.host.proofs.Laws.Whose.{whose-order, has-held, committed-held}
 use Rattle.machine_rules.specs.View.{Setting, readOnlyMode, parent, spotOf, parentSpots, committedSpots}
 use Rattle.machine_rules.specs.Seats.{seated, committedSeats, seats, seatsOf, firstSeat}
 use Rattle.machine_rules.specs.Plan.{Source, missing, seen, spots, contractSource, soughtSource, sectorSource, sourceOf}
@@ -55,10 +57,6 @@ whose-every p z id (q ∷ ps) h =
     (λ e. ap (λ (x : Place). every p (committed z x)) (picks (hasId id q) q (whose id ps) e) ∙ every-fore _ (committed z q) _ h)
     (λ e. ap (λ (x : Place). every p (committed z x)) (skips (hasId id q) q (whose id ps) e) ∙ whose-every p z id ps (every-aft _ (committed z q) _ h))
 
-has-held : (id : List ℕ) (p : Place) → hasId id p ≡ true → p .held ≡ true
-unfolding hasId
-has-held id p e = both-left _ _ e
-
 pub whose-nobody : (id : List ℕ) (ps : List Place) → whose id ps .held ≡ false → whose id ps .size ≡ 0
 unfolding whose noPlace
 whose-nobody id [] h = refl
@@ -67,10 +65,6 @@ whose-nobody id (p ∷ ps) h =
     (λ e. never (sym (has-held id p e) ∙ sym (ap (λ (x : Place). x .held) (picks (hasId id p) p (whose id ps) e)) ∙ h))
     (λ e. ap (λ (x : Place). x .size) (skips (hasId id p) p (whose id ps) e)
         ∙ whose-nobody id ps (sym (ap (λ (x : Place). x .held) (skips (hasId id p) p (whose id ps) e)) ∙ h))
-
-committed-held : (z : ℕ) (p : Place) → p .held ≡ true → committed z p ≡ take (p .size / z) (p .slots)
-unfolding committed
-committed-held z p e = picks (p .held) _ [] e
 
 -- ---- what holds of all committed sectors holds of the one that is found
 
@@ -84,21 +78,17 @@ unfolding seated every
 seated-every P i at [] h = refl
 seated-every P i at (x ∷ xs) h = both-join _ _ (both-left _ _ h) (seated-every P i (suc at) xs (both-right _ _ h))
 
-no-seats : (Q : Seat → Bool) → every Q [] ≡ true
-unfolding every
-no-seats Q = refl
-
 module _ (P : Spot → Bool) (z : ℕ) (mine : Place → Bool) where
   committed-every : (i : ℕ) (ps : List Place) → every (λ n. P (OnDisk n)) (taken z ps) ≡ true
       → every (λ x. P (x .spot)) (committedSeats z mine i ps) ≡ true
   unfolding committedSeats taken joined committedSpots
-  committed-every i [] h = no-seats _
+  committed-every i [] h = every-none _
   committed-every i (p ∷ ps) h =
       let l = seated i 0 (committedSpots z p) in
       let own = seated-every P i 0 (committedSpots z p) (disk-every P (committed z p) (every-fore _ (committed z p) _ h)) in
       rw (
         every-append (λ (x : Seat). P (x .spot)) (pick (mine p) [] l) (committedSeats z mine (suc i) ps),
-        every-pick (λ (x : Seat). P (x .spot)) (mine p) [] l (no-seats _) own,
+        every-pick (λ (x : Seat). P (x .spot)) (mine p) [] l (every-none _) own,
         committed-every (suc i) ps (every-aft _ (committed z p) _ h),
       ) (both-join true true refl refl)
 
@@ -199,10 +189,6 @@ module _ (z : ℕ) (s : Setting) (p : Progress) (solid : Solid z s) (f : Staged 
 
 -- ---- and there are at most 64 of them
 
-no-place-in-order : (z : ℕ) → placeInOrder z noPlace ≡ true
-unfolding placeInOrder noPlace
-no-place-in-order z = picks true true _ refl
-
 few-committed : (z : ℕ) (p : Place) → placeInOrder z p ≡ true → length (committed z p) ≤ 64
 unfolding committed placeInOrder
 few-committed z p e =
@@ -212,17 +198,7 @@ few-committed z p e =
     (λ h. omega (arith, ap length (skips (p .held) (take (p .size / z) (p .slots)) [] h)))
 
 pub few-whose : (z : ℕ) (id : List ℕ) (ps : List Place) → every (placeInOrder z) ps ≡ true → length (committed z (whose id ps)) ≤ 64
-unfolding whose every
-few-whose z id [] h = few-committed z noPlace (no-place-in-order z)
-few-whose z id (p ∷ ps) h =
-    by (hasId id p)
-    (λ e. rw (picks (hasId id p) p (whose id ps) e) (few-committed z p (both-left _ _ h)))
-    (λ e. rw (skips (hasId id p) p (whose id ps) e) (few-whose z id ps (both-right _ _ h)))
-
-pub length-each : (l : List ℕ) → length (each OnDisk l) ≡ length l
-unfolding each
-length-each [] = refl
-length-each (x ∷ xs) = ap suc (length-each xs)
+few-whose z id ps h = few-committed z (whose id ps) (whose-order z id ps h)
 
 few-sought : (r : Sought) → length (spots (soughtSource r)) ≤ 1
 unfolding soughtSource spots
@@ -243,7 +219,7 @@ few-contract z s p id h u =
     (few-pick _ [] _ (omega arith)
     (rw (pick-spots (same id (s .terms .head .contract)) (seen (parentSpots z s p)) (seen (committedSpots z (whose id (s .places)))))
     (few-pick _ _ _ (omega (arith, length-tab 0 (p .size / z) (spotOf (parent s .slots) (p .staged)), u))
-    (omega (arith, length-each (committed z (whose id (s .places))), few-whose z id (s .places) h)))))
+    (omega (arith, length-each OnDisk (committed z (whose id (s .places))), few-whose z id (s .places) h)))))
 
 pub few-spots : (z : ℕ) (s : Setting) (f : Spot → List ℕ) (p : Progress) (op : Op) (key : List ℕ) → every (placeInOrder z) (s .places) ≡ true → p .size / z ≤ 64
     → length (spots (sourceOf z s f p op key)) ≤ 64

@@ -23,7 +23,8 @@ use Rattle.machine_rules.specs.Plan.{Source, badSpan, badSpans, touched,
 use Rattle.machine_rules.specs.Effect.{Ground, Staging, newCopy, sectorAt, copied, spanRead, laid, spanWritten, resized, effect}
 use Rattle.machine_rules.proofs.Laws.Effects.{span-in, sector-below, Sized, sized, copiedMap, copied-map, written-map, copied-new}
 use Rattle.machine_rules.proofs.Laws.Effects.{copied-old, length-copied}
-use Rattle.machine_rules.proofs.Laws.Filling.{other-span, other-slot, few-part}
+use Rattle.area.proofs.Laws.Slots.{other-span, other-slot}
+use Rattle.area.proofs.Laws.Parts.{few-part}
 use Rattle.sia.specs.declared.Op.{Op}
 use Rattle.sia.specs.declared.Op.the-variants.{Read, ReadSector, Write, Copy, Swap, Truncate, Unknown}
 use Rattle.machine_rules.specs.declared.Spot.{Spot}
@@ -149,7 +150,7 @@ wrote-less z at g lt = record {
 -- ---- each instruction
 
 -- what is known of a span that passed
-span-few : (z size at n : ℕ) → badSpan z size at n ≡ false → at % z + n ≤ z
+pub span-few : (z size at n : ℕ) → badSpan z size at n ≡ false → at % z + n ≤ z
 unfolding badSpan
 span-few z size at n e = ltb-false z (at % z + n) (neither _ _ (neither _ _ e .1) .1)
 

@@ -25,7 +25,7 @@ use Rattle.machine_rules.specs.Effect.{Staging, groundOf, effect, rehashed}
 use Rattle.machine_rules.specs.Record.{pairing, runningPair, recordBytes, successBytes, outputOf}
 use Rattle.machine_rules.specs.Run.{ranProgress, succeeding}
 use Rattle.machine_rules.specs.Facts.{Solid, Good, Within, valid}
-use Rattle.machine_rules.proofs.Laws.Effects.{Passed, passed}
+use Rattle.machine_rules.proofs.Laws.Effects.{Passed, passed, few-sectors}
 use Rattle.machine_rules.proofs.Laws.Areas.{effect-bytes, rehashed-length}
 use Rattle.machine_rules.proofs.Laws.Kept.{ran-good}
 use Rattle.machine_rules.proofs.Laws.Lengths.{length-proof, read-span, asked-reads, asked-right, well-formed, count-read, count-change}
@@ -43,7 +43,6 @@ use Rattle.machine_effect.proofs.Laws.Passed.{stands-with, effect-with}
 use Rattle.machine_inputs.specs.Given.{placed, fromOf, argsGiven, bytesGiven}
 use Rattle.machine_plan.specs.Planned.{Said, said, failed, runs, planOf}
 use Rattle.machine_inputs.proofs.Laws.Given.{given-args}
-use Rattle.machine_plan.proofs.Laws.Planned.{size-few}
 use Rattle.machine_step.specs.Shown.{shownProof, shownBytes, Shows}
 use Rattle.machine_step.specs.Ran.{stageAfter, progressAfter, rootsAfter, recordAfter, ran}
 use Rattle.machine_step.specs.Asks.{Reads, Steps, Runs}
@@ -218,12 +217,12 @@ module _ (z : ℕ) (s : Setting) (t : Turn) (input : List ℕ) (i : Instruction)
 
     few-read : length (spots from) ≤ 64
     unfolding from
-    few-read = few-spots z s (rootAt z s t) (t .progress) op (a .key) (x .solid .small) (size-few z s (t .progress) (x .solid .lent) (x .good))
+    few-read = few-spots z s (rootAt z s t) (t .progress) op (a .key) (x .solid .small) (few-sectors z s (t .progress) (x .solid .lent) (x .good))
 
     read-valid : every (valid s) (spots from) ≡ true
     unfolding from
     read-valid =
-        let few = size-few z s (t .progress) (x .solid .lent) (x .good) in
+        let few = few-sectors z s (t .progress) (x .solid .lent) (x .good) in
         source-valid z s (t .progress) (x .solid) (x .good .orderly .staged) (omega (arith, x .good .entries, few)) (rootAt z s t) op (a .key)
 
     seen-lies : Lies z (s .disk) (after .bytes) (r .seen)

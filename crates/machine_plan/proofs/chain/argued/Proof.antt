@@ -19,7 +19,8 @@ use Rattle.machine_plan.specs.Source.{Shows}
 use Rattle.machine_plan.specs.Weighed.{weighed}
 use Rattle.machine_plan.specs.Planned.{failed, argued}
 use Rattle.machine_plan.specs.declared.Weighed.{Weighed}
-use Rattle.machine_plan.proofs.Laws.Planned.{source-same, size-few, length-most, room-most}
+use Rattle.machine_plan.proofs.Laws.Planned.{source-same, length-most, room-most}
+use Rattle.machine_rules.proofs.Laws.Effects.{few-sectors}
 use Rattle.machine_plan.proofs.Laws.Alike.{weighed-at}
 use Rattle.machine_plan.proofs.Laws.Lookup.{shows-as}
 use borrow.Author.Needs.{needs}
@@ -98,7 +99,7 @@ weighed-requires c κs =
     let plans = s .pre .0 in
     let good = s .pre .1 in
     let few = few-spots (s .args .z) (the-set s) (the-roots s) (s .args .p) (s .args .op) (s .args .args .key) (plans .sources .seeks .stand .order)
-    (size-few (s .args .z) (the-set s) (s .args .p) (plans .lent) good) in
+    (few-sectors (s .args .z) (the-set s) (s .args .p) (plans .lent) good) in
     let many = sym (ap (λ (l : List Spot). length l) (shown at-source-of .sectors)) ∙ seen-count (at-source-of .source-of .result .seen) in (
       plans .lent .size,
       (
