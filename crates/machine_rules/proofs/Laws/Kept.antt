@@ -1,25 +1,24 @@
 -- An instruction and a run keep the progress of a program in order. Assumes nothing.
 use mathlib.Core.Path.{_≡_, refl, sym, ap, _∙_, subst}
-use mathlib.Core.Bool.{Bool, true, false}
+use mathlib.Core.Bool.{true, false}
 use mathlib.Core.List.{List}
 use Prim.Native.Nat.{ℕ, zero, suc, _<_}
 use native.Mathlib.Omega.{arith}
 use lib.ListN.{length}
 use lib.Dec.{eqb}
-use borrow.Author.Tests.{leb-true, eqb-true, le-leb, eq-eqb}
+use borrow.Author.Tests.{eqb-true}
 use Rattle.lists.specs.Pick.{pick}
 use Rattle.lists.proofs.Laws.Pick.{by, picks, skips, both-left, both-right, both-join, not-both}
 use Rattle.sia.specs.Names.{opOf}
 use Rattle.area.proofs.Laws.Slots as Slots
 use Rattle.host.specs.Places.{whose}
-use Rattle.host.specs.Order.{parentInOrder, termsInOrder, progressInOrder}
-use Rattle.host.proofs.Laws.Order.{staged-facts, facts-staged}
+use Rattle.host.specs.Order.{parentInOrder, termsInOrder}
 use Rattle.machine_rules.specs.View.{Setting, Turn, readOnlyMode}
 use Rattle.machine_rules.specs.Inputs.{Args, argsOf, inputsOf}
 use Rattle.machine_rules.specs.Plan.{changes, cost, newSize, judged}
 use Rattle.machine_rules.specs.Effect.{groundOf, effect}
 use Rattle.machine_rules.specs.Run.{failedProgress, failing, ranProgress, succeeding, stepped, current, step, going, ready, runs}
-use Rattle.machine_rules.specs.Facts.{Good, InOrder, Lent, startOf}
+use Rattle.machine_rules.specs.Facts.{Good, Lent, startOf}
 use Rattle.machine_rules.proofs.Laws.Steps.{not-failed, left-going, ready-going, runs-go, runs-stop}
 use Rattle.machine_rules.proofs.Laws.Effects.{Passed, passed, effect-kept, effect-length, size-whole, size-read, few-sectors}
 use Rattle.sia.specs.declared.Op.{Op}
@@ -31,31 +30,6 @@ use Rattle.machine_rules.specs.declared.Spot.{Spot}
 use Rattle.machine_rules.specs.Roots.{rootAt}
 
 -- ---- progress
-
-abbrev pub inProgress : ℕ → Setting → Progress → Bool
-inProgress z s p = progressInOrder z (s .sectors) (s .copies) (s .places) (s .terms) p
-
-pub progress-facts : (z : ℕ) (s : Setting) (p : Progress) → inProgress z s p ≡ true → InOrder z s p
-unfolding progressInOrder
-progress-facts z s p h =
-    let b = both-right _ _ h in
-    let c = both-right _ _ b in
-    let d = both-right _ _ c in
-    let e = both-right _ _ d in
-    record {
-      ran = leb-true _ _ (both-left _ _ h);
-      paid = leb-true _ _ (both-left _ _ b);
-      fits = leb-true _ _ (both-left _ _ c);
-      whole = eqb-true _ _ (both-left _ _ d);
-      within = leb-true _ _ (both-left _ _ e);
-      staged = staged-facts _ _ _ _ (both-right _ _ e);
-    }
-
-pub facts-progress : (z : ℕ) (s : Setting) (p : Progress) → InOrder z s p → inProgress z s p ≡ true
-unfolding progressInOrder
-facts-progress z s p o =
-    both-join _ _ (le-leb _ _ (o .ran)) (both-join _ _ (le-leb _ _ (o .paid)) (both-join _ _ (le-leb _ _ (o .fits))
-    (both-join _ _ (eq-eqb _ _ (o .whole)) (both-join _ _ (le-leb _ _ (o .within)) (facts-staged _ _ _ _ (o .staged))))))
 
 terms-size : (ps : List Place) (t : Terms) (m n : ℕ) → (readOnlyMode t ≡ true → n ≡ m) → termsInOrder ps t m ≡ true → termsInOrder ps t n ≡ true
 unfolding termsInOrder parentInOrder readOnlyMode

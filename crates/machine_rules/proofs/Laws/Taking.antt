@@ -13,14 +13,14 @@ use Rattle.area.specs.Area.{put, zeros}
 use Rattle.area.proofs.Laws.Puts.{length-put}
 use Rattle.host.specs.With.{withProgram, withCame, withProgress, withStageRoots}
 use Rattle.host.specs.Order.{programInOrder, inOrder}
-use Rattle.host.proofs.Laws.Order.{order-facts}
+use Rattle.host.proofs.Laws.Order.{order-facts, progress-facts, facts-progress}
 use Rattle.machine_rules.specs.View.{settingBy, settingOf, turnOf, withRun, diskRight, areasRight}
 use Rattle.machine_rules.specs.Run.{run}
 use Rattle.machine_rules.specs.Calls.{Pieced, accepted, inputRight, outputRight, piece, acceptedBy, pieceBy}
 use Rattle.machine_rules.specs.Trace.{together, AllAccepted}
 use Rattle.machine_rules.specs.Facts.{Good, Lent, Solid}
 use Rattle.machine_rules.proofs.Laws.Areas.{runs-alike}
-use Rattle.machine_rules.proofs.Laws.Kept.{progress-facts, facts-progress, runs-good}
+use Rattle.machine_rules.proofs.Laws.Kept.{runs-good}
 use Rattle.host.specs.declared.Progress.{Progress}
 use Rattle.host.specs.declared.Host.{Host}
 
@@ -74,7 +74,7 @@ pub order-good : (h : Host) (disk : List ℕ) → inOrder h ≡ true → h .prog
 unfolding settingBy programInOrder
 order-good h disk e live len =
     let q = order-program h e live in
-    record { orderly = progress-facts (h .sector) (settingOf h disk) (h .program .progress) (both-right _ _ (both-right _ _ q));
+    record { orderly = progress-facts (h .sector) _ _ _ _ (h .program .progress) (both-right _ _ (both-right _ _ q));
         terms = both-left _ _ q; entries = len }
 
 pub good-order : (h : Host) (disk : List ℕ) (k : ℕ) (p : Progress) (roots : List ℕ) → inOrder h ≡ true → k ≤ h .program .terms .head .length
@@ -84,7 +84,7 @@ good-order h disk k p roots e le g =
     let b = both-right _ _ e in
     let c = both-right _ _ b in
     both-join _ _ (both-left _ _ e) (both-join _ _ (both-left _ _ b) (both-join _ _ (both-left _ _ c) (both-join _ _ (both-left _ _ (both-right _ _ c))
-    (or-right _ _ (both-join _ _ (g .terms) (both-join _ _ (le-leb _ _ le) (facts-progress (h .sector) (settingOf h disk) p (g .orderly))))))))
+    (or-right _ _ (both-join _ _ (g .terms) (both-join _ _ (le-leb _ _ le) (facts-progress (h .sector) _ _ _ _ p (g .orderly))))))))
 
 areas-again : (h : Host) (disk stage new : List ℕ) (k : ℕ) (p : Progress) (roots : List ℕ) → length new ≡ length stage → areasRight h disk stage ≡ true
     → areasRight (withRun h k p roots) disk new ≡ true
