@@ -4,7 +4,7 @@ use mathlib.Core.List.{List, [], _∷_}
 use Prim.Native.Nat.{ℕ, zero, suc}
 use lib.ListN.{take, drop, replicate}
 use lib.Dec.{eqb}
-use Rattle.area.specs.Pick.{both}
+use Rattle.lists.specs.Pick.{both}
 
 -- the n bytes of a from `at` on; fewer where a ends before
 unfoldable pub part : List ℕ → ℕ → ℕ → List ℕ
@@ -30,8 +30,3 @@ same (x ∷ xs) (y ∷ ys) = both (eqb x y) (same xs ys)
 
 abbrev pub zeros : ℕ → List ℕ
 zeros n = replicate n 0
-
--- f i, f (i + 1), … n of them
-unfoldable pub tab : {A : Type 0} → ℕ → ℕ → (ℕ → A) → List A
-tab i zero f = []
-tab i (suc n) f = f i ∷ tab (suc i) n f

@@ -6,10 +6,10 @@ use mathlib.Core.List.{List, [], _++_}
 use Prim.Native.Nat.{ℕ, _+_, _≤_}
 use native.Mathlib.Omega.{arith}
 use lib.ListN.{length}
-use Rattle.area.specs.Pick.{pick}
+use Rattle.lists.specs.Pick.{pick}
+use Rattle.lists.proofs.Laws.Pick.{by, picks, skips}
+use Rattle.lists.proofs.Laws.Ways.{either-way}
 use Rattle.area.specs.Little.{Bytes}
-use Rattle.area.proofs.Laws.Pick.{by, picks, skips}
-use Rattle.machine_rules.proofs.Laws.Ways.{either-way}
 use Rattle.host.specs.Calls.{freshed}
 use Rattle.sia.specs.Decode.{decode}
 use Rattle.bench_program.specs.Single.{Ran, ran, idsIn, formedInTurn, run}

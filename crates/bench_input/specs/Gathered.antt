@@ -5,7 +5,7 @@ use mathlib.Core.List.{List}
 use Prim.Native.Nat.{ℕ, _≤_}
 use lib.ListN.{length, take}
 use lib.Dec.{ltb}
-use Rattle.area.specs.Pick.{both, either}
+use Rattle.lists.specs.Pick.{both, either}
 use Rattle.area.specs.Little.{Bytes}
 use Rattle.bench_input.specs.Reader.{State, fed, full}
 use Rattle.bench_input.specs.Kept.{keep}

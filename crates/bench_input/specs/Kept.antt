@@ -6,7 +6,7 @@ use mathlib.Core.List.{List, [], _++_}
 use Prim.Native.Nat.{ℕ, _+_, _*_, _≤_, min}
 use lib.ListN.{length, take}
 use lib.Dec.{ltb}
-use Rattle.area.specs.Pick.{pick, either}
+use Rattle.lists.specs.Pick.{pick, either}
 use Rattle.area.specs.Area.{part}
 use Rattle.area.specs.Little.{le8, Bytes}
 use Rattle.bench_program.specs.Input.{numberAt, idsEnd, dataBytes, cutShort, answered}

@@ -5,10 +5,11 @@ use mathlib.Core.List.{List}
 use Prim.Native.Nat.{ℕ, _+_, _*_}
 use lib.ListN.{length, drop}
 use lib.Dec.{leb, ltb, eqb}
-use Rattle.area.specs.Pick.{pick, either}
-use Rattle.area.specs.Area.{part, tab}
+use Rattle.lists.specs.Pick.{pick, either}
+use Rattle.lists.specs.Tests.{every}
+use Rattle.lists.specs.Tab.{tab}
+use Rattle.area.specs.Area.{part}
 use Rattle.area.specs.Little.{valueOf}
-use Rattle.sia.specs.Encode.{every}
 use Rattle.host.specs.Calls.{freshed}
 use Rattle.host.specs.declared.Prices.{Prices}
 use Rattle.bench_program.specs.Single.{Ran, ran, run}

@@ -5,8 +5,9 @@ use mathlib.Core.List.{List, [], _∷_, _++_}
 use Prim.Native.Nat.{ℕ, _*_, _/_}
 use lib.ListN.{length, take, drop}
 use lib.Dec.{eqb}
-use Rattle.area.specs.Pick.{pick}
-use Rattle.area.specs.Area.{part, tab}
+use Rattle.lists.specs.Pick.{pick}
+use Rattle.lists.specs.Tab.{tab}
+use Rattle.area.specs.Area.{part}
 use Rattle.area.specs.Little.{le8}
 use Rattle.host.specs.Calls.{answered, freshed, formed}
 use Rattle.machine_rules.specs.Calls.{opened, piece, reached}

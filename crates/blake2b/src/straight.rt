@@ -3,7 +3,7 @@
 ghost use mathlib.Core.Path.{_≡_};
 ghost use lib.ListN.{length, take};
 ghost use lib.Dec.{eqb};
-ghost use Rattle.area.specs.Pick.{both};
+ghost use Rattle.lists.specs.Pick.{both};
 ghost use Rattle.blake2b.specs.Compression.{words};
 ghost use Rattle.blake2b.specs.Blake2b as RFC;
 use crate::compression::folded;

@@ -5,11 +5,11 @@ use mathlib.Core.List.{List}
 use Prim.Native.Nat.{ℕ}
 use lib.ListN.{length}
 use borrow.Author.Tests.{eq-eqb, ne-eqb}
+use Rattle.lists.proofs.Laws.Pick.{yes, no}
 use Rattle.area.specs.Area.{put}
 use Rattle.area.specs.Little.{le8}
 use Rattle.area.proofs.Laws.Little.{length-bytes}
 use Rattle.area.proofs.Laws.Puts.{put-all}
-use Rattle.area.proofs.Laws.Pick.{yes, no}
 use Rattle.host.specs.declared.Prices.{Prices}
 use Rattle.bench_program.specs.Single.{leaves, run}
 use Rattle.bench_program.specs.declared.Outcome.{Outcome}

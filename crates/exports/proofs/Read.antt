@@ -5,10 +5,10 @@ use mathlib.Core.List.{List}
 use Prim.Native.Nat.{ℕ}
 use lib.ListN.{length}
 use borrow.Author.Tests.{eq-eqb, ne-eqb}
+use Rattle.lists.proofs.Laws.Pick.{yes, no, both-join, both-not-left, both-not-right}
 use Rattle.area.specs.Area.{put, part}
 use Rattle.area.proofs.Laws.Parts.{part-whole}
 use Rattle.area.proofs.Laws.Puts.{put-all}
-use Rattle.area.proofs.Laws.Pick.{yes, no, both-join, both-not-left, both-not-right}
 use Rattle.tree.specs.Tree.{root}
 use Rattle.tree.specs.Answers.{rootGiven, rooted, wholes}
 use Rattle.tree.specs.declared.Answer.{Answer}

@@ -3,7 +3,7 @@ use mathlib.Core.List.{List}
 use Prim.Native.Nat.{ℕ}
 use lib.ListN.{length}
 use lib.Dec.{eqb}
-use Rattle.area.specs.Pick.{pick, both}
+use Rattle.lists.specs.Pick.{pick, both}
 use Rattle.blake2b.specs.Answers.{Left}
 use Rattle.tree.specs.Tree.{root}
 use Rattle.tree.specs.Answers.{wholes}

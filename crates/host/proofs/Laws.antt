@@ -1,10 +1,9 @@
 -- The laws, a file for each subject.
-pub mod Slices
 pub mod Places
+pub mod Whose
 pub mod Slots
 pub mod Sizes
 pub mod Sums
 pub mod Order
 pub mod Forming
 pub mod Lengths
-pub mod Ways

@@ -8,16 +8,16 @@ use lib.ListN.{length, drop, getD, length-drop}
 use lib.Seq.{getD-drop}
 use lib.Dec.{eqb}
 use borrow.Author.Tests.{not-false, eqb-true, eq-eqb}
-use Rattle.area.specs.Pick.{pick}
+use Rattle.lists.specs.Pick.{pick}
+use Rattle.lists.specs.Tests.{every}
+use Rattle.lists.proofs.Laws.Pick.{by, picks, skips, never, both-left, both-right, both-join}
+use Rattle.lists.proofs.Laws.Ways.{either-way}
 use Rattle.area.specs.Area.{same}
-use Rattle.area.proofs.Laws.Pick.{by, picks, skips, never, both-left, both-right, both-join}
 use Rattle.area.proofs.Laws.Same.{same-eq}
 use Rattle.sia.specs.Names.{readOnly}
-use Rattle.sia.specs.Encode.{every}
 use Rattle.host.specs.Order.{inOrder}
 use Rattle.host.specs.Calls.{padded, formed}
 use Rattle.host.specs.Padded.{Padding, Fifteen}
-use Rattle.host.proofs.Laws.Ways.{either-way}
 use Rattle.host.specs.declared.Host.{Host}
 use Rattle.host.specs.declared.Made.{Made}
 

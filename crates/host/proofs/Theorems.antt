@@ -3,12 +3,12 @@ use mathlib.Core.Path.{_≡_, refl, ap}
 use mathlib.Core.Bool.{true, false, not}
 use mathlib.Core.List.{List, [], _∷_}
 use Prim.Native.Nat.{ℕ}
-use Rattle.area.specs.Pick.{pick}
+use Rattle.lists.specs.Pick.{pick}
+use Rattle.lists.specs.Tests.{every, some, those, apart}
+use Rattle.lists.proofs.Laws.Pick.{picks, both-join, both-right}
 use Rattle.area.specs.Area.{same}
-use Rattle.area.proofs.Laws.Pick.{picks, both-join, both-right}
 use Rattle.area.proofs.Laws.Same.{same-eq, eq-same}
-use Rattle.sia.specs.Encode.{every, joined}
-use Rattle.host.specs.Lists.{some, those, apart}
+use Rattle.sia.specs.Encode.{joined}
 use Rattle.host.specs.Sizes.{doubled, isSize}
 use Rattle.host.specs.Empty.{noPlace, noProgress, noPrices, noTerms, noProgram, newPlace, bare}
 use Rattle.host.specs.With.{withPlaces}

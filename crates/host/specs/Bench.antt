@@ -2,8 +2,8 @@
 use mathlib.Core.List.{List, [], _∷_, _++_}
 use Prim.Native.Nat.{ℕ}
 use lib.ListN.{length}
+use Rattle.lists.specs.Tests.{those}
 use Rattle.area.specs.Area.{zeros}
-use Rattle.host.specs.Lists.{those}
 use Rattle.host.specs.Calls.{freshed, formed}
 use Rattle.host.specs.declared.Host.{Host}
 

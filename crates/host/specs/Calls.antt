@@ -5,11 +5,10 @@ use mathlib.Core.List.{List, [], _∷_}
 use Prim.Native.Nat.{ℕ, _/_, _%_}
 use lib.ListN.{drop}
 use lib.Dec.{eqb}
-use Rattle.area.specs.Pick.{pick, both}
+use Rattle.lists.specs.Pick.{pick, both}
+use Rattle.lists.specs.Tests.{every, some, each}
 use Rattle.area.specs.Area.{same}
 use Rattle.sia.specs.Names.{readOnly}
-use Rattle.sia.specs.Encode.{every}
-use Rattle.host.specs.Lists.{some, each}
 use Rattle.host.specs.Sizes.{isSize}
 use Rattle.host.specs.Empty.{noPlace, newPlace, bare}
 use Rattle.host.specs.With.{withPlaces}

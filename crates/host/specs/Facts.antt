@@ -5,10 +5,10 @@ use mathlib.Core.List.{List}
 use Prim.Native.Nat.{ℕ, _+_, _*_, _/_, _%_, _≤_}
 use lib.ListN.{take, drop}
 use lib.Dec.{ltb, eqb}
-use Rattle.area.specs.Pick.{pick}
+use Rattle.lists.specs.Pick.{pick}
+use Rattle.lists.specs.Tests.{every, apart}
 use Rattle.area.specs.Slots.{Size}
-use Rattle.sia.specs.Encode.{every, within}
-use Rattle.host.specs.Lists.{apart}
+use Rattle.sia.specs.Encode.{within}
 use Rattle.host.specs.Empty.{none}
 use Rattle.host.specs.Places.{whose, others, taken}
 use Rattle.host.specs.Order.{placeInOrder, twins, slotInOrder, clash, parentInOrder}

@@ -1,5 +1,4 @@
 -- What the record of a host means: its empty values, its contracts and slots, when it is in order, and the calls fresh, form and drop.
-pub mod Lists
 pub mod Sizes
 pub mod Empty
 pub mod With

@@ -4,11 +4,11 @@ use mathlib.Core.List.{List}
 use Prim.Native.Nat.{ℕ, _+_, _*_, _/_, _%_}
 use lib.ListN.{take, drop}
 use lib.Dec.{leb, ltb, eqb}
-use Rattle.area.specs.Pick.{pick, both, either}
+use Rattle.lists.specs.Pick.{pick, both, either}
+use Rattle.lists.specs.Tests.{every, apart}
 use Rattle.area.specs.Area.{same}
 use Rattle.sia.specs.Names.{readOnly}
-use Rattle.sia.specs.Encode.{every, within}
-use Rattle.host.specs.Lists.{apart}
+use Rattle.sia.specs.Encode.{within}
 use Rattle.host.specs.Sizes.{isSize}
 use Rattle.host.specs.Empty.{none}
 use Rattle.host.specs.Places.{whose, others, taken}

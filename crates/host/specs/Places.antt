@@ -3,11 +3,11 @@ use mathlib.Core.Bool.{Bool, not}
 use mathlib.Core.List.{List, [], _∷_}
 use Prim.Native.Nat.{ℕ, _/_}
 use lib.ListN.{take}
-use Rattle.area.specs.Pick.{pick, both}
+use Rattle.lists.specs.Pick.{pick, both}
+use Rattle.lists.specs.Tests.{each, sum, unused}
+use Rattle.lists.specs.Lowest.{lowest}
 use Rattle.area.specs.Area.{same}
-use Rattle.area.specs.Lowest.{lowest}
 use Rattle.sia.specs.Encode.{joined}
-use Rattle.host.specs.Lists.{each, sum, unused}
 use Rattle.host.specs.Empty.{noPlace}
 use Rattle.host.specs.declared.Place.{Place}
 

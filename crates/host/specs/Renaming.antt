@@ -3,10 +3,10 @@ use mathlib.Core.Path.{_≡_}
 use mathlib.Core.List.{List}
 use Prim.Native.Nat.{ℕ}
 use lib.ListN.{length}
-use Rattle.area.specs.Pick.{pick}
+use Rattle.lists.specs.Pick.{pick}
+use Rattle.lists.specs.Tests.{each}
 use Rattle.area.specs.Area.{same}
 use Rattle.sia.specs.Names.{readOnly}
-use Rattle.host.specs.Lists.{each}
 use Rattle.host.specs.declared.Place.{Place}
 use Rattle.host.specs.declared.Terms.{Terms}
 use Rattle.host.specs.declared.Program.{Program}

@@ -2,7 +2,7 @@
 use mathlib.Core.Bool.{Bool, false}
 use Prim.Native.Nat.{ℕ, zero, suc, _*_, _^_}
 use lib.Dec.{eqb}
-use Rattle.area.specs.Pick.{either}
+use Rattle.lists.specs.Pick.{either}
 
 -- 4,096 doubled fewer than n times
 unfoldable pub doubled : ℕ → ℕ → Bool

@@ -4,8 +4,8 @@ use crate::Place;
 ghost use mathlib.Core.Path.{_≡_};
 ghost use Prim.Native.Nat.{_+_};
 ghost use lib.Dec.{leb};
-ghost use Rattle.area.specs.Pick.{pick};
-ghost use Rattle.host.specs.Lists.{firstOf};
+ghost use Rattle.lists.specs.Pick.{pick};
+ghost use Rattle.lists.specs.Tests.{firstOf};
 ghost use Rattle.host.specs.Places.{hasId, whose, ownSize, others};
 ghost use Rattle.host.specs.Calls.{replaced};
 

@@ -7,8 +7,7 @@ ghost use Prim.Native.Nat.{_+_, _/_, _≤_, _<_, min};
 ghost use lib.ListN.{length, take};
 ghost use lib.Seq.{slice};
 ghost use lib.Dec.{ltb, eqb};
-ghost use Rattle.sia.specs.Encode.{every};
-ghost use Rattle.host.specs.Lists.{some, apart};
+ghost use Rattle.lists.specs.Tests.{every, some, apart};
 ghost use Rattle.host.specs.Places.{committed, taken, freeCopy};
 ghost use Rattle.host.specs.Listed.{listed};
 

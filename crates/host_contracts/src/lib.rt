@@ -3,7 +3,7 @@
 ghost use mathlib.Core.Path.{_≡_};
 ghost use mathlib.Core.Bool.{not};
 ghost use Prim.Native.Nat.{_<_};
-ghost use Rattle.host.specs.Lists.{some};
+ghost use Rattle.lists.specs.Tests.{some};
 ghost use Rattle.host.specs.Empty.{newPlace, bare};
 ghost use Rattle.host.specs.Calls.{answered, lengthRight, freshed, padded, formedAt, formed, dropped};
 use host::Made;

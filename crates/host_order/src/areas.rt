@@ -4,7 +4,7 @@ ghost use mathlib.Core.Bool.{not};
 ghost use Prim.Native.Nat.{_*_, _≤_};
 ghost use lib.ListN.{length};
 ghost use lib.Dec.{eqb};
-ghost use Rattle.area.specs.Pick.{both};
+ghost use Rattle.lists.specs.Pick.{both};
 ghost use Rattle.area.specs.Slots.{Size};
 
 // Whether an area is so many sectors of z bytes.

@@ -5,8 +5,7 @@ ghost use mathlib.Core.Bool.{not};
 ghost use Prim.Native.Nat.{_/_, _≤_, _<_};
 ghost use lib.Seq.{slice};
 ghost use lib.Dec.{eqb};
-ghost use Rattle.sia.specs.Encode.{every};
-ghost use Rattle.host.specs.Lists.{some, apart};
+ghost use Rattle.lists.specs.Tests.{every, some, apart};
 ghost use Rattle.host.specs.Empty.{none};
 ghost use Rattle.host.specs.Order.{slotInOrder, clash, stagedInOrder};
 

@@ -3,19 +3,20 @@
 use mathlib.Core.Path.{_≡_, refl, sym, ap, _∙_}
 use mathlib.Core.Bool.{true, false}
 use mathlib.Core.List.{List, [], _∷_, _++_}
-use Prim.Native.Nat.{ℕ, zero, suc, _+_, _-_, _*_, _/_, _≤_, _<_}
+use Prim.Native.Nat.{ℕ, zero, suc, _-_, _*_, _/_, _≤_, _<_}
 use native.Mathlib.Nat.{zero-div, mul-le-mul-right, div-le-of-le-mul}
 use native.Mathlib.Omega.{arith}
 use lib.ListN.{length, getD}
 use lib.IntN.{ℤ, pos, _-ℤ_}
 use lib.Dec.{ltb, eqb}
 use borrow.Author.Tests.{ltb-true, eqb-true}
-use Rattle.area.specs.Pick.{pick}
+use Rattle.lists.specs.Pick.{pick}
+use Rattle.lists.specs.Tests.{every}
+use Rattle.lists.proofs.Laws.Pick.{by, picks, skips, never, both-left, both-right}
+use Rattle.lists.proofs.Laws.Every.{every-fore, every-aft, every-at, every-get}
 use Rattle.area.specs.Area.{same, part, put, zeros}
-use Rattle.area.proofs.Laws.Pick.{by, picks, skips, never, both-left, both-right}
-use Rattle.area.proofs.Laws.Slots.{slot-ends}
+use Rattle.area.proofs.Laws.Slots.{slot-within}
 use Rattle.sia.specs.Names.{readOnly}
-use Rattle.sia.specs.Encode.{every}
 use Rattle.host.specs.Empty.{none, noPlace, noProgram}
 use Rattle.host.specs.With.{withPlaces, withProgram, withDiskRoots, withSize, withSlots}
 use Rattle.host.specs.Places.{hasId, whose, taken}
@@ -27,10 +28,9 @@ use Rattle.machine_rules.specs.Commit.{Closed, closed, finalSlots, copiedBack, 
 use Rattle.machine_rules.specs.Visit.{Declared}
 use Rattle.machine_rules.proofs.Committing.{final, order-places, order-some, place-twins}
 use Rattle.machine_rules.proofs.Laws.Effects.{whole-sectors}
-use Rattle.machine_rules.proofs.Laws.Sizes.{place-size, whose-whole, whose-here, whose-on, has-held}
-use Rattle.machine_rules.proofs.Laws.Slots.{every-fore, every-aft}
+use Rattle.machine_rules.proofs.Laws.Sizes.{place-size, whose-whole, whose-here, whose-on}
+use Rattle.host.proofs.Laws.Whose.{has-held}
 use Rattle.machine_rules.proofs.Laws.Split.{split}
-use Rattle.machine_rules.proofs.Laws.Spots.{every-at, every-get}
 use Rattle.machine_rules.proofs.Laws.Taking.{order-good, order-solid, areas-stage}
 use Rattle.host.specs.declared.Place.{Place}
 use Rattle.host.specs.declared.Host.{Host}
@@ -81,10 +81,6 @@ whose-small z id (p ∷ ps) some h =
     by (hasId id p)
     (λ e. omega (arith, ap (λ (q : Place). q .size / z) (whose-here id p ps e), place-size z p (both-left _ _ h) (has-held id p e) .1))
     (λ e. omega (arith, ap (λ (q : Place). q .size / z) (whose-on id p ps e), whose-small z id ps some (both-right _ _ h)))
-
--- slot n lies within an area that has m slots of z bytes
-within : (z n m : ℕ) (a : List ℕ) → n < m → m * z ≤ length a → n * z + z ≤ length a
-within z n m a lt e = omega (arith, slot-ends z n m lt)
 
 -- ---- a host in order with an open program
 
@@ -170,8 +166,8 @@ module _ (disk : List ℕ) (h : Host) (stage : List ℕ) (sound : Declared h) (o
       record {
         few = few-sectors;
         each = λ j lt. record {
-          source = λ u. within y (getD staged j none) (h .stage) from (staged-below j u) long;
-          target = λ u. within y (getD slots j 0) (h .disk) to
+          source = λ u. slot-within y (getD staged j none) (h .stage) from (staged-below j u) long;
+          target = λ u. slot-within y (getD slots j 0) (h .disk) to
               (omega (arith, final-below j lt, ap (λ (x : List ℕ). getD x j 0) is ∙ slot-filled l j)) wide;
         };
       }

@@ -4,8 +4,8 @@ use mathlib.Core.Bool.{true}
 use mathlib.Core.List.{List}
 use Prim.Native.Nat.{ℕ, _*_, _≤_}
 use lib.ListN.{length}
+use Rattle.lists.specs.Tests.{every}
 use Rattle.area.specs.Slots.{Size}
-use Rattle.sia.specs.Encode.{every}
 use Rattle.host.specs.Order.{slotInOrder}
 
 -- an area has so many sectors, of a size that there is, with a root kept beside each, and the slot of each position is one of them, or none

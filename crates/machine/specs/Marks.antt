@@ -4,10 +4,11 @@ use mathlib.Core.List.{List, [], _∷_, _++_}
 use Prim.Native.Nat.{ℕ, zero, suc, _-_}
 use lib.ListN.{length, getD, set}
 use lib.Dec.{eqb}
-use Rattle.area.specs.Pick.{pick}
-use Rattle.area.specs.Area.{zeros, tab}
-use Rattle.area.specs.Lowest.{lowest}
-use Rattle.host.specs.Lists.{some}
+use Rattle.lists.specs.Pick.{pick}
+use Rattle.lists.specs.Tests.{some}
+use Rattle.lists.specs.Lowest.{lowest}
+use Rattle.lists.specs.Tab.{tab}
+use Rattle.area.specs.Area.{zeros}
 
 -- the mark of slot n where the slots of a list are used
 unfoldable pub flag : List ℕ → ℕ → ℕ

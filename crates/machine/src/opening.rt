@@ -1,7 +1,7 @@
 // Opening a program. What it answers and leaves is crate rules' definition of it.
 ghost use mathlib.Core.Path.{_≡_};
 ghost use mathlib.Core.Bool.{not};
-ghost use Rattle.area.specs.Pick.{both};
+ghost use Rattle.lists.specs.Pick.{both};
 ghost use Rattle.area.specs.Area.{same};
 ghost use Rattle.sia.specs.Names.{readOnly};
 ghost use Rattle.host.specs.Empty as Empty;

@@ -4,7 +4,7 @@ ghost use mathlib.Core.Bool.{not};
 ghost use Prim.Native.Nat.{_+_, _≤_};
 ghost use lib.ListN.{length};
 ghost use lib.Dec.{ltb, eqb};
-ghost use Rattle.area.specs.Pick.{both};
+ghost use Rattle.lists.specs.Pick.{both};
 ghost use Rattle.machine_rules.specs.Calls as Says;
 ghost use Rattle.machine_rules.specs.Calls.{accepted};
 ghost use Rattle.machine.specs.Asks.{Takes, pieceLeaves};

@@ -5,7 +5,7 @@ ghost use mathlib.Core.Bool.{true};
 ghost use mathlib.Core.List.{[], _∷_};
 ghost use Prim.Native.Nat.{_≤_};
 ghost use lib.Dec.{eqb};
-ghost use Rattle.area.specs.Pick.{either};
+ghost use Rattle.lists.specs.Pick.{either};
 ghost use Rattle.area.specs.Slots.{Size};
 ghost use Rattle.host.specs.Empty.{none};
 ghost use Rattle.host.specs.Listed.{listed};

@@ -8,8 +8,9 @@ use native.Mathlib.Omega.{arith}
 use lib.ListN.{length, getD, length-replicate}
 use lib.Dec.{ltb, eqb}
 use borrow.Author.Tests.{ltb-true, lt-ltb}
+use Rattle.lists.proofs.Laws.Pick.{by, picks, skips, either-second}
+use Rattle.lists.proofs.Laws.Every.{every-at}
 use Rattle.area.specs.Area.{part, zeros}
-use Rattle.area.proofs.Laws.Pick.{by, picks, skips}
 use Rattle.area.proofs.Laws.Puts.{length-put}
 use Rattle.host.specs.Empty.{none}
 use Rattle.host.specs.Order.{slotInOrder}
@@ -17,7 +18,6 @@ use Rattle.machine_rules.specs.declared.Args.{Args}
 use Rattle.machine_rules.specs.Plan.{touched}
 use Rattle.machine_rules.specs.Effect.{Ground, Staging, newCopy, copied, laid, spanWritten, resized, effect, rehashed}
 use Rattle.machine_rules.proofs.Laws.Staged.{slot-none}
-use Rattle.machine_rules.proofs.Laws.Spots.{every-at, either-second}
 use Rattle.machine_rules.proofs.Laws.Effects.{written-map, length-copied}
 use Rattle.sia.specs.declared.Op.{Op}
 use Rattle.sia.specs.declared.Op.the-variants.{Read, ReadSector, Write, Copy, Swap, Truncate, Unknown}

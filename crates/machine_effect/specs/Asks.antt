@@ -4,9 +4,8 @@ use mathlib.Core.Bool.{Bool, true}
 use Prim.Native.Nat.{ℕ, _+_, _*_, _/_, _%_, _≤_, _<_}
 use lib.ListN.{length, getD}
 use lib.Dec.{eqb}
+use Rattle.lists.specs.Tests.{every, count, unused}
 use Rattle.area.specs.Slots.{Size}
-use Rattle.sia.specs.Encode.{every}
-use Rattle.host.specs.Lists.{count, unused}
 use Rattle.host.specs.Empty.{none}
 use Rattle.host.specs.Order.{slotInOrder}
 use Rattle.machine_rules.specs.declared.Args.{Args}

@@ -7,7 +7,7 @@ ghost use mathlib.Core.List.{[], _∷_};
 ghost use Prim.Native.Nat.{_/_, _*_, _<_};
 ghost use lib.ListN.{getD};
 ghost use lib.Dec.{ltb, eqb};
-ghost use Rattle.area.specs.Pick.{pick};
+ghost use Rattle.lists.specs.Pick.{pick};
 ghost use Rattle.area.specs.Area.{put, zeros};
 ghost use Rattle.area.specs.Slots.{Size};
 ghost use Rattle.tree.specs.Tree.{root};

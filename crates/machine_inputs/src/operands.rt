@@ -7,7 +7,7 @@ ghost use mathlib.Core.Path.{_≡_};
 ghost use mathlib.Core.Bool.{false};
 ghost use Prim.Native.Nat.{_+_, _≤_, _<_, _^_, max, min};
 ghost use lib.ListN.{take};
-ghost use Rattle.host.specs.Lists.{some};
+ghost use Rattle.lists.specs.Tests.{some};
 ghost use Rattle.machine_rules.specs.Inputs.{illFormed, pastEnd, largest};
 ghost use Rattle.machine_rules.specs.Inputs as Says;
 ghost use Rattle.machine_inputs.specs.Ends.{endsPast, endOf};

@@ -4,7 +4,7 @@ use mathlib.Core.Bool.{Bool}
 use mathlib.Core.List.{List, []}
 use Prim.Native.Nat.{ℕ}
 use lib.Dec.{eqb}
-use Rattle.area.specs.Pick.{pick}
+use Rattle.lists.specs.Pick.{pick}
 use Rattle.sia.specs.Names.{opOf}
 use Rattle.machine_rules.specs.View.{Setting}
 use Rattle.machine_rules.specs.Inputs.{inputsOf, argsOf}

@@ -19,7 +19,7 @@ use sia::Op;
 ghost use mathlib.Core.Path.{_≡_};
 ghost use mathlib.Core.List.{[]};
 ghost use lib.ListN.{length};
-ghost use Rattle.area.specs.Pick.{both};
+ghost use Rattle.lists.specs.Pick.{both};
 ghost use Rattle.area.specs.Area.{same};
 ghost use Rattle.sia.specs.Names.{readOnly};
 ghost use Rattle.machine_rules.specs.View.{setting};

@@ -18,7 +18,7 @@ ghost use mathlib.Core.Path.{_≡_};
 ghost use mathlib.Core.Bool.{true};
 ghost use mathlib.Core.List.{[]};
 ghost use Prim.Native.Nat.{_≤_};
-ghost use Rattle.area.specs.Pick.{both};
+ghost use Rattle.lists.specs.Pick.{both};
 ghost use Rattle.area.specs.Slots.{Size};
 ghost use Rattle.machine_rules.specs.View.{setting};
 ghost use Rattle.machine_rules.specs.Plan.{badProof};

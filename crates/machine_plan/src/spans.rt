@@ -6,7 +6,7 @@ use machine_inputs::kind;
 use sia::Op;
 ghost use mathlib.Core.Path.{_≡_};
 ghost use Prim.Native.Nat.{_≤_};
-ghost use Rattle.area.specs.Pick.{either};
+ghost use Rattle.lists.specs.Pick.{either};
 ghost use Rattle.area.specs.Slots.{Size};
 ghost use Rattle.machine_rules.specs.Plan.{badSpan, badSize, badSpans, badProof};
 

@@ -1,4 +1,8 @@
 -- Arrays keep their lengths: those of places and of staged positions, whatever the call. Assumes nothing.
+use Rattle.lists.specs.Pick.{pick}
+use Rattle.lists.specs.Tests.{each}
+use Rattle.lists.proofs.Laws.Pick.{by, picks, skips}
+use Rattle.lists.proofs.Laws.Ways.{either-way}
 use Rattle.machine_rules.specs.Roots.{rootAt}
 use mathlib.Core.Path.{_≡_, refl, sym, ap, _∙_, subst}
 use mathlib.Core.Bool.{Bool, true}
@@ -8,11 +12,8 @@ use native.Mathlib.Nat.{le-of-mul-le-mul-right}
 use native.Mathlib.Omega.{arith}
 use lib.ListN.{length, length-append, length-replicate}
 use lib.Dec.{eqb}
-use Rattle.area.specs.Pick.{pick}
-use Rattle.area.proofs.Laws.Pick.{by, picks, skips}
 use Rattle.sia.specs.Names.{opOf}
 use Rattle.sia.specs.Decode.{decode}
-use Rattle.host.specs.Lists.{each}
 use Rattle.host.specs.Empty.{noPlace, noProgram, noProgress, newPlace, bare, started}
 use Rattle.host.specs.With.{withPlaces, withProgram, withCame, withProgress, withSize, withSlots, withStageRoots, withDiskRoots}
 use Rattle.host.specs.Places.{hasId, whose}
@@ -39,7 +40,6 @@ use Rattle.machine_rules.proofs.Laws.Steps.{runs-go, runs-stop}
 use Rattle.machine_rules.proofs.Laws.Taking.{order-good}
 use Rattle.machine_rules.proofs.Laws.Areas.{runs-alike}
 use Rattle.machine_rules.proofs.Laws.Filling.{filling-length}
-use Rattle.machine_rules.proofs.Laws.Ways.{either-way}
 use Rattle.sia.specs.declared.Instruction.{Instruction}
 use Rattle.host.specs.declared.Place.{Place}
 use Rattle.host.specs.declared.Host.{Host}

@@ -8,14 +8,16 @@ use native.Mathlib.Omega.{arith}
 use lib.ListN.{take}
 use lib.Dec.{ltb}
 use borrow.Author.Tests.{ltb-true}
+use Rattle.lists.specs.Tests.{every, each}
+use Rattle.lists.proofs.Laws.Pick.{both-left, both-right}
 use Rattle.area.specs.Area.{zeros}
 use Rattle.area.specs.Little.{le8, Bytes}
-use Rattle.area.proofs.Laws.Pick.{both-left, both-right}
-use Rattle.sia.specs.Encode.{encode, every}
-use Rattle.host.specs.Lists.{each}
-use Rattle.area.specs.Pick as AreaPick
+use Rattle.sia.specs.Encode.{encode}
+use Rattle.lists.specs.Pick as ListsPick
+use Rattle.lists.specs.Tests as ListsTests
+use Rattle.lists.specs.Lowest as ListsLowest
+use Rattle.lists.specs.Tab as ListsTab
 use Rattle.area.specs.Area as AreaArea
-use Rattle.area.specs.Lowest as AreaLowest
 use Rattle.area.specs.Little as AreaLittle
 use Rattle.tree.proofs.Figures.{first-of-64, all-of-64, middle-of-128, third-of-192, first-of-192}
 use Rattle.sia.specs.Empty as SiaEmpty
@@ -23,7 +25,6 @@ use Rattle.sia.specs.Names as SiaNames
 use Rattle.sia.specs.Number as SiaNumber
 use Rattle.sia.specs.Encode as SiaEncode
 use Rattle.sia.specs.Decode as SiaDecode
-use Rattle.host.specs.Lists as HostLists
 use Rattle.host.specs.Sizes as HostSizes
 use Rattle.host.specs.Empty as HostEmpty
 use Rattle.host.specs.With as HostWith
@@ -44,23 +45,28 @@ use Rattle.machine_rules.specs.Bench as RulesBench
 use Rattle.machine_rules.specs.Bench.{prices, plenty, host, alone, proofRow, idRow, table}
 use Rattle.machine_rules.specs.Visit.{Visit}
 
+-- opens the definitions of lists
+unfoldable open-lists : ℕ
+unfolding ListsPick.pick ListsTests.every ListsTests.some ListsTests.those ListsTests.each ListsTests.firstOf ListsTests.apart ListsTests.sum
+    ListsTests.count ListsLowest.lowest ListsTab.tab
+open-lists = 0
+
 -- opens the definitions of area
 unfoldable open-area : ℕ
-unfolding AreaPick.pick AreaArea.part AreaArea.put AreaArea.same AreaArea.tab AreaLowest.lowest AreaLittle.valueOf AreaLittle.bytesOf
+unfolding AreaArea.part AreaArea.put AreaArea.same AreaLittle.valueOf AreaLittle.bytesOf
 open-area = 0
 
 -- opens the definitions of sia
 unfoldable open-sia : ℕ
 unfolding SiaEmpty.filled SiaNames.opOf SiaNumber.number SiaEncode.joined SiaEncode.operandBytes SiaEncode.instructionBytes SiaEncode.encode
-    SiaEncode.every SiaEncode.within SiaDecode.after SiaDecode.bytes SiaDecode.number SiaDecode.limited SiaDecode.flag SiaDecode.several
+    SiaEncode.within SiaDecode.after SiaDecode.bytes SiaDecode.number SiaDecode.limited SiaDecode.flag SiaDecode.several
     SiaDecode.entries SiaDecode.operand SiaDecode.instruction SiaDecode.head SiaDecode.answer SiaDecode.decode
 open-sia = 0
 
 -- opens the definitions of host
 unfoldable open-host : ℕ
-unfolding HostSizes.doubled HostSizes.isSize HostLists.some HostLists.those HostLists.each HostLists.firstOf
-    HostLists.apart HostLists.sum HostLists.count HostEmpty.noPlace HostEmpty.noPrices
-    HostEmpty.noTerms HostEmpty.noProgress HostEmpty.noProgram HostEmpty.bare HostEmpty.newPlace HostEmpty.started HostWith.withPlaces
+unfolding HostSizes.doubled HostSizes.isSize HostEmpty.noPlace HostEmpty.noPrices HostEmpty.noTerms HostEmpty.noProgress HostEmpty.noProgram
+    HostEmpty.bare HostEmpty.newPlace HostEmpty.started HostWith.withPlaces
     HostWith.withProgram HostWith.withStageRoots HostWith.withCame HostWith.withProgress HostWith.withRunning HostWith.withStaged HostPlaces.hasId
         HostPlaces.whose
     HostPlaces.ownSize HostPlaces.others HostPlaces.committed HostPlaces.taken HostPlaces.freeCopy HostOrder.lent HostOrder.placeInOrder
@@ -102,7 +108,7 @@ proofs i = first-of-64 i ∷ all-of-64 i ∷ middle-of-128 i ∷ third-of-192 i 
 
 -- Every (P) line of document 01's figures, as one statement: all rows but that of proofs compute.
 pub bench : each (λ r. r .gives 0) table ≡ each (λ r. r .says) table
-unfolding open-area open-sia open-host open-rules
+unfolding open-lists open-area open-sia open-host open-rules
 bench i = each (λ r. r .says) (take 8 table) ++ (proofs i ∷ idRow .says ∷ [])
 
 -- ---- the premise of demands 2 and 3 is met
@@ -116,7 +122,7 @@ below (x ∷ xs) e (suc i) = below xs (both-right _ _ e) i
 -- the first line of the figures as a visit, on areas of zeros
 pub visit : Visit host (record { bytes = encode alone; budget = plenty; prices = prices; room = 16384 })
     (record { disk = zeros 32768; stage = zeros 16384; input = zeros 8; output = zeros 16384 }) (le8 4096)
-unfolding open-area open-sia open-host open-rules
+unfolding open-lists open-area open-sia open-host open-rules
 visit = record {
   declared = record { places = (refl, (refl, (refl, (refl, (refl, (refl, (refl, (refl, tt)))))))); staged = refl; disk = refl; stage = refl };
   head = below (encode alone) refl;

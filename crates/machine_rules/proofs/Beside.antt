@@ -3,7 +3,8 @@ use mathlib.Core.Path.{_≡_, refl}
 use mathlib.Core.Bool.{Bool, false}
 use mathlib.Core.List.{List}
 use Prim.Native.Nat.{ℕ}
-use Rattle.area.specs.Pick.{pick}
+use Rattle.lists.specs.Pick.{pick}
+use Rattle.lists.proofs.Laws.Ways.{either-way}
 use Rattle.sia.specs.Decode.{decode}
 use Rattle.host.specs.With.{withPlaces, withProgram, withCame, withProgress, withDiskRoots, withStageRoots}
 use Rattle.host.specs.Calls.{formed, dropped}
@@ -14,7 +15,6 @@ use Rattle.machine_rules.specs.Calls.{answered, openedHead, opened, Inte
 use Rattle.machine_rules.specs.Commit.{Closed, givenUp, commit}
 use Rattle.machine_rules.specs.Visit.{Areas, Opening, Agreement, opens, stops, closes}
 use Rattle.machine_rules.specs.KeptRoots.{Beside, Leaves}
-use Rattle.machine_rules.proofs.Laws.Ways.{either-way}
 use Rattle.machine_rules.proofs.Nothing.{nothing, close-ways}
 use Rattle.host.specs.declared.Made.{Made}
 use Rattle.host.specs.declared.Host.{Host}

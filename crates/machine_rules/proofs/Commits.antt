@@ -3,22 +3,27 @@
 use mathlib.Core.Path.{_≡_, refl, sym, ap, ap₂, _∙_, subst}
 use mathlib.Core.Bool.{Bool, true, false}
 use mathlib.Core.List.{List, [], _++_, append-nil}
-use Prim.Native.Nat.{ℕ, suc, _+_, _*_, _/_, _≤_, _<_}
-use native.Mathlib.Nat.{zero-div, suc-mul, mul-le-mul-right, le-of-mul-le-mul-right}
+use Prim.Native.Nat.{ℕ, _+_, _*_, _/_, _≤_, _<_}
+use native.Mathlib.Nat.{zero-div, le-of-mul-le-mul-right}
 use native.Mathlib.Omega.{arith}
 use lib.ListN.{length, getD, List·getD-append}
 use lib.IntN.{pos, _-ℤ_}
 use lib.Dec.{ltb, eqb}
 use borrow.Author.Tests.{not-true, ltb-true}
-use Rattle.area.specs.Area.{same, part, tab}
-use Rattle.area.proofs.Laws.Pick.{by, picks, skips, never, both-left}
+use Rattle.lists.specs.Tests.{every, each, apart, unused}
+use Rattle.lists.specs.Tab.{tab}
+use Rattle.lists.proofs.Laws.Pick.{by, picks, skips, never, both-left}
+use Rattle.lists.proofs.Laws.Tab.{length-tab, getD-tab}
+use Rattle.lists.proofs.Laws.Every.{every-all, every-two, every-and, every-fore, every-aft, every-at, every-get}
+use Rattle.lists.proofs.Laws.Some.{some-at}
+use Rattle.lists.proofs.Laws.Each.{length-each}
+use Rattle.lists.proofs.Laws.Apart.{apart-out, distinct, fore-unused, aft-unused}
+use Rattle.area.specs.Area.{same, part}
 use Rattle.area.proofs.Laws.Parts.{length-part}
-use Rattle.area.proofs.Laws.Tab.{length-tab, getD-tab}
+use Rattle.area.proofs.Laws.Slots.{slot-within}
 use Rattle.tree.specs.Tree.{root}
 use Rattle.machine_rules.specs.Sound.{right}
-use Rattle.machine_rules.proofs.Laws.Rehashed.{every-all, every-two}
-use Rattle.sia.specs.Encode.{joined, every}
-use Rattle.host.specs.Lists.{each, apart, unused}
+use Rattle.sia.specs.Encode.{joined}
 use Rattle.host.specs.Empty.{none, noPlace, noProgram}
 use Rattle.host.specs.With.{withPlaces, withProgram, withDiskRoots, withSize, withSlots}
 use Rattle.host.specs.Places.{hasId, whose, committed, taken}
@@ -34,13 +39,12 @@ use Rattle.machine_rules.specs.Trace.{sectorsOf, parentIn, pairIn, start
 use Rattle.machine_rules.specs.Outcome.{Dropped, Committed}
 use Rattle.machine_rules.specs.Demand2.{Agreed}
 use Rattle.machine_rules.proofs.Laws.Effects.{whole-sectors}
-use Rattle.machine_rules.proofs.Laws.Slots.{every-and, every-fore, every-aft, apart-out}
-use Rattle.machine_rules.proofs.Laws.Spots.{every-at, every-get, whose-every, length-each, unstaged}
+use Rattle.machine_rules.proofs.Laws.Spots.{whose-every, unstaged}
 use Rattle.machine_rules.proofs.Laws.Split.{Split, split, replaced-none, replaced-split, taken-split, none-of}
 use Rattle.machine_rules.proofs.Laws.Taking.{order-good, order-solid, areas-stage}
 use Rattle.machine_rules.proofs.Laws.Filling.{held, filling-length, filling-outside, filling-inside, joined-each, joined-tab, roots-alike}
-use Rattle.machine_rules.proofs.Laws.Others.{whose-new, not-other, whose-other, none-has, none-bare, some-at, distinct, fore-unused}
-use Rattle.machine_rules.proofs.Laws.Others.{aft-unused, joined-alike}
+use Rattle.machine_rules.proofs.Laws.Others.{whose-new, not-other, whose-other, joined-alike}
+use Rattle.host.proofs.Laws.Whose.{no-id, none-bare}
 use Rattle.machine_rules.proofs.Laws.Pairs.{same-pairs, pairs-differ, none-starts, none-runs}
 use Rattle.machine_rules.proofs.Laws.Sizes.{nothing-reached}
 use Rattle.machine_rules.proofs.Nothing.{given-up, close-ways}
@@ -125,10 +129,6 @@ module _ (disk : List ℕ) (h : Host) (stage : List ℕ) (sound : Declared h) (o
     below j lt = ltb-true _ _ (every-get (λ n. ltb n (h .disk)) (f .slots) j 0 (omega (arith, f .long))
         (every-fore _ (f .slots) _ (every-aft _ (taken z (s .before)) _ (f .below))))
 
-    -- slot n of an area of m whole sectors lies in it
-    within : (n m : ℕ) (a : List ℕ) → n < m → length a ≡ m * z → n * z + z ≤ length a
-    within n m a lt e = let le = mul-le-mul-right {m = suc n} {n = m} z lt in omega (arith, suc-mul n z)
-
     staged-below : (j : ℕ) → eqb (getD staged j none) none ≡ false → getD staged j none < h .stage
     unfolding staged slotInOrder settingBy
     staged-below j e =
@@ -163,8 +163,8 @@ module _ (disk : List ℕ) (h : Host) (stage : List ℕ) (sound : Declared h) (o
 
     sectors-back : (j : ℕ) → j < size / z → part after (getD (f .slots) j 0 * z) z ≡ sector z disk stage (spotOf (s .it .slots) staged j)
     unfolding after
-    sectors-back j lt = position z disk stage (λ n lt. within n (h .disk) disk lt disk-long)
-        (λ n lt. within n (h .stage) stage lt (areas-stage h disk stage areas)) j lt
+    sectors-back j lt = position z disk stage (λ n lt. slot-within z n (h .disk) disk lt (omega (arith, disk-long)))
+        (λ n lt. slot-within z n (h .stage) stage lt (omega (arith, areas-stage h disk stage areas))) j lt
 
     roots-back : (j : ℕ) → j < size / z → part afterRoots (getD (f .slots) j 0 * 32) 32
         ≡ sector 32 (h .diskroots) (h .stageroots) (spotOf (s .it .slots) staged j)
@@ -203,7 +203,7 @@ module _ (disk : List ℕ) (h : Host) (stage : List ℕ) (sound : Declared h) (o
         ap (contractRoot (sector 32 afterRoots [])) own-spots
         ∙ roots-alike (sector 32 afterRoots []) (sector 32 (h .diskroots) (h .stageroots)) (each OnDisk (f .slots))
             (tab 0 (size / z) (spotOf (s .it .slots) staged))
-        (omega (arith, length-each (f .slots), f .long, length-tab 0 (size / z) (spotOf (s .it .slots) staged)))
+        (omega (arith, length-each OnDisk (f .slots), f .long, length-tab 0 (size / z) (spotOf (s .it .slots) staged)))
             (alike-are 32 afterRoots (h .diskroots) (h .stageroots) roots-back)
         ∙ ap (contractRoot (sector 32 (h .diskroots) (h .stageroots))) (sym spots-are)
 
@@ -272,7 +272,7 @@ module _ (disk : List ℕ) (h : Host) (stage : List ℕ) (sound : Declared h) (o
     unfolding committedSpots sector
     other-alike y new old left other ne =
         let p : Place = whose other (h .places) in
-        let u = subst (λ (q : Place). every (unused (f .slots)) (committed z q) ≡ true) (whose-other id other noPlace (h .places) (none-has other) ne)
+        let u = subst (λ (q : Place). every (unused (f .slots)) (committed z q) ≡ true) (whose-other id other noPlace (h .places) (no-id other) ne)
         (whose-every (unused (f .slots)) z other (replaced id noPlace (h .places)) others-unused) in
         joined-each (sector y new []) OnDisk (committed z p)
         ∙ joined-alike (unused (f .slots)) (λ n. sector y new [] (OnDisk n)) (λ n. sector y old [] (OnDisk n)) (committed z p) u left

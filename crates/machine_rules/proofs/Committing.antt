@@ -9,12 +9,14 @@ use lib.ListN.{length, take, getD, length-take, length-append, List·getD-append
 use lib.Seq.{take-at, getD-take}
 use lib.Dec.{ltb, eqb}
 use borrow.Author.Tests.{le-leb, eq-eqb}
+use Rattle.lists.specs.Tests.{every, apart, count, unused}
+use Rattle.lists.proofs.Laws.Pick.{by, picks, skips, both-left, both-right, both-join}
+use Rattle.lists.proofs.Laws.Every.{every-and, every-fore, every-aft, every-first, every-rest, every-cons}
+use Rattle.lists.proofs.Laws.Counts.{free-enough}
+use Rattle.lists.proofs.Laws.Apart.{apart-out, apart-in}
 use Rattle.area.specs.Area.{same, zeros}
-use Rattle.area.proofs.Laws.Pick.{by, picks, skips, both-left, both-right, both-join}
 use Rattle.area.proofs.Laws.Same.{same-eq}
 use Rattle.area.proofs.Laws.Slots as Slots
-use Rattle.sia.specs.Encode.{every}
-use Rattle.host.specs.Lists.{apart, count, unused}
 use Rattle.host.specs.Empty.{noProgram}
 use Rattle.host.specs.With.{withPlaces, withProgram, withDiskRoots, withSize, withSlots}
 use Rattle.host.specs.Places.{whose, others, committed, taken}
@@ -25,11 +27,11 @@ use Rattle.machine_rules.specs.View.{settingBy, parent}
 use Rattle.machine_rules.specs.Commit.{cut, newSlots, finalSlots, finalPlace, copiedBack, commit}
 use Rattle.machine_rules.specs.Visit.{Shaped, Declared}
 use Rattle.machine_rules.proofs.Laws.Effects.{whole-sectors}
-use Rattle.machine_rules.proofs.Laws.Sizes.{has-held, has-same, keeps-not, place-size, others-left}
-use Rattle.machine_rules.proofs.Laws.Slots.{every-and, every-fore, every-aft, apart-out, apart-in, free-enough, Fresh, new-slots}
-use Rattle.machine_rules.proofs.Laws.Split.{apart-alike, Split, split, every-first, every-rest, every-cons, replaced-none, replaced-split}
+use Rattle.machine_rules.proofs.Laws.Sizes.{has-same, keeps-not, place-size, others-left}
+use Rattle.host.proofs.Laws.Whose.{has-held}
+use Rattle.machine_rules.proofs.Laws.Slots.{Fresh, new-slots}
+use Rattle.machine_rules.proofs.Laws.Split.{apart-alike, Split, split, replaced-none, replaced-split, shaped-fore, shaped-aft, none-of}
 use Rattle.machine_rules.proofs.Laws.Split.{taken-split, others-append, others-none, cut-held, cut-within, cut-rest, cut-prefix, cut-most}
-use Rattle.machine_rules.proofs.Laws.Split.{shaped-fore, shaped-aft, none-of}
 use Rattle.machine_rules.proofs.Laws.Taking.{order-good}
 use Rattle.host.specs.declared.Place.{Place}
 use Rattle.host.specs.declared.Host.{Host}

@@ -6,9 +6,9 @@ use Prim.Native.Nat.{ℕ, suc, _+_, _≤_}
 use native.Mathlib.Omega.{arith}
 use lib.ListN.{length, take, length-append}
 use lib.Seq.{take-append-seam}
-use Rattle.area.specs.Pick.{pick}
-use Rattle.area.specs.Area.{part, put}
-use Rattle.area.proofs.Laws.Puts.{put-append, part-put}
+use Rattle.lists.specs.Pick.{pick}
+use Rattle.area.specs.Area.{put}
+use Rattle.area.proofs.Laws.Puts.{put-append, take-put}
 use Rattle.host.specs.With.{withProgram, withCame, withProgress, withStageRoots}
 use Rattle.machine_rules.specs.View.{Setting, Turn, settingOf, turnOf, withRun, settingBy}
 use Rattle.machine_rules.specs.Run.{run}
@@ -18,10 +18,6 @@ use Rattle.machine_rules.specs.Trace.{together, lentTo, fed, AllAccepted
 use Rattle.machine_rules.proofs.Laws.Steps.{run-below, run-on}
 use Rattle.machine_rules.proofs.Laws.Taking.{Taking, all-accepted}
 use Rattle.host.specs.declared.Host.{Host}
-
-take-put : (d x : List ℕ) (k : ℕ) → length x ≡ k → k ≤ length d → take k (put d 0 x) ≡ x
-unfolding part
-take-put d x k e h = part-put d 0 x k (sym e) (omega arith)
 
 -- a piece is accepted, or refused with a number and everything as it was
 pub data Answered (w a : Pieced) (r : Pieced) : Type 0 where
@@ -67,7 +63,7 @@ module _ (h : Host) (a : Areas) (all : List ℕ) (roomy : length all ≤ length 
       let g : take (length b) all ≡ b = ap (λ (x : List ℕ). take (length b) x) (sym e) ∙ take-append-seam b rest in
       let area : put (a .input) 0 b ≡ put (a .input) 0 (take (length b) all) = ap (λ (x : List ℕ). put (a .input) 0 x) (sym g) in
       let k : 0 + length b ≡ length b = omega arith in
-      let u : take (length b) (put (a .input) 0 b) ≡ take (length b) all = take-put (a .input) b (length b) refl
+      let u : take (length b) (put (a .input) 0 b) ≡ take (length b) all = take-put (a .input) 0 b (length b) (omega arith)
           (omega (arith, length-append b rest, ap length e)) ∙ sym g in
       let r : run (h .sector) (settingOf h (a .disk)) (put (a .input) 0 b) (0 + length b) (turnOf h (a .stage) (a .output))
           ≡ run (h .sector) (settingOf h (a .disk)) all (length b) (turnOf h (a .stage) (a .output)) =
@@ -90,7 +86,8 @@ module _ (h : Host) (a : Areas) (all : List ℕ) (roomy : length all ≤ length 
       ap (λ (y : List ℕ). put (put (a .input) 0 y) (length x) b) gx ∙ ap (λ (n : ℕ). put (put (a .input) 0 x) n b) (omega arith)
           ∙ put-append (a .input) 0 x b (0 + length x) refl in
       let u : take (length (x ++ b)) (put (a .input) 0 (x ++ b)) ≡ take (length (x ++ b)) all =
-          take-put (a .input) (x ++ b) (length (x ++ b)) refl (omega (arith, length-append (x ++ b) rest, ap length (append-assoc x b rest ∙ e))) ∙ sym gb in
+          take-put (a .input) 0 (x ++ b) (length (x ++ b)) (omega arith)
+              (omega (arith, length-append (x ++ b) rest, ap length (append-assoc x b rest ∙ e))) ∙ sym gb in
       let r : run (h .sector) s (put (put (a .input) 0 (take (length x) all)) (length x) b) (length x + length b) (run (h .sector) s all (length x) t)
           ≡ run (h .sector) s all (length (x ++ b)) t =
       ap (λ (y : List ℕ). run (h .sector) s y (length x + length b) (run (h .sector) s all (length x) t)) area

@@ -8,12 +8,13 @@ use native.Mathlib.Omega.{arith}
 use lib.ListN.{length, getD}
 use lib.Dec.{eqb}
 use borrow.Author.Tests.{ltb-false, eqb-true, eqb-false, eq-eqb, ne-eqb}
-use Rattle.area.specs.Pick.{pick}
+use Rattle.lists.specs.Pick.{pick}
+use Rattle.lists.specs.Tests.{some}
+use Rattle.lists.proofs.Laws.Pick.{by, picks, skips}
+use Rattle.lists.proofs.Laws.Ways.{either-way}
 use Rattle.area.specs.Area.{part}
-use Rattle.area.proofs.Laws.Pick.{by, picks, skips, both-not-left}
 use Rattle.tree.specs.Tree.{root}
 use Rattle.sia.specs.Names.{opOf}
-use Rattle.host.specs.Lists.{some}
 use Rattle.host.specs.Empty.{none}
 use Rattle.host.specs.With.{withWritten, withFailed}
 use Rattle.machine_rules.specs.View.{Setting, Turn}
@@ -24,8 +25,7 @@ use Rattle.machine_rules.specs.Class.{isKnown, classOf}
 use Rattle.machine_rules.specs.Trace.{charges}
 use Rattle.machine_rules.specs.Outcome.{Failed, Instructed}
 use Rattle.machine_rules.proofs.Laws.Steps.{runs-go, runs-stop}
-use Rattle.machine_rules.proofs.Laws.Trails.{stepped-output}
-use Rattle.machine_rules.proofs.Laws.Ways.{either-way}
+use Rattle.machine_rules.proofs.Laws.Trails.{stepped-output, failed-stops}
 use Rattle.machine_rules.proofs.Laws.Classes.{is-invalid, is-host}
 use Rattle.machine_rules.proofs.Laws.Rehashed.{rehashed-in, rehashed-out}
 use Rattle.sia.specs.declared.Op.{Op}
@@ -48,13 +48,9 @@ writes z s i l t n =
         (sym (skips (eqb (judged z s (rootAt z s t) (t .progress) i l) 0) _ _ (ne-eqb _ _ n)))
     (fails z s (judged z s (rootAt z s t) (t .progress) i l) t)
 
-stopped : (s : Setting) (k : ℕ) (t : Turn) → t .progress .failed ≡ true → ready s k t ≡ false
-unfolding ready going
-stopped s k t f = both-not-left _ _ (both-not-left _ _ (ap not f))
-
 ends : (z : ℕ) (s : Setting) (input : List ℕ) (k : ℕ) (t : Turn) → t .progress .failed ≡ true → run z s input k t ≡ t
 unfolding run
-ends z s input k t f = runs-stop z s input k (s .terms .head .count) t (stopped s k t f)
+ends z s input k t f = runs-stop z s input k (s .terms .head .count) t (failed-stops s k t f)
 
 -- ---- the tally
 

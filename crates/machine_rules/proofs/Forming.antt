@@ -6,16 +6,20 @@ use mathlib.Core.List.{List, [], _∷_, _++_}
 use Prim.Native.Nat.{ℕ, _/_}
 use native.Mathlib.Nat.{zero-div, zero-mod}
 use native.Mathlib.Omega.{arith}
-use lib.ListN.{take, replicate}
+use lib.ListN.{replicate}
 use lib.Dec.{ltb, eqb}
 use borrow.Author.Tests.{not-true, not-false, eq-eqb, le-leb}
-use Rattle.area.specs.Pick.{pick, both}
-use Rattle.area.specs.Area.{same, zeros}
-use Rattle.area.proofs.Laws.Pick.{by, picks, skips, never, both-left, both-right, both-join, both-not-left, both-not-right, either-join}
+use Rattle.lists.specs.Pick.{pick, both}
+use Rattle.lists.specs.Tests.{every, some, apart}
+use Rattle.lists.proofs.Laws.Pick.{by, picks, skips, never, both-left, both-right, both-join, both-not-left, both-not-right, either-join}
+use Rattle.lists.proofs.Laws.Ways.{either-way}
+use Rattle.lists.proofs.Laws.Every.{every-and, every-fore, every-aft, every-rest, every-cons}
+use Rattle.lists.proofs.Laws.Some.{some-and, some-fore, some-aft}
+use Rattle.lists.proofs.Laws.Apart.{tail-apart, join-apart, apart-out}
+use Rattle.area.specs.Area.{same}
 use Rattle.area.proofs.Laws.Same.{same-eq, same-refl}
 use Rattle.sia.specs.Names.{readOnly}
-use Rattle.sia.specs.Encode.{joined, every}
-use Rattle.host.specs.Lists.{some, apart}
+use Rattle.sia.specs.Encode.{joined}
 use Rattle.host.specs.Sizes.{isSize}
 use Rattle.host.specs.Empty.{noPlace, noProgram, newPlace, bare}
 use Rattle.host.specs.With.{withPlaces}
@@ -24,11 +28,8 @@ use Rattle.host.specs.Order.{lent, placeInOrder, twins, placesInOrder, inOrder}
 use Rattle.host.specs.Calls.{lengthRight, freshed, padded, formedAt, formed, replaced, dropped}
 use Rattle.host.proofs.Laws.Order.{contracts-facts, facts-contracts}
 use Rattle.host.proofs.Theorems.{no-slots-refused}
-use Rattle.machine_rules.proofs.Laws.Pigeons.{tail-apart}
-use Rattle.machine_rules.proofs.Laws.Slots.{every-and, every-fore, every-aft, some-and, some-fore, some-aft, join-apart, apart-out}
-use Rattle.machine_rules.proofs.Laws.Split.{split, every-rest, every-cons, replaced-split, taken-split, none-of}
-use Rattle.machine_rules.proofs.Laws.Others.{none-bare}
-use Rattle.machine_rules.proofs.Laws.Ways.{either-way}
+use Rattle.machine_rules.proofs.Laws.Split.{split, replaced-split, taken-split, none-of}
+use Rattle.host.proofs.Laws.Whose.{none-bare, none-order, new-bare}
 use Rattle.host.specs.declared.Place.{Place}
 use Rattle.host.specs.declared.Host.{Host}
 use Rattle.host.specs.declared.Made.{Made}
@@ -74,10 +75,6 @@ stand z disk l y x m s h =
 
 -- ---- dropping
 
-none-order : (z : ℕ) → placeInOrder z noPlace ≡ true
-unfolding placeInOrder noPlace pick
-none-order z = refl
-
 none-behind : (m : List Place) → some (twins noPlace) m ≡ false
 unfolding some twins noPlace pick
 none-behind [] = refl
@@ -98,10 +95,6 @@ unfolding placeInOrder newPlace
 new-order z id e =
     skips (not true) true _ refl
     ∙ both-join _ _ (ap not e) (both-join _ _ (eq-eqb _ 0 (zero-mod z)) (le-leb (0 / z) 64 (omega (arith, zero-div z))))
-
-new-bare : (z : ℕ) (id : List ℕ) → committed z (newPlace id) ≡ []
-unfolding committed newPlace pick
-new-bare z id = ap (λ (n : ℕ). take n (zeros 64)) (zero-div z)
 
 same-turned : (a b : List ℕ) → same a b ≡ false → same b a ≡ false
 same-turned a b e = by (same b a) (λ u. never (sym (same-refl b) ∙ ap (λ (x : List ℕ). same x b) (same-eq b a u) ∙ e)) (λ u. u)

@@ -1,6 +1,6 @@
 -- The laws, a file for each subject.
 pub mod Steps
-pub mod Lists
+pub mod Clash
 pub mod Staged
 pub mod Effects
 pub mod Kept
@@ -10,11 +10,9 @@ pub mod Trails
 pub mod Spots
 pub mod Lengths
 pub mod Pairs
-pub mod Pigeons
 pub mod Sizes
 pub mod Slots
 pub mod Split
-pub mod Ways
 pub mod Filling
 pub mod Others
 pub mod Classes

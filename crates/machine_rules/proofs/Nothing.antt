@@ -8,10 +8,11 @@ use native.Mathlib.Omega.{arith}
 use lib.IntN.{pos}
 use lib.Dec.{eqb}
 use borrow.Author.Tests.{not-true, not-false}
-use Rattle.area.specs.Pick.{pick}
-use Rattle.area.proofs.Laws.Pick.{picks, skips, never, either-left, either-right}
+use Rattle.lists.specs.Pick.{pick}
+use Rattle.lists.specs.Tests.{those}
+use Rattle.lists.proofs.Laws.Pick.{picks, skips, never, either-left, either-right}
+use Rattle.lists.proofs.Laws.Ways.{either-way}
 use Rattle.sia.specs.Decode.{decode}
-use Rattle.host.specs.Lists.{those}
 use Rattle.host.specs.Empty.{none, noProgram}
 use Rattle.host.specs.With.{withPlaces, withProgram, withStageRoots, withDiskRoots}
 use Rattle.host.specs.Order.{inOrder}
@@ -23,7 +24,6 @@ use Rattle.machine_rules.specs.Visit.{Areas, Opening, Agreement, named, 
 use Rattle.machine_rules.specs.Trace.{running, Unchanged}
 use Rattle.machine_rules.specs.Outcome.{Standing, Untouched, stageTaken, Shut, Dropped}
 use Rattle.machine_rules.specs.Demand1.{Nothing, Closing}
-use Rattle.machine_rules.proofs.Laws.Ways.{either-way}
 use Rattle.machine_rules.proofs.Laws.Pairs.{same-pairs, pairs-differ}
 use Rattle.host.specs.declared.Program.{Program}
 use Rattle.host.specs.declared.Host.{Host}

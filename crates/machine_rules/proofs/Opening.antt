@@ -7,8 +7,9 @@ use native.Mathlib.Omega.{arith}
 use lib.ListN.{length}
 use lib.Dec.{eqb}
 use borrow.Author.Tests.{not-false, eqb-false, ltb-false}
-use Rattle.area.specs.Pick.{pick}
-use Rattle.area.proofs.Laws.Pick.{by, picks, skips}
+use Rattle.lists.specs.Pick.{pick}
+use Rattle.lists.proofs.Laws.Pick.{by, picks, skips}
+use Rattle.lists.proofs.Laws.Ways.{passes}
 use Rattle.sia.specs.Decode.{decode}
 use Rattle.host.specs.Empty.{started}
 use Rattle.host.specs.With.{withProgram}
@@ -17,7 +18,6 @@ use Rattle.machine_rules.specs.View.{diskRight, areasRight}
 use Rattle.machine_rules.specs.Calls.{answered, begun, openedHead, opened}
 use Rattle.machine_rules.specs.Visit.{Areas, Opening, Declared, Visit}
 use Rattle.machine_rules.specs.Trace.{lentTo}
-use Rattle.machine_rules.proofs.Laws.Ways.{passes}
 use Rattle.machine_rules.proofs.Laws.Taking.{Taking}
 use Rattle.machine_rules.proofs.Ordering.{opening}
 use Rattle.sia.specs.declared.Head.{Head}

@@ -9,22 +9,25 @@ use native.Mathlib.Omega.{arith}
 use lib.ListN.{length, take, replicate, length-take, drop-of-length-le}
 use lib.Dec.{eqb}
 use borrow.Author.Tests.{not-false, leb-true, le-leb, ltb-false, eqb-true, eq-eqb}
-use Rattle.area.specs.Pick.{pick, both, either}
+use Rattle.lists.specs.Pick.{pick, both, either}
+use Rattle.lists.specs.Tests.{every, some, apart}
+use Rattle.lists.proofs.Laws.Pick.{by, picks, skips, both-left, both-right, both-join}
+use Rattle.lists.proofs.Laws.Ways.{either-way}
+use Rattle.lists.proofs.Laws.Every.{every-drop}
+use Rattle.lists.proofs.Laws.Pigeons.{pigeons}
 use Rattle.area.specs.Area.{same, put}
 use Rattle.area.specs.Little.{Bytes}
-use Rattle.area.proofs.Laws.Pick.{by, picks, skips, both-left, both-right, both-join}
 use Rattle.sia.specs.Names.{readOnly}
-use Rattle.sia.specs.Encode.{every, within}
+use Rattle.sia.specs.Encode.{within}
 use Rattle.sia.specs.Decode.{told, decode}
 use Rattle.sia.proofs.Theorems.{read-within}
-use Rattle.host.specs.Lists.{some, apart}
 use Rattle.host.specs.Empty.{none, noProgram, started}
 use Rattle.host.specs.With.{withProgram}
 use Rattle.host.specs.Places.{whose, taken}
 use Rattle.host.specs.Order.{slotInOrder, clash, parentInOrder, termsInOrder, progressInOrder, programInOrder, inOrder}
 use Rattle.host.specs.Facts.{Staged}
 use Rattle.host.specs.Calls.{formed, dropped}
-use Rattle.host.proofs.Laws.Order.{order-facts}
+use Rattle.host.proofs.Laws.Order.{order-facts, facts-staged, came-within}
 use Rattle.machine_rules.specs.View.{settingBy, settingOf, turnOf}
 use Rattle.machine_rules.specs.Run.{failing, going, run}
 use Rattle.machine_rules.specs.Calls.{roomRight, begun, openedHead, opened, Pieced, accepted, piece, Interrupted, stopped, interrupt}
@@ -33,13 +36,10 @@ use Rattle.machine_rules.specs.Commit.{Closed, givenUp, close, agreedBy,
 use Rattle.machine_rules.specs.Visit.{Areas, Opening, Agreement, opens, gives, stops, closes, Declared}
 use Rattle.machine_rules.specs.Outcome.{Refused}
 use Rattle.machine_rules.proofs.Forming.{forming, dropping}
-use Rattle.machine_rules.proofs.Laws.Ways.{either-way}
-use Rattle.machine_rules.proofs.Laws.Lists.{every-drop}
-use Rattle.machine_rules.proofs.Laws.Pigeons.{pigeons}
 use Rattle.machine_rules.proofs.Laws.Sizes.{sizes, whose-whole, read-only-size}
 use Rattle.machine_rules.proofs.Laws.Steps.{not-failed}
-use Rattle.machine_rules.proofs.Laws.Kept.{failed-good, runs-good, facts-staged}
-use Rattle.machine_rules.proofs.Laws.Taking.{order-lent, order-program, order-good, good-order}
+use Rattle.machine_rules.proofs.Laws.Kept.{failed-good, runs-good}
+use Rattle.machine_rules.proofs.Laws.Taking.{order-lent, order-good, good-order}
 use Rattle.machine_rules.proofs.Committing.{commit-order}
 use Rattle.sia.specs.declared.Head.{Head}
 use Rattle.host.specs.declared.Prices.{Prices}
@@ -138,10 +138,6 @@ pieces disk h stage input output bytes sound o =
     accepted-order disk h stage input output bytes sound o (not-false _ live) (ltb-false _ _ fit))))))
 
 -- ---- interrupts
-
-came-within : (h : Host) → inOrder h ≡ true → h .program .active ≡ true → h .program .came ≤ h .program .terms .head .length
-unfolding programInOrder
-came-within h o live = leb-true _ _ (both-left _ _ (both-right _ _ (order-program h o live)))
 
 pub stopped-order : (disk : List ℕ) (h : Host) (output : List ℕ) → Declared h → inOrder h ≡ true → h .program .active ≡ true
     → going (h .program .terms) (h .program .progress) ≡ true → inOrder (stopped disk h output .host) ≡ true

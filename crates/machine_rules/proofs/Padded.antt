@@ -3,11 +3,12 @@ use mathlib.Core.Path.{_≡_, refl, sym, ap, _∙_}
 use mathlib.Core.Bool.{true, false}
 use mathlib.Core.List.{List, [], _∷_}
 use Prim.Native.Nat.{ℕ}
-use Rattle.area.specs.Pick.{pick, either}
+use Rattle.lists.specs.Pick.{pick, either}
+use Rattle.lists.specs.Tests.{some, each}
+use Rattle.lists.proofs.Laws.Pick.{by, picks, skips, never, both-left, both-right, both-join}
+use Rattle.lists.proofs.Laws.Ways.{either-way}
 use Rattle.area.specs.Area.{same}
-use Rattle.area.proofs.Laws.Pick.{by, picks, skips, never, both-left, both-right, both-join}
 use Rattle.area.proofs.Laws.Same.{same-eq}
-use Rattle.host.specs.Lists.{some, each}
 use Rattle.host.specs.Empty.{noPlace, newPlace, bare}
 use Rattle.host.specs.With.{withPlaces, withProgram, withSize, withSlots, withDiskRoots}
 use Rattle.host.specs.Places.{hasId, whose}
@@ -17,8 +18,8 @@ use Rattle.machine_rules.specs.Commit.{givenUp, finalPlace, commit}
 use Rattle.machine_rules.specs.Visit.{Areas, Agreement, closes}
 use Rattle.host.proofs.Padded.{padding, word, fifteen}
 use Rattle.host.proofs.Renaming.Exchange.{exchange}
+use Rattle.host.proofs.Laws.Whose.{has-none, no-id}
 use Rattle.machine_rules.specs.Padded.{holds, NoneFormed, ShortIds}
-use Rattle.machine_rules.proofs.Laws.Ways.{either-way}
 use Rattle.machine_rules.proofs.Nothing.{nothing, close-ways}
 use Rattle.machine_rules.proofs.Renaming.Alike.{alike}
 use Rattle.host.specs.declared.Place.{Place}
@@ -30,14 +31,6 @@ use Rattle.host.specs.declared.Made.{Made}
 new-not : (id other : List ℕ) → same other id ≡ false → hasId id (newPlace other) ≡ false
 unfolding hasId newPlace pick
 new-not id other e = e
-
-free-not : (id : List ℕ) (p : Place) → p .held ≡ false → hasId id p ≡ false
-unfolding hasId
-free-not id p e = skips (p .held) (same (p .id) id) false e
-
-none-not : (id : List ℕ) → hasId id noPlace ≡ false
-unfolding noPlace
-none-not id = free-not id noPlace refl
 
 held-some : (id : List ℕ) (ps : List Place) → whose id ps .held ≡ some (hasId id) ps
 unfolding some whose noPlace hasId
@@ -57,7 +50,7 @@ some-formed id other (p ∷ ps) e =
     ∙ ap (either (hasId id p)) (some-formed id other ps e))
     (λ h. ap (some (hasId id)) (skips (p .held) (p ∷ formedAt other ps) (newPlace other ∷ ps) h)
     ∙ skips (hasId id (newPlace other)) true (some (hasId id) ps) (new-not id other e)
-    ∙ sym (skips (hasId id p) true (some (hasId id) ps) (free-not id p h)))
+    ∙ sym (skips (hasId id p) true (some (hasId id) ps) (has-none id p h)))
 
 -- a place that gives way to another under its own id, or to none
 some-replaced : (id c : List ℕ) (x : Place) (ps : List Place) → ((q : Place) → hasId c q ≡ true → hasId id x ≡ true → hasId id q ≡ true)
@@ -93,7 +86,7 @@ dropped-before h id other =
     let way = either-way (λ (r : Made). Before h id (r .host)) in
     way _ _ _ (λ _ k. k) (λ _. way _ _ _ (λ _ k. k) (λ _. way _ _ _ (λ _ k. k) (λ _. way _ _ _ (λ _ k. k) (λ _ k.
     held-some id (h .places)
-    ∙ some-replaced id other noPlace (h .places) (λ q _ g. never (sym g ∙ none-not id))
+    ∙ some-replaced id other noPlace (h .places) (λ q _ g. never (sym g ∙ no-id id))
     (sym (held-some id (replaced other noPlace (h .places))) ∙ k)))))
 
 none-held : noPlace .held ≡ false

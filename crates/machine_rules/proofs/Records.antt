@@ -1,5 +1,7 @@
 -- After pieces the output area holds the first m records of the whole data's run: by induction on the run, each record stands behind the
 -- last. Assumes nothing.
+use Rattle.lists.specs.Pick.{pick}
+use Rattle.lists.proofs.Laws.Pick.{by}
 use Rattle.machine_rules.specs.Roots.{rootAt}
 use mathlib.Core.Path.{_≡_, refl, sym, ap, ap₂, _∙_}
 use mathlib.Core.Bool.{Bool, true, false}
@@ -8,9 +10,7 @@ use Prim.Native.Nat.{ℕ, zero, suc, _+_, _*_, _≤_}
 use native.Mathlib.Omega.{arith}
 use lib.ListN.{length, take, length-append}
 use lib.Dec.{eqb}
-use Rattle.area.specs.Pick.{pick}
 use Rattle.area.specs.Area.{put}
-use Rattle.area.proofs.Laws.Pick.{by}
 use Rattle.area.proofs.Laws.Puts.{put-nil, put-append}
 use Rattle.host.specs.With.{withProgram, withCame, withProgress, withStageRoots}
 use Rattle.machine_rules.specs.View.{Setting, Turn, settingOf, turnOf, withRun, settingBy}

@@ -3,7 +3,7 @@ use mathlib.Core.Path.{_≡_, refl, sym, ap}
 use mathlib.Core.Bool.{Bool, true, false}
 use Prim.Native.Nat.{ℕ}
 use lib.IntN.{pos}
-use Rattle.area.specs.Pick.{pick}
+use Rattle.lists.specs.Pick.{pick}
 use Rattle.host.specs.Calls.{formed, dropped}
 use Rattle.host.specs.Calls as Contract
 use Rattle.machine_rules.specs.Calls.{answered, openedHead, opened, pieced, piece, interrupted, interrupt, reachedAt, noPair, reached}

@@ -6,8 +6,9 @@ use Prim.Native.Nat.{ℕ, _*_, _≤_}
 use native.Mathlib.Nat.{mul-mod-left}
 use native.Mathlib.Omega.{arith}
 use borrow.Author.Tests.{eq-eqb}
+use Rattle.lists.proofs.Laws.Pick.{picks, skips, both-join}
+use Rattle.lists.proofs.Laws.Ways.{either-way}
 use Rattle.area.specs.Slots.{Size}
-use Rattle.area.proofs.Laws.Pick.{picks, skips, both-join}
 use Rattle.area.proofs.Laws.Slots.{slots-count}
 use Rattle.host.specs.Sizes.{isSize}
 use Rattle.host.specs.Empty.{bare}
@@ -21,7 +22,6 @@ use Rattle.machine_rules.specs.Calls.{Pieced, Interrupted, openedHead, o
 use Rattle.machine_rules.specs.Commit.{Closed, givenUp, commit}
 use Rattle.machine_rules.specs.Visit.{Areas, Opening, Agreement, opens, gives, stops, closes}
 use Rattle.machine_rules.specs.Sectors.{Fixed, FullSectors}
-use Rattle.machine_rules.proofs.Laws.Ways.{either-way}
 use Rattle.machine_rules.proofs.Nothing.{close-ways}
 use Rattle.machine_rules.proofs.Ordering.{damaged}
 use Rattle.host.specs.declared.Host.{Host}

@@ -1,4 +1,7 @@
 -- The last record shows the running pair: each instruction that succeeds writes the pair that it leaves. Assumes nothing.
+use Rattle.lists.specs.Pick.{pick}
+use Rattle.lists.proofs.Laws.Pick.{by, never, skips}
+use Rattle.lists.proofs.Laws.Ways.{either-way}
 use Rattle.machine_rules.specs.Roots.{rootAt}
 use mathlib.Core.Path.{_≡_, refl, sym, ap, _∙_}
 use mathlib.Core.Bool.{Bool, true, false}
@@ -8,10 +11,8 @@ use native.Mathlib.Omega.{arith}
 use lib.ListN.{length, take}
 use lib.Seq.{take-append-seam}
 use lib.Dec.{eqb}
-use Rattle.area.specs.Pick.{pick}
 use Rattle.area.specs.Area.{part}
 use Rattle.area.specs.Little.{bytesOf, le8}
-use Rattle.area.proofs.Laws.Pick.{by, never, skips}
 use Rattle.host.specs.With.{withProgram, withCame, withProgress, withRunning, withStaged, withStageRoots}
 use Rattle.machine_rules.specs.View.{Setting, Turn, settingBy, settingOf, turnOf, withRun, parentSpots}
 use Rattle.machine_rules.specs.Inputs.{inputsOf}
@@ -22,7 +23,6 @@ use Rattle.machine_rules.specs.Calls.{reachedPairBy, reachedBy}
 use Rattle.machine_rules.specs.Visit.{Areas}
 use Rattle.machine_rules.specs.Trace.{leftBy, made, after, recordOf, recorded, trail, firstRecords, lastOf, running}
 use Rattle.machine_rules.specs.Demand2.{Tells}
-use Rattle.machine_rules.proofs.Laws.Ways.{either-way}
 use Rattle.machine_rules.proofs.Laws.Steps.{runs-zero, runs-go, runs-stop}
 use Rattle.machine_rules.proofs.Laws.Trails.{trail-zero, trail-go, trail-stop}
 use Rattle.machine_rules.proofs.Laws.Lengths.{length-root}

@@ -10,12 +10,13 @@ use Prim.Native.Nat.{ℕ, _*_, _/_, _^_, _≤_}
 use native.Mathlib.Nat.{zero-mul, mul-le-mul-right}
 use native.Mathlib.Omega.{arith}
 use lib.ListN.{length}
+use Rattle.lists.specs.Tests.{every}
+use Rattle.lists.proofs.Laws.Pick.{picks, skips}
+use Rattle.lists.proofs.Laws.Tab.{length-tab}
+use Rattle.lists.proofs.Laws.Each.{length-each}
 use Rattle.area.specs.Area.{same}
 use Rattle.area.specs.Slots.{Size}
-use Rattle.area.proofs.Laws.Pick.{picks, skips}
-use Rattle.area.proofs.Laws.Tab.{length-tab}
 use Rattle.tree.specs.Tree as Tree
-use Rattle.sia.specs.Encode.{every}
 use Rattle.host.specs.Places.{whose, committed}
 use Rattle.host.specs.Calls.{freshed}
 use Rattle.machine_rules.specs.View.{kept, worked, Setting, settingBy, settingOf, areasRight, parent, sector, spotOf, parentSpots, committedSpots}
@@ -32,13 +33,13 @@ use Rattle.machine_rules.specs.Trace.{lentTo, sectorsOf, running, runnin
 use Rattle.machine_rules.proofs.Laws.Lengths.{sector-length}
 use Rattle.machine_rules.proofs.Laws.Worked.{contract-worked, proof-worked}
 use Rattle.machine_rules.proofs.Laws.Taking.{order-solid, order-good, areas-stage}
-use Rattle.machine_rules.proofs.Laws.Spots.{disk-valid, whose-every, few-whose, length-each, parent-valid}
+use Rattle.machine_rules.proofs.Laws.Spots.{disk-valid, whose-every, few-whose, parent-valid}
 use Rattle.machine_rules.proofs.Arrays.{fresh, kept as keeps}
+use Rattle.machine_rules.proofs.Laws.Readers.{agree, root-agree, all-committed, withWay, known-disk}
+use Rattle.machine_rules.proofs.Laws.Effects.{few-sectors}
 use Rattle.host.specs.Order.{inOrder}
 use Rattle.host.specs.declared.Host.{Host}
-use Rattle.machine_rules.proofs.Laws.Readers.{agree, root-agree, all-committed, withWay, known-disk}
 use Rattle.machine_rules.proofs.Beside.{leaves}
-use Rattle.machine_rules.proofs.Sound.Steps.{few-sectors}
 use Rattle.machine_rules.proofs.Sound.Programs.{sound-order, sound-disk, piece-alike, records-alike, piece-sound, interrupt-alike}
 use Rattle.machine_rules.proofs.Sound.Programs.{pair-alike, reached-alike, close-alike, close-sound, interrupt-sound}
 use Rattle.machine_rules.proofs.Sound.Contracts.{formed-sound, dropped-sound, opened-sound, fresh-sound}
@@ -46,6 +47,7 @@ use Rattle.machine_rules.proofs.Sound.Look.{located-alike}
 use Rattle.host.specs.declared.Progress.{Progress}
 use Rattle.machine_rules.specs.declared.Pair.{Pair}
 use Rattle.machine_rules.specs.declared.Spot.{Spot}
+use Rattle.machine_rules.specs.declared.Spot.the-variants.{OnDisk}
 
 -- ---- the statements
 
@@ -123,7 +125,7 @@ running-bytes h a s areas live =
 
 few-held : (h : Host) (disk id : List ℕ) → Solid (h .sector) (settingOf h disk) → length (committedSpots (h .sector) (whose id (h .places))) ≤ 64
 unfolding committedSpots settingBy
-few-held h disk id solid = omega (arith, length-each (committed (h .sector) (whose id (h .places))), few-whose (h .sector) id (h .places) (solid .small))
+few-held h disk id solid = omega (arith, length-each OnDisk (committed (h .sector) (whose id (h .places))), few-whose (h .sector) id (h .places) (solid .small))
 
 -- committed sectors are on the disk, so a stage of no slots will do
 abbrev unlent : Host → List ℕ → Setting

@@ -8,13 +8,14 @@ use native.Mathlib.Omega.{arith}
 use lib.ListN.{length, getD}
 use lib.Dec.{leb, ltb, eqb}
 use borrow.Author.Tests.{eqb-true, eq-eqb, leb-true, leb-false, lt-ltb}
-use Rattle.area.specs.Pick.{pick}
+use Rattle.lists.specs.Pick.{pick}
+use Rattle.lists.specs.Tests.{each, apart, firstOf}
+use Rattle.lists.proofs.Laws.Pick.{by, picks, skips, never}
+use Rattle.lists.proofs.Laws.Tab.{length-tab, getD-tab}
+use Rattle.lists.proofs.Laws.Each.{each-both}
 use Rattle.area.specs.Area.{same}
-use Rattle.area.proofs.Laws.Pick.{by, picks, skips, never}
 use Rattle.area.proofs.Laws.Same.{eq-same}
-use Rattle.area.proofs.Laws.Tab.{length-tab, getD-tab}
 use Rattle.sia.specs.Encode.{joined}
-use Rattle.host.specs.Lists.{each, apart, firstOf}
 use Rattle.host.specs.Places.{hasId, whose, committed, taken}
 use Rattle.host.specs.Order.{inOrder, twins, parentInOrder}
 use Rattle.host.proofs.Laws.Order.{order-facts}
@@ -47,11 +48,6 @@ use Rattle.machine_rules.specs.declared.Sought.the-variants.{At, Nowhere
 use Rattle.machine_rules.specs.declared.Plan.{Plan}
 
 -- ---- document 01's look-up
-
-each-both : {A B : Type 0} (g : A → B) (l m : List A) → each g (l ++ m) ≡ each g l ++ each g m
-unfolding each
-each-both g [] m = refl
-each-both g (x ∷ l) m = ap (λ (r : List _). g x ∷ r) (each-both g l m)
 
 abbrev spotsIn : List Seat → List Spot
 spotsIn l = each (λ x. x .spot) l

@@ -3,14 +3,14 @@ use mathlib.Core.Bool.{true, false}
 use mathlib.Core.List.{List, [], _∷_, _++_}
 use Prim.Native.Nat.{ℕ, _+_}
 use lib.ListN.{length, take, drop, replicate, set}
-use Rattle.area.specs.Pick.{pick}
+use Rattle.lists.specs.Pick.{pick}
+use Rattle.lists.specs.Tests.{those, each}
 use Rattle.area.specs.Area.{zeros}
 use Rattle.area.specs.Little.{le8}
 use Rattle.tree.specs.Walk.{count}
 use Rattle.sia.specs.Names.{nameOf}
 use Rattle.sia.specs.Empty.{noOperand, noInstruction, filled}
 use Rattle.sia.specs.Encode.{encode}
-use Rattle.host.specs.Lists.{those, each}
 use Rattle.host.specs.With.{withPlaces}
 use Rattle.host.specs.Calls.{freshed, formed}
 use Rattle.machine_rules.specs.Calls.{opened, Pieced, pieced, piece}

@@ -6,7 +6,7 @@ use mathlib.Core.List.{List, []}
 use Prim.Native.Nat.{ℕ, _+_}
 use lib.ListN.{length}
 use lib.Dec.{leb, ltb, eqb}
-use Rattle.area.specs.Pick.{pick, both}
+use Rattle.lists.specs.Pick.{pick, both}
 use Rattle.area.specs.Area.{same, put, zeros}
 use Rattle.sia.specs.Names.{readOnly}
 use Rattle.sia.specs.Decode.{decode}

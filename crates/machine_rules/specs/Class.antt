@@ -2,7 +2,7 @@
 use mathlib.Core.Bool.{Bool, true, false}
 use Prim.Native.Nat.{ℕ}
 use lib.Dec.{leb, eqb}
-use Rattle.area.specs.Pick.{pick, both}
+use Rattle.lists.specs.Pick.{pick, both}
 use Rattle.machine_rules.specs.declared.class.Class.{Class}
 use Rattle.machine_rules.specs.declared.class.Class.the-variants.{Done, Interrupted, Invalid, Host, Unknown}
 

@@ -5,10 +5,10 @@ use Prim.Native.Nat.{ℕ, zero, suc, _-_, _*_, _/_, min}
 use lib.ListN.{length, getD}
 use lib.IntN.{ℤ, pos, _-ℤ_}
 use lib.Dec.{eqb}
-use Rattle.area.specs.Pick.{pick, either}
+use Rattle.lists.specs.Pick.{pick, either}
+use Rattle.lists.specs.Tests.{unused}
+use Rattle.lists.specs.Lowest.{lowest}
 use Rattle.area.specs.Area.{part, put, zeros}
-use Rattle.area.specs.Lowest.{lowest}
-use Rattle.host.specs.Lists.{unused}
 use Rattle.host.specs.Empty.{none, noProgram}
 use Rattle.host.specs.With.{withPlaces, withProgram, withDiskRoots, withSize, withSlots}
 use Rattle.host.specs.Places.{committed, taken}

@@ -3,7 +3,7 @@ use mathlib.Core.List.{List, [], _∷_}
 use Prim.Native.Nat.{ℕ, _+_, _*_, _/_, _%_}
 use lib.ListN.{getD, set}
 use lib.Dec.{ltb, eqb}
-use Rattle.area.specs.Pick.{pick}
+use Rattle.lists.specs.Pick.{pick}
 use Rattle.area.specs.Area.{part, put, zeros}
 use Rattle.tree.specs.Tree.{root}
 use Rattle.host.specs.Empty.{none}

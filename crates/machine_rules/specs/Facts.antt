@@ -4,7 +4,7 @@ use mathlib.Core.Bool.{Bool, true}
 use Prim.Native.Nat.{ℕ, _+_, _*_, _/_, _%_, _≤_, _<_}
 use lib.ListN.{length}
 use lib.Dec.{ltb}
-use Rattle.sia.specs.Encode.{every}
+use Rattle.lists.specs.Tests.{every}
 use Rattle.area.specs.Slots.{Size}
 use Rattle.host.specs.Places.{whose, taken}
 use Rattle.host.specs.Order.{placeInOrder, termsInOrder}

@@ -4,12 +4,12 @@ use mathlib.Core.List.{List, [], _∷_}
 use Prim.Native.Nat.{ℕ, _+_, _-_, max}
 use lib.ListN.{length, take, drop, getD}
 use lib.Dec.{leb, ltb, eqb}
-use Rattle.area.specs.Pick.{pick, both, either}
+use Rattle.lists.specs.Pick.{pick, both, either}
+use Rattle.lists.specs.Tests.{some, each}
 use Rattle.area.specs.Area.{part, zeros}
 use Rattle.sia.specs.Names.{opOf}
 use Rattle.sia.specs.Number.{Decoded, number}
 use Rattle.sia.specs.Encode.{operandsIn}
-use Rattle.host.specs.Lists.{some, each}
 use Rattle.machine_rules.specs.Kinds.{known, operandsOf}
 use Rattle.machine_rules.specs.declared.Args.{Args}
 use Rattle.sia.specs.declared.Operand.{Operand}

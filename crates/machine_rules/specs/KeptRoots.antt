@@ -5,10 +5,10 @@ use mathlib.Core.Bool.{true, false}
 use mathlib.Core.List.{List}
 use Prim.Native.Nat.{ℕ, _+_, _*_, _/_, _≤_}
 use lib.ListN.{length}
+use Rattle.lists.specs.Tests.{every}
 use Rattle.area.specs.Little.{Bytes}
 use Rattle.tree.specs.Tree as Tree
 use Rattle.tree.specs.Walk as Walk
-use Rattle.sia.specs.Encode.{every}
 use Rattle.host.specs.Places.{whose}
 use Rattle.host.specs.Order.{inOrder}
 use Rattle.host.specs.Calls.{freshed, formed, dropped}
@@ -16,8 +16,7 @@ use Rattle.machine_rules.specs.View.{kept, worked, Setting, areasRight, 
 use Rattle.machine_rules.specs.Roots.{sectorRoot, contractRoot, rangeProof}
 use Rattle.machine_rules.specs.Sound.{sound, soundedAt, sounded}
 use Rattle.machine_rules.specs.Facts.{Solid, Within, valid}
-use Rattle.machine_rules.specs.Visit.{Areas, Opening, Agreement, opens, gives, stops, closes, Sound}
-use Rattle.machine_rules.specs.Visit.{givesBy, stopsBy, reachesBy, closesBy}
+use Rattle.machine_rules.specs.Visit.{Areas, Opening, Agreement, opens, gives, stops, closes, Sound, givesBy, stopsBy, reachesBy, closesBy}
 use Rattle.machine_rules.specs.Trace.{lentTo, fedBy, visitedBy, wholeRunBy, sectorsOf, pairIn, running, runningSectors}
 use Rattle.machine_rules.specs.Depot.{Depot, Call, AllSaid, resultsBy, endBy}
 use Rattle.host.specs.declared.Host.{Host}

@@ -6,13 +6,13 @@ use Prim.Native.Nat.{ℕ, _+_, _*_, _/_, _≤_, _<_}
 use lib.ListN.{length, getD}
 use lib.Dec.{eqb}
 use lib.IntN.{pos, _-ℤ_}
-use Rattle.area.specs.Pick.{pick}
+use Rattle.lists.specs.Pick.{pick}
+use Rattle.lists.specs.Tests.{some, those}
 use Rattle.area.specs.Area.{same, part, put}
 use Rattle.area.specs.Little.{Bytes}
 use Rattle.tree.specs.Tree.{root}
 use Rattle.sia.specs.Names.{opOf}
 use Rattle.host.specs.With.{withWritten, withFailed}
-use Rattle.host.specs.Lists.{some, those}
 use Rattle.host.specs.Empty.{none, noProgram}
 use Rattle.host.specs.Places.{whose}
 use Rattle.host.specs.Calls.{formed, dropped}

@@ -5,10 +5,10 @@ use mathlib.Core.List.{List, [], _∷_}
 use Prim.Native.Nat.{ℕ, _+_, _*_, _/_, _%_}
 use lib.ListN.{length, getD}
 use lib.Dec.{ltb, eqb}
-use Rattle.area.specs.Pick.{pick, both, either}
+use Rattle.lists.specs.Pick.{pick, both, either}
+use Rattle.lists.specs.Tests.{those}
 use Rattle.area.specs.Area.{same}
 use Rattle.sia.specs.Names.{opOf}
-use Rattle.host.specs.Lists.{those}
 use Rattle.host.specs.Empty.{none}
 use Rattle.host.specs.Places.{whose, others}
 use Rattle.machine_rules.specs.Kinds.{time, reads, changes}

@@ -4,7 +4,7 @@ use mathlib.Core.List.{List, [], _∷_, _++_}
 use Prim.Native.Nat.{ℕ, _/_, _%_}
 use lib.ListN.{length, getD}
 use lib.Dec.{eqb}
-use Rattle.area.specs.Pick.{pick, both}
+use Rattle.lists.specs.Pick.{pick, both}
 use Rattle.area.specs.Area.{same, part}
 use Rattle.area.specs.Little.{le8}
 use Rattle.host.specs.With.{withRunning, withStaged}

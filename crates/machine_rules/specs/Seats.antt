@@ -3,9 +3,9 @@
 use mathlib.Core.Bool.{Bool, true, false, not}
 use mathlib.Core.List.{List, [], _∷_, _++_}
 use Prim.Native.Nat.{ℕ, suc}
-use Rattle.area.specs.Pick.{pick}
+use Rattle.lists.specs.Pick.{pick}
+use Rattle.lists.specs.Tests.{firstOf}
 use Rattle.area.specs.Area.{same}
-use Rattle.host.specs.Lists.{firstOf}
 use Rattle.host.specs.Places.{hasId}
 use Rattle.host.specs.Order.{inOrder}
 use Rattle.machine_rules.specs.View.{Way, kept, Setting, settingBy, settingOf, readOnlyMode, parentSpots, committedSpots}

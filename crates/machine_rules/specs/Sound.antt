@@ -3,10 +3,10 @@ use mathlib.Core.Bool.{Bool, false, not}
 use mathlib.Core.List.{List}
 use Prim.Native.Nat.{ℕ, _*_}
 use lib.Dec.{eqb}
-use Rattle.area.specs.Pick.{pick, both, either}
+use Rattle.lists.specs.Pick.{pick, both, either}
+use Rattle.lists.specs.Tests.{every}
 use Rattle.area.specs.Area.{same, part}
 use Rattle.tree.specs.Tree.{root}
-use Rattle.sia.specs.Encode.{every}
 use Rattle.host.specs.Empty.{none}
 use Rattle.host.specs.Places.{taken}
 use Rattle.host.specs.Order.{inOrder}

@@ -5,16 +5,15 @@ use mathlib.Core.List.{List, [], _∷_}
 use Prim.Native.Nat.{ℕ, _/_, _≤_, _<_}
 use lib.ListN.{length, getD}
 use lib.Dec.{ltb, eqb}
-use Rattle.area.specs.Pick.{pick, both, either}
+use Rattle.lists.specs.Pick.{pick, both, either}
+use Rattle.lists.specs.Tests.{each, firstOf}
 use Rattle.area.specs.Area.{same}
 use Rattle.tree.specs.Tree as Tree
 use Rattle.sia.specs.Names.{opOf}
-use Rattle.host.specs.Lists.{each, firstOf}
 use Rattle.host.specs.Empty.{noPlace}
 use Rattle.host.specs.Places.{hasId, taken}
 use Rattle.host.specs.Order.{inOrder}
-use Rattle.machine_rules.specs.View.{kept, worked, Setting, Turn, settingOf, turnOf, readOnlyMode, sector, parent, spotOf}
-use Rattle.machine_rules.specs.View.{parentSpots, committedSpots}
+use Rattle.machine_rules.specs.View.{kept, worked, Setting, Turn, settingOf, turnOf, readOnlyMode, sector, parent, spotOf, parentSpots, committedSpots}
 use Rattle.machine_rules.specs.Roots.{rootOf, rootAt}
 use Rattle.machine_rules.specs.Seats.{nobody, seatsOf, firstSeat, seatsIn, isStaged, notLocated, locatedBy, located}
 use Rattle.machine_rules.specs.Inputs.{illFormed, pastEnd, wellFormed, argsOf}

@@ -4,11 +4,12 @@ use mathlib.Core.List.{List}
 use Prim.Native.Nat.{ℕ, _*_, _/_}
 use lib.ListN.{length, getD}
 use lib.Dec.{eqb}
-use Rattle.area.specs.Pick.{pick, both}
-use Rattle.area.specs.Area.{same, part, tab}
+use Rattle.lists.specs.Pick.{pick, both}
+use Rattle.lists.specs.Tests.{each, count, unused}
+use Rattle.lists.specs.Tab.{tab}
+use Rattle.area.specs.Area.{same, part}
 use Rattle.sia.specs.Names.{readOnly}
 use Rattle.sia.specs.Encode.{joined}
-use Rattle.host.specs.Lists.{each, count, unused}
 use Rattle.host.specs.Empty.{none}
 use Rattle.host.specs.With.{withProgram, withStageRoots, withCame, withProgress}
 use Rattle.host.specs.Places.{whose, committed}

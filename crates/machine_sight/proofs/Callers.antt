@@ -8,11 +8,12 @@ use native.Mathlib.Omega.{arith}
 use lib.ListN.{length, getD}
 use lib.Dec.{ltb, eqb}
 use borrow.Author.Tests.{ltb-true, ltb-false, le-leb, eqb-true, eqb-false, not-false}
-use Rattle.area.specs.Area.{part, tab}
+use Rattle.lists.specs.Tests.{every}
+use Rattle.lists.specs.Tab.{tab}
+use Rattle.lists.proofs.Laws.Pick.{both-left, both-right, both-join, either-left, either-right}
+use Rattle.area.specs.Area.{part}
 use Rattle.area.specs.Slots.{Size}
-use Rattle.area.proofs.Laws.Pick.{both-left, both-right, both-join, either-left, either-right}
 use Rattle.area.proofs.Laws.Slots.{slot-ends, slot-below}
-use Rattle.sia.specs.Encode.{every}
 use Rattle.tree.specs.Walk.{count}
 use Rattle.machine_rules.specs.View.{Setting, sector, spotOf, parent, parentSpots}
 use Rattle.machine_rules.specs.Roots.{segments, rangeCount}

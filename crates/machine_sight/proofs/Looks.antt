@@ -8,7 +8,7 @@ use Rattle.host.specs.Places.{taken}
 use Rattle.machine_rules.specs.View.{Setting, parent, parentSpots}
 use Rattle.machine_rules.specs.Facts.{Solid, Good}
 use Rattle.machine_rules.proofs.Laws.Spots.{parent-valid}
-use Rattle.machine_rules.proofs.Sound.Steps.{few-sectors}
+use Rattle.machine_rules.proofs.Laws.Effects.{few-sectors}
 use Rattle.machine_sight.proofs.Callers.{slots-hold, every-lies}
 use Rattle.host.specs.declared.Progress.{Progress}
 use Rattle.machine_sight.specs.Lookup.{Stand, Seeks}

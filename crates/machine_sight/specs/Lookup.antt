@@ -3,9 +3,9 @@ use mathlib.Core.Path.{_≡_}
 use mathlib.Core.Bool.{Bool, true, false}
 use mathlib.Core.List.{List}
 use Prim.Native.Nat.{ℕ, _/_, _≤_, _<_}
-use Rattle.area.specs.Area.{tab}
+use Rattle.lists.specs.Tests.{every}
+use Rattle.lists.specs.Tab.{tab}
 use Rattle.area.specs.Slots.{Size}
-use Rattle.sia.specs.Encode.{every}
 use Rattle.host.specs.Places.{whose, committed, taken}
 use Rattle.host.specs.Order.{placeInOrder}
 use Rattle.machine_rules.specs.View.{spotOf}

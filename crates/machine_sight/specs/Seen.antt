@@ -5,9 +5,10 @@ use mathlib.Core.List.{List}
 use Prim.Native.Nat.{ℕ, _+_, _*_, _/_, _%_, _≤_, _<_}
 use lib.ListN.{length}
 use lib.Dec.{leb}
-use Rattle.area.specs.Area.{part, tab}
+use Rattle.lists.specs.Tests.{every}
+use Rattle.lists.specs.Tab.{tab}
+use Rattle.area.specs.Area.{part}
 use Rattle.area.specs.Slots.{Size}
-use Rattle.sia.specs.Encode.{every}
 use Rattle.machine_rules.specs.View.{sector, spotOf}
 use Rattle.machine_rules.specs.declared.Spot.{Spot}
 use Rattle.machine_rules.specs.declared.Spot.the-variants.{OnDisk, InStage}

@@ -3,7 +3,7 @@
 ghost use mathlib.Core.Path.{_≡_};
 ghost use mathlib.Core.Bool.{true};
 ghost use mathlib.Core.List.{[]};
-ghost use Rattle.area.specs.Pick.{pick};
+ghost use Rattle.lists.specs.Pick.{pick};
 ghost use Rattle.area.specs.Area.{same};
 ghost use Rattle.sia.specs.Names.{readOnly};
 ghost use Rattle.host.specs.Places.{hasId};

@@ -3,7 +3,7 @@ ghost use mathlib.Core.Path.{_≡_};
 ghost use mathlib.Core.Bool.{true};
 ghost use mathlib.Core.List.{[], _∷_};
 ghost use Prim.Native.Nat.{_/_, _≤_};
-ghost use Rattle.area.specs.Area.{tab};
+ghost use Rattle.lists.specs.Tab.{tab};
 ghost use Rattle.area.specs.Slots.{Size};
 ghost use Rattle.host.specs.Order.{placeInOrder};
 ghost use Rattle.machine_rules.specs.View.{spotOf, committedSpots};

@@ -4,9 +4,8 @@ use mathlib.Core.Bool.{Bool, true}
 use mathlib.Core.List.{List}
 use Prim.Native.Nat.{ℕ, _+_, _*_, _/_, _≤_, _<_, _^_}
 use lib.ListN.{length, drop}
-use Rattle.area.specs.Area.{tab}
+use Rattle.lists.specs.Tab.{tab}
 use Rattle.area.specs.Slots.{Size}
-use Rattle.sia.specs.Encode.{every}
 use Rattle.machine_rules.specs.View.{kept, Setting, Turn, spotOf}
 use Rattle.machine_rules.specs.Kinds.{reads}
 use Rattle.machine_rules.specs.Run.{going}

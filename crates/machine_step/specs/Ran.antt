@@ -2,8 +2,9 @@
 use mathlib.Core.Bool.{Bool}
 use mathlib.Core.List.{List}
 use Prim.Native.Nat.{ℕ, _/_}
-use Rattle.area.specs.Pick.{pick}
-use Rattle.area.specs.Area.{part, put, tab}
+use Rattle.lists.specs.Pick.{pick}
+use Rattle.lists.specs.Tab.{tab}
+use Rattle.area.specs.Area.{part, put}
 use Rattle.machine_rules.specs.View.{Turn, turn, spotOf}
 use Rattle.machine_rules.specs.Roots.{keptRoot, contractRoot}
 use Rattle.machine_rules.specs.Plan.{touched}

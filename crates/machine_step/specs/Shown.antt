@@ -4,7 +4,7 @@ use mathlib.Core.Bool.{Bool, true}
 use mathlib.Core.List.{List, []}
 use Prim.Native.Nat.{ℕ, _+_, _*_, _/_, _%_, _≤_}
 use lib.ListN.{length}
-use Rattle.area.specs.Pick.{pick}
+use Rattle.lists.specs.Pick.{pick}
 use Rattle.area.specs.Area.{part}
 use Rattle.machine_rules.specs.View.{sector, spotOf}
 use Rattle.machine_rules.specs.Roots.{keptRoot, rangeProof}

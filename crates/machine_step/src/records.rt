@@ -5,7 +5,7 @@ ghost use mathlib.Core.Bool.{true};
 ghost use mathlib.Core.List.{[]};
 ghost use Prim.Native.Nat.{_≤_};
 ghost use lib.ListN.{length};
-ghost use Rattle.area.specs.Pick.{pick};
+ghost use Rattle.lists.specs.Pick.{pick};
 ghost use Rattle.area.specs.Area.{put};
 ghost use Rattle.machine_rules.specs.Roots.{keptRoot};
 ghost use Rattle.machine_rules.specs.Record.{pairing, recordBytes};

@@ -2,7 +2,7 @@
 ghost use mathlib.Core.Path.{_≡_};
 ghost use mathlib.Core.Bool.{not};
 ghost use lib.Dec.{leb, ltb};
-ghost use Rattle.area.specs.Pick.{both};
+ghost use Rattle.lists.specs.Pick.{both};
 ghost use Rattle.machine_rules.specs.View.{setting, turn};
 ghost use Rattle.machine_rules.specs.Inputs.{need};
 ghost use Rattle.machine_rules.specs.Run as Says;

@@ -5,7 +5,7 @@ use mathlib.Core.List.{List}
 use Prim.Native.Nat.{ℕ, _+_, _-_, _*_, _/_, _≤_}
 use lib.ListN.{length}
 use lib.Dec.{ltb}
-use Rattle.area.specs.Pick.{pick}
+use Rattle.lists.specs.Pick.{pick}
 use Rattle.area.specs.Area.{part}
 use Rattle.area.specs.Little.{valueOf}
 use Rattle.showing.specs.declared.parts.Parts.{Parts}

@@ -3,7 +3,6 @@ pub mod Reading
 pub mod Entries
 pub mod Inverse
 pub mod Known
-pub mod Every
 pub mod Joined
 pub mod Limits
 pub mod There

@@ -8,10 +8,11 @@ use lib.ListN.{length, getD, length-append}
 use lib.Seq.{ext-getD, length-take-le}
 use lib.Dec.{eqb, ltb}
 use borrow.Author.Tests.{eq-eqb, eqb-true, le-ltb, leb-true}
-use Rattle.area.specs.Pick.{pick}
+use Rattle.lists.specs.Pick.{pick}
+use Rattle.lists.specs.Tests.{every}
+use Rattle.lists.proofs.Laws.Pick.{picks, skips, by, both-left, both-right}
 use Rattle.area.specs.Area.{same, put}
 use Rattle.area.specs.Little.{valueOf, bytesOf, le8, Bytes}
-use Rattle.area.proofs.Laws.Pick.{picks, skips, by, both-left, both-right}
 use Rattle.area.proofs.Laws.Same.{same-eq, eq-same}
 use Rattle.area.proofs.Laws.Little.{length-bytes, value-bytes, bytes-value}
 use Rattle.sia.specs.declared.Op.{Op}
@@ -22,7 +23,7 @@ use Rattle.sia.specs.declared.Told.{Told}
 use Rattle.sia.specs.Number.{Decoded, decoded, number}
 use Rattle.sia.specs.Names.{nameOf, opOf}
 use Rattle.sia.specs.Empty.{noHead, filled}
-use Rattle.sia.specs.Encode.{joined, operandBytes, instructionBytes, instructionsIn, encode, every, fewOperands, within, Left, left, write}
+use Rattle.sia.specs.Encode.{joined, operandBytes, instructionBytes, instructionsIn, encode, fewOperands, within, Left, left, write}
 use Rattle.sia.specs.Decode.{Reading, value, fault, head, answer, decode, told}
 use Rattle.sia.specs.Trim.{trimmed, Each, ProperInstruction, Proper, operandCount}
 use Rattle.sia.specs.Bench.{truncate, truncateAlone}

@@ -6,7 +6,7 @@ use mathlib.Core.List.{List, [], _∷_}
 use Prim.Native.Nat.{ℕ, zero, suc, _≤_}
 use lib.ListN.{length, take, drop}
 use lib.Dec.{ltb, eqb}
-use Rattle.area.specs.Pick.{pick}
+use Rattle.lists.specs.Pick.{pick}
 use Rattle.area.specs.Little.{valueOf}
 use Rattle.sia.specs.Empty.{noOperand, noInstruction, noHead, filled}
 use Rattle.sia.specs.declared.Operand.{Operand}

@@ -3,10 +3,11 @@
 -- Assumes nothing.
 use mathlib.Core.Bool.{Bool, true, false, not}
 use mathlib.Core.List.{List, [], _∷_, _++_}
-use Prim.Native.Nat.{ℕ, _+_}
+use Prim.Native.Nat.{ℕ}
 use lib.ListN.{length, take}
 use lib.Dec.{leb, ltb}
-use Rattle.area.specs.Pick.{pick, both}
+use Rattle.lists.specs.Pick.{pick, both}
+use Rattle.lists.specs.Tests.{every}
 use Rattle.area.specs.Area.{put}
 use Rattle.area.specs.Little.{le8}
 use Rattle.sia.specs.declared.Operand.{Operand}
@@ -44,11 +45,6 @@ unfoldable pub encode : Head → List ℕ
 encode h = h .contract ++ (le8 (h .count) ++ (joined instructionBytes (instructionsIn h) ++ le8 (h .length)))
 
 -- ---- "At most 32 instructions, 4 operands each, 65,536 bytes declared."
-
--- every entry passes the test
-unfoldable pub every : {A : Type 0} → (A → Bool) → List A → Bool
-every p [] = true
-every p (x ∷ xs) = both (p x) (every p xs)
 
 abbrev pub fewOperands : Instruction → Bool
 fewOperands x = leb (x .count) 4

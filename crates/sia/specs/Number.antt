@@ -3,7 +3,7 @@ use mathlib.Core.List.{List}
 use Prim.Native.Nat.{ℕ}
 use lib.ListN.{length}
 use lib.Dec.{eqb}
-use Rattle.area.specs.Pick.{pick}
+use Rattle.lists.specs.Pick.{pick}
 use Rattle.area.specs.Little.{valueOf}
 use Rattle.sia.specs.declared.Number.{Number}
 use Rattle.sia.specs.declared.Number.the-variants.{Is, Refused}

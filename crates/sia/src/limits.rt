@@ -2,8 +2,9 @@
 ghost use mathlib.Core.Path.{_≡_};
 ghost use Prim.Native.Nat.{_≤_};
 ghost use lib.ListN.{take};
+ghost use Rattle.lists.specs.Tests.{every};
 ghost use Rattle.sia.specs.Encode as Says;
-ghost use Rattle.sia.specs.Encode.{every, fewOperands};
+ghost use Rattle.sia.specs.Encode.{fewOperands};
 use crate::Head;
 use crate::Instruction;
 

@@ -1,16 +1,21 @@
 -- Parts of areas. Assumes nothing.
 use mathlib.Core.Path.{_≡_, refl, ap, _∙_}
 use mathlib.Core.List.{List, [], _∷_, _++_}
-use Prim.Native.Nat.{ℕ, zero, suc, _+_, _-_, _≤_, _<_}
+use Prim.Native.Nat.{ℕ, _+_, _-_, _≤_, _<_}
 use native.Mathlib.Nat.{add-sub-cancel-left}
 use native.Mathlib.Omega.{arith}
-use lib.ListN.{length, take, drop, getD, length-drop}
-use lib.Seq.{take-add, take-all, take-take, take-nil, drop-drop, length-take-le, getD-take, getD-drop, drop-cons}
+use lib.ListN.{length, take, drop, getD, length-take, length-drop}
+use lib.Seq.{take-add, take-all, take-take, drop-drop, length-take-le, getD-take, getD-drop, drop-cons}
+use Rattle.lists.proofs.Laws.Entries.{drop-take}
 use Rattle.area.specs.Area.{part}
 
 pub length-part : (a : List ℕ) (at n : ℕ) → at + n ≤ length a → length (part a at n) ≡ n
 unfolding part
 length-part a at n h = length-take-le n (drop at a) (omega (arith, length-drop at a))
+
+pub few-part : (a : List ℕ) (at n : ℕ) → length (part a at n) ≤ n
+unfolding part
+few-part a at n = omega (arith, length-take n (drop at a))
 
 -- a slice's part `&a[at..e]`, as the prover shows it
 pub part-is : (a : List ℕ) (at n e : ℕ) → e ≡ at + n → take (e - at) (drop at a) ≡ part a at n
@@ -33,11 +38,6 @@ part-whole a n e = take-all n a (omega arith)
 pub part-add : (a : List ℕ) (at n m : ℕ) → part a at (n + m) ≡ part a at n ++ part a (at + n) m
 unfolding part
 part-add a at n m = take-add n m (drop at a) ∙ ap (λ (l : List ℕ). take n (drop at a) ++ take m l) (drop-drop n at a)
-
-drop-take : (k m : ℕ) (l : List ℕ) → drop k (take (k + m) l) ≡ take m (drop k l)
-drop-take zero m l = let e : 0 + m ≡ m = omega arith in rw e
-drop-take (suc k) m [] = rw (take-nil (suc k + m), take-nil m)
-drop-take (suc k) m (x ∷ xs) = let e : suc k + m ≡ suc (k + m) = omega arith in rw e (drop-take k m xs)
 
 -- a part of a part
 pub part-part : (a : List ℕ) (at n from m : ℕ) → from + m ≤ n → part (part a at n) from m ≡ part a (at + from) m

@@ -1,13 +1,14 @@
 -- Bytes laid over areas: each law goes down the area, byte by byte. Assumes nothing.
 use mathlib.Core.Path.{_≡_, refl, sym, ap, _∙_}
-use mathlib.Core.List.{List, [], _∷_, _++_, append-nil}
+use mathlib.Core.List.{List, [], _∷_, _++_, append-assoc, append-nil}
 use Prim.Native.Nat.{ℕ, zero, suc, _+_, _≤_, _<_}
 use native.Mathlib.Omega.{arith}
-use lib.ListN.{length, take, drop, getD, set, drop-of-length-le}
+use lib.ListN.{length, take, drop, getD, set, length-append, drop-of-length-le}
+use lib.Seq.{take-at, length-take-le}
 use Rattle.area.specs.Area.{part, put}
 use Rattle.area.proofs.Laws.Parts.{length-part}
 
-cons : (x : ℕ) {l m : List ℕ} → l ≡ m → x ∷ l ≡ x ∷ m
+pub cons : (x : ℕ) {l m : List ℕ} → l ≡ m → x ∷ l ≡ x ∷ m
 cons x e = ap (λ (l : List ℕ). x ∷ l) e
 
 pub length-put : (a : List ℕ) (at : ℕ) (bs : List ℕ) → length (put a at bs) ≡ length a
@@ -85,6 +86,12 @@ put-is (x ∷ xs) zero (b ∷ bs) zero e h = absurd (omega arith)
 put-is (x ∷ xs) zero (b ∷ bs) (suc k) e h = cons b (put-is xs zero bs k (omega arith) (omega arith))
 put-is (x ∷ xs) (suc at) bs zero e h = absurd (omega arith)
 put-is (x ∷ xs) (suc at) bs (suc k) e h = cons x (put-is xs at bs k (omega arith) (omega arith))
+
+-- what stands up to the end of a piece that was laid
+pub take-put : (a : List ℕ) (at : ℕ) (bs : List ℕ) (k : ℕ) → k ≡ at + length bs → k ≤ length a → take k (put a at bs) ≡ take at a ++ bs
+take-put a at bs k e h =
+    let n : length (take at a ++ bs) ≡ k = omega (arith, length-append (take at a) bs, length-take-le at a (omega arith)) in
+    ap (take k) (put-is a at bs k e h ∙ sym (append-assoc (take at a) bs (drop k a))) ∙ take-at (take at a ++ bs) (drop k a) k n
 
 -- a piece as long as the area
 pub put-all : (a bs : List ℕ) → length bs ≡ length a → put a 0 bs ≡ bs

@@ -8,9 +8,9 @@ use lib.ListN.{length, drop, getD, drop-of-length-le}
 use lib.Seq.{drop-cons}
 use lib.Dec.{eqb}
 use borrow.Author.Tests.{eqb-true, eq-eqb, ne-eqb}
-use Rattle.area.specs.Pick.{both}
+use Rattle.lists.specs.Pick.{both}
+use Rattle.lists.proofs.Laws.Pick.{picks, skips, both-join, both-left, both-right, both-not-left, both-not-right, never}
 use Rattle.area.specs.Area.{same}
-use Rattle.area.proofs.Laws.Pick.{picks, skips, both-join, both-left, both-right, both-not-left, both-not-right, never}
 
 pub same-refl : (a : List ℕ) → same a a ≡ true
 unfolding same

@@ -1,14 +1,19 @@
 -- Slots of an area, z bytes each: where they begin and end, and which slot and offset a byte has. z is a variable: `omega` takes each product
 -- with it, and what is divided by it, for an unknown, and a law here says how two of these stand to each other. Assumes nothing.
 use mathlib.Core.Path.{_≡_, sym, ap, _∙_}
-use mathlib.Core.Logic.{_⊎_, inl, inr}
+use mathlib.Core.Logic.{_⊎_, inl, inr, ⊎-elim}
+use mathlib.Core.List.{List}
 use Prim.Native.Nat.{ℕ, suc, _+_, _*_, _/_, _%_, _^_, _≤_, _<_}
 use native.Mathlib.Nat.{suc-mul, mul-le-mul-right, mul-assoc, mod-lt, div-add-mod', div-lt-iff-lt-mul, mul-div-cancel}
 use native.Mathlib.Omega.{arith}
+use lib.ListN.{length}
 use lib.Dec.{ltb}
 use borrow.Author.Tests.{ltb-true, ltb-false}
+use Rattle.lists.proofs.Laws.Pick.{by}
+use Rattle.area.specs.Area.{part, put}
 use Rattle.area.specs.Slots.{Size}
-use Rattle.area.proofs.Laws.Pick.{by}
+use Rattle.area.proofs.Laws.Parts.{length-part}
+use Rattle.area.proofs.Laws.Puts.{part-before, part-behind}
 
 -- a slot below m ends where the m slots end, or before
 pub slot-ends : (z n m : ℕ) → n < m → n * z + z ≤ m * z
@@ -20,6 +25,25 @@ slots-apart z one two ne =
     by (ltb one two)
     (λ e. inl (slot-ends z one two (ltb-true one two e)))
     (λ e. let le = ltb-false one two e in let lt : two < one = omega (arith, ne) in inr (slot-ends z two one lt))
+
+-- slot n lies within an area that has m slots, or more
+pub slot-within : (z n m : ℕ) (a : List ℕ) → n < m → m * z ≤ length a → n * z + z ≤ length a
+slot-within z n m a lt e = omega (arith, slot-ends z n m lt)
+
+pub slot-length : (l : List ℕ) (n m z : ℕ) → n < m → length l ≡ m * z → length (part l (n * z) z) ≡ z
+slot-length l n m z lt e = length-part l (n * z) z (slot-within z n m l lt (omega (arith, e)))
+
+-- bytes within slot k leave slot m
+pub other-span : (z : ℕ) (a : List ℕ) (k m off : ℕ) (bs : List ℕ) → off + length bs ≤ z → (k ≡ m → ⊥) → part (put a (k * z + off) bs) (m * z) z
+    ≡ part a (m * z) z
+other-span z a k m off bs few ne =
+    ⊎-elim (λ h. part-behind a (k * z + off) bs (m * z) z (omega (arith, h))) (λ h. part-before a (k * z + off) bs (m * z) z (omega (arith, h)))
+    (slots-apart z k m ne)
+
+pub other-slot : (z : ℕ) (a : List ℕ) (k m : ℕ) (bs : List ℕ) → length bs ≤ z → (k ≡ m → ⊥) → part (put a (k * z) bs) (m * z) z ≡ part a (m * z) z
+other-slot z a k m bs few ne =
+    let e : k * z ≡ k * z + 0 = omega arith in
+    ap (λ (at : ℕ). part (put a at bs) (m * z) z) e ∙ other-span z a k m 0 bs (omega arith) ne
 
 -- n bytes within slot `at / z`, one of m, end where the m slots end, or before
 pub span-ends : (z at n m : ℕ) → at / z < m → at % z + n ≤ z → at + n ≤ m * z

@@ -4,9 +4,9 @@ use mathlib.Core.Logic.{⊎-elim}
 use Prim.Native.Nat.{_-_, _≤_}
 use native.Mathlib.Omega.{arith}
 use lib.ListN.{length, drop}
-use Rattle.area.specs.Pick.{both}
+use Rattle.lists.specs.Pick.{both}
+use Rattle.lists.proofs.Laws.Pick.{yes, both-last}
 use Rattle.area.specs.Area.{same}
-use Rattle.area.proofs.Laws.Pick.{yes, both-last}
 use Rattle.area.proofs.Laws.Same.{same-lengths, same-further, same-not, same-end}
 use Rattle.area.proofs.same.Statement.{statement}
 use Rattle.area.proofs.same.Tie as tie

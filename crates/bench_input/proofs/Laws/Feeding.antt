@@ -8,9 +8,9 @@ use lib.ListN.{length, take}
 use lib.Seq.{take-nil}
 use lib.Dec.{ltb}
 use borrow.Author.Tests.{lt-ltb, le-ltb, eqb-true}
-use Rattle.area.specs.Pick.{pick}
+use Rattle.lists.specs.Pick.{pick}
+use Rattle.lists.proofs.Laws.Pick.{by, picks, skips, never, both-left, both-right}
 use Rattle.area.specs.Area.{put}
-use Rattle.area.proofs.Laws.Pick.{by, picks, skips, never, both-left, both-right}
 use Rattle.area.proofs.Laws.Puts.{length-put, put-nil, put-append}
 use Rattle.sia.specs.Encode.{joined}
 use Rattle.bench_input.specs.Reader.{State, nextTo, next, spare, laid, onward, fedByte, fed, fedAll, inData, held, full, holds}

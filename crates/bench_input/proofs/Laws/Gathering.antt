@@ -5,13 +5,13 @@ use Prim.Native.Nat.{ℕ, _*_, _≤_, min}
 use native.Mathlib.Omega.{arith}
 use lib.ListN.{length, take}
 use lib.Dec.{eqb}
+use Rattle.lists.proofs.Laws.Pick.{by, picks, skips}
+use Rattle.lists.proofs.Laws.Ways.{either-way}
 use Rattle.area.specs.Little.{Bytes}
-use Rattle.area.proofs.Laws.Pick.{by, picks, skips}
 use Rattle.area.proofs.Laws.Puts.{length-put}
 use Rattle.area.proofs.Laws.Little.{append-below}
 use Rattle.sia.specs.Encode.{joined}
 use Rattle.sia.proofs.Laws.Joined.{joined-append}
-use Rattle.machine_rules.proofs.Laws.Ways.{either-way}
 use Rattle.bench_input.specs.Reader.{State, state, fresh, idsFrom, dataFrom, headFrom, numberTo, nextTo, next, spare, laid, onward}
 use Rattle.bench_input.specs.Reader.{fedByte, fed, fedAll, readAll, whole, held, holds}
 use Rattle.bench_input.specs.Kept.{missing, keep}

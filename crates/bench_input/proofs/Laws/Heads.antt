@@ -10,8 +10,8 @@ use lib.ListN.{length, take, drop, length-drop}
 use lib.Seq.{take-all, take-take, take-add, drop-at, length-take-le}
 use lib.Dec.{leb, ltb}
 use borrow.Author.Tests.{le-ltb, leb-true, leb-false}
-use Rattle.area.specs.Pick.{pick}
-use Rattle.area.proofs.Laws.Pick.{by, skips}
+use Rattle.lists.specs.Pick.{pick}
+use Rattle.lists.proofs.Laws.Pick.{by, skips}
 use Rattle.sia.specs.Empty.{noOperand, noInstruction, noHead}
 use Rattle.sia.specs.Decode.{Reading, value, fault, after, bytes, number, limited, flag, several, entries, operand, operands, instruction}
 use Rattle.sia.specs.Decode.{instructions, head, told, answer, decode}

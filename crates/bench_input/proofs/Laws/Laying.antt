@@ -8,9 +8,9 @@ use lib.ListN.{length, take, drop, getD, set, drop-of-length-le}
 use lib.Seq.{take-all, drop-cons}
 use lib.Dec.{ltb}
 use borrow.Author.Tests.{lt-ltb, le-ltb, le-leb, lt-leb, ltb-false}
+use Rattle.lists.proofs.Laws.Pick.{yes, no, by, picks, skips}
 use Rattle.area.specs.Area.{put}
 use Rattle.area.specs.Little.{le8}
-use Rattle.area.proofs.Laws.Pick.{yes, no, by, picks, skips}
 use Rattle.area.proofs.Laws.Puts.{put-nil, set-put}
 use Rattle.bench_input.specs.Reader.{State, state, reader, nextTo, next, laid, spare, onward, fedByte, fed, numberTo, lowered, idsFrom}
 use Rattle.bench_input.specs.Reader.{headFrom, dataFrom}

@@ -1,18 +1,14 @@
 -- An input from which bytes ahead of the data are missing is refused with 9, and so is none at all. Assumes nothing.
 use mathlib.Core.Path.{_≡_, refl, sym, _∙_}
-use mathlib.Core.Bool.{Bool, true, false}
+use mathlib.Core.Bool.{true, false}
 use mathlib.Core.List.{List, []}
 use Prim.Native.Nat.{ℕ, _≤_}
 use lib.ListN.{length}
 use lib.Dec.{ltb}
 use borrow.Author.Tests.{ltb-false}
-use Rattle.area.specs.Pick.{either}
-use Rattle.area.proofs.Laws.Pick.{by, picks, skips, either-left, either-right}
+use Rattle.lists.proofs.Laws.Pick.{by, picks, skips, either-left, either-right, or-right}
 use Rattle.bench_program.specs.Input.{cutShort, wrong}
 use Rattle.bench_input.specs.Kept.{missing}
-
-pub later : (a b : Bool) → b ≡ true → either a b ≡ true
-later a b e = by a (λ u. picks a true b u) (λ u. skips a true b u ∙ e)
 
 module _ (all : List ℕ) where
   pub missing-wrong : missing all ≡ true → wrong all ≡ true
@@ -20,7 +16,7 @@ module _ (all : List ℕ) where
   missing-wrong e =
       by (ltb (length all) 80)
       (λ u. picks _ _ _ u)
-      (λ u. later _ _ (later _ _ (later _ _ (sym (skips _ true (cutShort all) u) ∙ e))))
+      (λ u. or-right _ _ (or-right _ _ (or-right _ _ (sym (skips _ true (cutShort all) u) ∙ e))))
 
   pub whole-front : missing all ≡ false → 80 ≤ length all
   unfolding missing

@@ -9,8 +9,8 @@ use lib.ListN.{length, take, drop}
 use lib.Dec.{ltb, eqb, leb}
 use lib.Seq.{take-all, length-take-le}
 use borrow.Author.Tests.{lt-ltb, eqb-true, leb-true, leb-false}
-use Rattle.area.specs.Pick.{pick, both}
-use Rattle.area.proofs.Laws.Pick.{by, picks, skips}
+use Rattle.lists.specs.Pick.{pick, both}
+use Rattle.lists.proofs.Laws.Pick.{by, picks, skips}
 use Rattle.host.specs.With.{withProgram}
 use Rattle.host.specs.Order.{inOrder}
 use Rattle.host.specs.Calls.{freshed}

@@ -9,9 +9,9 @@ use lib.ListN.{length, take, drop, length-take, length-drop, take-append-drop}
 use lib.Seq.{take-nil, take-all, take-take, take-add, drop-drop, length-take-le}
 use lib.Dec.{leb, ltb}
 use borrow.Author.Tests.{lt-ltb, le-ltb, ltb-true, ltb-false, leb-true, leb-false, ne-eqb}
+use Rattle.lists.proofs.Laws.Pick.{by, picks, skips, either-join, or-right}
 use Rattle.area.specs.Area.{part}
 use Rattle.area.specs.Little.{le8, Bytes}
-use Rattle.area.proofs.Laws.Pick.{by, picks, skips, either-join}
 use Rattle.area.proofs.Laws.Parts.{length-part}
 use Rattle.area.proofs.Laws.Little.{take-below, drop-below}
 use Rattle.bench_program.specs.Input.{numberAt, idsEnd, headEnd, dataBytes, cutShort}
@@ -20,7 +20,6 @@ use Rattle.bench_input.specs.Kept.{idsKept, headKept, dataKept, kept, mi
 use Rattle.bench_input.specs.declared.Section.{Section}
 use Rattle.bench_input.specs.declared.Section.the-variants.{Front, Ids, Length, Head}
 use Rattle.bench_input.specs.declared.Reader.{Reader}
-use Rattle.bench_input.proofs.Laws.Missing.{later}
 use Rattle.bench_input.proofs.Laws.Feeding.{fed-append, stays, data-fed}
 use Rattle.bench_input.proofs.Laws.Standing.{Stands, stands-as, stands-at, laid-stands, section-fed, behind-id, behind-head, behind-front, behind-length}
 
@@ -225,7 +224,7 @@ module _ (all : List ℕ) (bytes : Bytes all) where
       cut-ahead : length all < headEnd all → missing all ≡ true
       unfolding missing cutShort
       cut-ahead g =
-          later _ _
+          or-right _ _
           (by (ltb (length all) (idsEnd all + 8)) (λ u. picks _ _ _ u) (λ u. skips _ _ _ u ∙ lt-ltb (length all) (headEnd all) g))
 
       cut-ids : length all < idsEnd all → holds (fed s all) ≡ keep all

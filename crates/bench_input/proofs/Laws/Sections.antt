@@ -1,22 +1,23 @@
 -- The sections of what is kept of an input. Assumes nothing.
 use mathlib.Core.Path.{_≡_, refl, sym, ap, ap₂, _∙_}
 use mathlib.Core.Bool.{false, not}
-use mathlib.Core.List.{List, _∷_, _++_}
-use Prim.Native.Nat.{ℕ, zero, suc, _+_, _-_, _*_, _/_, _≤_, _<_, min}
+use mathlib.Core.List.{List, _++_}
+use Prim.Native.Nat.{ℕ, _+_, _*_, _/_, _≤_, _<_, min}
 use native.Mathlib.Nat.{mul-div-cancel}
 use native.Mathlib.Omega.{arith}
 use lib.ListN.{length, take, drop, length-append, length-take}
 use lib.Seq.{take-all, take-take, take-at, drop-append-le, take-append-le, drop-append-add, length-take-le}
 use lib.Dec.{leb, ltb, eqb}
 use borrow.Author.Tests.{leb-true, leb-false, ltb-false, le-ltb}
-use Rattle.area.specs.Pick.{either}
-use Rattle.area.specs.Area.{part, tab}
+use Rattle.lists.specs.Pick.{either}
+use Rattle.lists.specs.Tests.{every}
+use Rattle.lists.specs.Tab.{tab}
+use Rattle.lists.proofs.Laws.Pick.{by, skips, either-left, either-right, either-join}
+use Rattle.lists.proofs.Laws.Tab.{length-tab, take-tab, tab-alike}
+use Rattle.area.specs.Area.{part}
 use Rattle.area.specs.Little.{valueOf, le8}
-use Rattle.area.proofs.Laws.Pick.{by, skips, either-left, either-right, either-join}
 use Rattle.area.proofs.Laws.Parts.{length-part, part-part}
 use Rattle.area.proofs.Laws.Little.{length-bytes, value-bytes}
-use Rattle.area.proofs.Laws.Tab.{length-tab}
-use Rattle.sia.specs.Encode.{every}
 use Rattle.bench_program.specs.Single.{idsIn}
 use Rattle.bench_program.specs.Input.{numberAt, pricesIn, budgetIn, idsEnd, headEnd, idsBytes, headBytes, dataBytes, pricesRight, cutShort, wrong}
 use Rattle.bench_input.specs.Kept.{idsKept, headKept, dataKept, kept}
@@ -41,18 +42,6 @@ drop-next a b k at {j} e q = ap (λ (m : ℕ). drop m (a ++ b)) (q ∙ ap (λ (m
 
 length-six : (a b c d e f : List ℕ) → length (a ++ (b ++ (c ++ (d ++ (e ++ f))))) ≡ length a + (length b + (length c + (length d + (length e + length f))))
 length-six a b c d e f = simp length-append
-
--- fewer of a list by its index
-take-tab : {A : Type 0} (f : ℕ → A) (k i n : ℕ) → k ≤ n → take k (tab i n f) ≡ tab i k f
-unfolding tab
-take-tab f zero i n h = refl
-take-tab f (suc k) i zero h = absurd (omega arith)
-take-tab f (suc k) i (suc n) h = ap (λ l. f i ∷ l) (take-tab f k (suc i) n (omega arith))
-
-tab-alike : {A : Type 0} (f g : ℕ → A) (i n : ℕ) → ((j : ℕ) → j < i + n → f j ≡ g j) → tab i n f ≡ tab i n g
-unfolding tab
-tab-alike f g i zero e = refl
-tab-alike f g i (suc n) e = ap₂ (λ x l. x ∷ l) (e i (omega arith)) (tab-alike f g (suc i) n (λ j h. e j (omega arith)))
 
 -- ---- ids and head, cut
 

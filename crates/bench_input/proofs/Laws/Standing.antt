@@ -1,17 +1,17 @@
 -- What stands in the area of a reader: bytes of a section, a number lowered behind it. Assumes nothing.
 use mathlib.Core.Path.{_≡_, refl, sym, ap, ap₂, _∙_}
-use mathlib.Core.List.{List, _++_, append-assoc}
+use mathlib.Core.List.{List, _++_}
 use Prim.Native.Nat.{ℕ, _+_, _-_, _*_, _≤_, _<_, min}
 use native.Mathlib.Omega.{arith}
-use lib.ListN.{length, take, drop, length-append, length-take}
+use lib.ListN.{length, take, length-append, length-take}
 use lib.Seq.{take-at, take-take, length-take-le}
 use lib.Dec.{leb, ltb}
 use borrow.Author.Tests.{le-ltb, leb-true, leb-false}
+use Rattle.lists.proofs.Laws.Pick.{by, picks, skips}
 use Rattle.area.specs.Area.{part, put}
 use Rattle.area.specs.Little.{valueOf, bytesOf, le8, Bytes}
-use Rattle.area.proofs.Laws.Pick.{by, picks, skips}
 use Rattle.area.proofs.Laws.Parts.{part-whole}
-use Rattle.area.proofs.Laws.Puts.{length-put, put-is}
+use Rattle.area.proofs.Laws.Puts.{length-put, take-put}
 use Rattle.area.proofs.Laws.Little.{length-bytes, bytes-value}
 use Rattle.bench_program.specs.Input.{numberAt}
 use Rattle.bench_input.specs.Reader.{State, state, reader, idsFrom, dataFrom, headFrom, numberTo, lowered, nextTo, next, spare, laid, fed}
@@ -44,11 +44,6 @@ stands-at f {s} p q h = record {
 
 -- ---- bytes laid
 
-front-put : (area : List ℕ) (a : ℕ) (bs : List ℕ) {j : ℕ} → j ≡ a + length bs → j ≤ length area → take j (put area a bs) ≡ take a area ++ bs
-front-put area a bs {j} e h =
-    ap (take j) (put-is area a bs j e h ∙ sym (append-assoc (take a area) bs (drop j area)))
-    ∙ take-at (take a area ++ bs) (drop j area) j (omega (arith, length-append (take a area) bs, length-take-le a area (omega arith)))
-
 module _ {x : Section} {i l m a : ℕ} {s : State} {k : List ℕ} (h : Stands s (reader x i l m a) a k) (fits : a + m ≤ 68810) where
   -- the area has room for all that is kept
   room : spare (state (reader x i l m a) (s .area)) ≡ m
@@ -66,7 +61,7 @@ module _ {x : Section} {i l m a : ℕ} {s : State} {k : List ℕ} (h : Stands s 
       ∙ ap (λ (n : ℕ). state (reader x i (l - length bs) (m - length bs) (a + min n (length bs))) (put (s .area) a (take n bs))) room)
       (record {
         same = refl;
-        front = front-put (s .area) a (take m bs) end (omega arith) ∙ ap (λ (z : List ℕ). z ++ take m bs) (h .front);
+        front = take-put (s .area) a (take m bs) _ end (omega arith) ∙ ap (λ (z : List ℕ). z ++ take m bs) (h .front);
         long = length-put (s .area) a (take m bs) ∙ long;
       })
 
@@ -117,7 +112,7 @@ module _ (area : List ℕ) (a : ℕ) (k number : List ℕ) (front : take a area 
         (λ u.
         let m : most ≡ min (valueOf number) most = omega (arith, leb-false (numberTo area a) most u) in
         ap (take a) (skips _ _ _ u)
-        ∙ front-put area (a - 8) (le8 most) (omega arith) long
+        ∙ take-put area (a - 8) (le8 most) _ (omega arith) long
         ∙ ap₂ (λ (z : List ℕ) (j : ℕ). z ++ le8 j) before m)
 
 -- ---- behind a section

@@ -3,7 +3,7 @@ use mathlib.Core.Path.{_≡_, sym, _∙_}
 use borrow.Author.Tests.{ltb-true}
 use borrow.Author.Needs.{needs}
 use lib.ListN.{length}
-use Rattle.area.proofs.Laws.Pick.{both-left}
+use Rattle.lists.proofs.Laws.Pick.{both-left}
 use Rattle.bench_input.specs.Reader.{state}
 use Rattle.bench_input.specs.Gathered.{readsOn}
 use Rattle.bench_input.proofs.Laws.Gathering.{Came, came-none, came-more, gathered, gathered-none}

@@ -4,7 +4,7 @@ use mathlib.Core.Bool.{not}
 use native.Mathlib.Omega.{arith}
 use borrow.Author.Tests.{lt-ltb, le-ltb}
 use borrow.Author.Needs.{needs}
-use Rattle.area.proofs.Laws.Pick.{yes, no}
+use Rattle.lists.proofs.Laws.Pick.{yes, no}
 use Rattle.bench_input.specs.Gathered.{readsOn}
 use Rattle.bench_input.proofs.more.Statement.{statement}
 use Rattle.bench_input.proofs.more.Tie as tie

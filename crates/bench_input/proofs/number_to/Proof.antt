@@ -2,7 +2,7 @@
 use mathlib.Core.Path.{refl}
 use borrow.Author.Tests.{lt-ltb, le-ltb}
 use borrow.Author.Needs.{needs}
-use Rattle.area.proofs.Laws.Pick.{yes, no}
+use Rattle.lists.proofs.Laws.Pick.{yes, no}
 use Rattle.bench_program.specs.Input.{numberAt}
 use Rattle.bench_input.specs.Reader.{numberTo}
 use Rattle.bench_input.proofs.number_to.Statement.{statement}

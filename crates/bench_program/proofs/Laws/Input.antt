@@ -1,21 +1,19 @@
--- The whole input in its bytes: what is known of one that is not refused with 9, and the loop over the prices. Assumes nothing.
+-- The whole input in its bytes: what is known of one that is not refused with 9. Assumes nothing.
 use mathlib.Core.Path.{_≡_, refl, sym, ap, _∙_}
-use mathlib.Core.Bool.{Bool, true, false}
+use mathlib.Core.Bool.{true, false}
 use mathlib.Core.List.{List}
-use Prim.Native.Nat.{ℕ, zero, suc, _+_, _-_, _*_, _/_, _≤_, _<_}
-use native.Mathlib.Numerals.{add-one}
+use Prim.Native.Nat.{ℕ, _+_, _-_, _*_, _/_, _≤_, _<_}
 use native.Mathlib.Nat.{div-add-mod', mod-lt}
 use native.Mathlib.Omega.{arith}
 use lib.ListN.{length, take, drop}
 use lib.Dec.{leb, ltb}
 use borrow.Author.Tests.{leb-true, ltb-false, not-false, lt-ltb, le-ltb}
-use Rattle.area.specs.Area.{tab}
-use Rattle.area.proofs.Laws.Pick.{yes, no, both-left, both-right, either-left, either-right}
+use Rattle.lists.proofs.Laws.Pick.{yes, no, either-left, either-right}
+use Rattle.lists.proofs.Laws.Tab.{tab-at}
+use Rattle.lists.proofs.Laws.Sums.{rest-less}
 use Rattle.area.proofs.Laws.Parts.{part-is}
 use Rattle.area.proofs.Laws.Lent.{rest-take}
-use Rattle.sia.specs.Encode.{every}
 use Rattle.host.specs.Calls.{freshed}
-use Rattle.machine.proofs.Laws.Hosts.{rest-less}
 use Rattle.bench_program.specs.Single.{Ran, ran, leaves, run}
 use Rattle.bench_program.specs.Input.{numberAt, pricesIn, budgetIn, idsEnd, headEnd, idsBytes, headBytes, dataBytes, pricesRight, cutShort}
 use Rattle.bench_program.specs.Input.{wrong, answered}
@@ -23,29 +21,6 @@ use Rattle.bench_program.proofs.Laws.Plays.{without}
 use Rattle.host.specs.declared.Prices.{Prices}
 use Rattle.host.specs.declared.Made.{Made}
 use Rattle.bench_program.specs.declared.Outcome.{Outcome}
-
--- ---- a list by its index, every entry of which passes a test
-
-module _ (p : ℕ → Bool) (f : ℕ → ℕ) where
-  tab-at : (at n i : ℕ) → every p (tab at n f) ≡ true → i < n → p (f (at + i)) ≡ true
-  unfolding every tab
-  tab-at at zero i e h = absurd (omega arith)
-  tab-at at (suc n) zero e h = ap (λ (k : ℕ). p (f k)) (let q : at + 0 ≡ at = omega arith in q) ∙ both-left _ _ e
-  tab-at at (suc n) (suc i) e h = ap (λ (k : ℕ). p (f k)) (let q : at + suc i ≡ suc at + i = omega arith in q)
-      ∙ tab-at (suc at) n i (both-right _ _ e) (omega arith)
-
-  -- the loop: those below i were looked at
-  pub tab-stops : (i n : ℕ) → i < n → p (f i) ≡ false → false ≡ every p (tab i (n - i) f)
-  unfolding every tab
-  tab-stops i n h e = let k : n - i ≡ suc (n - (i + 1)) = omega arith in rw k (no _ _ _ e refl)
-
-  pub tab-further : (i n : ℕ) → i < n → p (f i) ≡ true → every p (tab i (n - i) f) ≡ every p (tab (i + 1) (n - (i + 1)) f)
-  unfolding every tab
-  tab-further i n h e = let k : n - i ≡ suc (n - (i + 1)) = omega arith in rw (k, add-one i) (sym (yes _ _ _ e refl))
-
-  pub tab-done : (i n : ℕ) → n ≤ i → true ≡ every p (tab i (n - i) f)
-  unfolding every tab
-  tab-done i n h = let k : n - i ≡ 0 = omega arith in rw k
 
 -- ---- an input that is not refused with 9
 
@@ -78,7 +53,7 @@ pub price-within : (all : List ℕ) (i : ℕ) → pricesRight all ≡ true → i
 unfolding pricesRight
 price-within all i e h =
     let q : 0 + i ≡ i = omega arith in
-    leb-true _ 65535 (ap (λ (k : ℕ). leb (numberAt all (8 + k * 8)) 65535) (sym q) ∙ tab-at (λ n. leb n 65535) (λ k. numberAt all (8 + k * 8)) 0 7 i e h)
+    leb-true _ 65535 (ap (λ (k : ℕ). leb (numberAt all (8 + k * 8)) 65535) (sym q) ∙ tab-at (λ n. leb n 65535) (λ k. numberAt all (8 + k * 8)) 0 7 i h e)
 
 -- ---- ids, head length or head are missing
 

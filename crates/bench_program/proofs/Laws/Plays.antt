@@ -7,10 +7,10 @@ use native.Mathlib.Omega.{arith}
 use lib.ListN.{length, take, drop, drop-of-length-le}
 use lib.Dec.{leb, eqb}
 use borrow.Author.Tests.{eq-eqb, ne-eqb, leb-true, leb-false}
-use Rattle.area.specs.Pick.{pick}
-use Rattle.area.proofs.Laws.Pick.{yes, no, by}
+use Rattle.lists.specs.Pick.{pick}
+use Rattle.lists.proofs.Laws.Pick.{yes, no, by}
+use Rattle.lists.proofs.Laws.Slices.{take-min}
 use Rattle.host.specs.Calls.{freshed}
-use Rattle.host.proofs.Laws.Slices.{take-min}
 use Rattle.machine_rules.specs.Calls.{Pieced, opened, piece, reached}
 use Rattle.machine_rules.specs.Commit.{Closed, close}
 use Rattle.machine.specs.Asks.{pieceLeaves}

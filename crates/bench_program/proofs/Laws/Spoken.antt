@@ -5,12 +5,12 @@ use Prim.Native.Nat.{ℕ, _≤_, min}
 use native.Mathlib.Omega.{arith}
 use lib.ListN.{length, take}
 use borrow.Author.Tests.{eq-eqb, ne-eqb}
+use Rattle.lists.proofs.Laws.Pick.{yes, no}
+use Rattle.lists.proofs.Laws.Slices.{take-min}
 use Rattle.area.specs.Area.{part, put}
 use Rattle.area.specs.Little.{le8}
-use Rattle.area.proofs.Laws.Pick.{yes, no}
 use Rattle.area.proofs.Laws.Puts.{part-put}
 use Rattle.area.proofs.Laws.Little.{length-bytes}
-use Rattle.host.proofs.Laws.Slices.{take-min}
 use Rattle.bench_program.specs.Single.{Ran, leaves, spoken}
 use Rattle.bench_program.specs.declared.Outcome.{Outcome}
 

@@ -6,8 +6,8 @@ use Prim.Native.Nat.{ℕ, suc, _+_, _-_, _≤_, _<_}
 use native.Mathlib.Numerals.{add-one}
 use native.Mathlib.Omega.{arith}
 use borrow.Author.Tests.{eq-eqb, ne-eqb}
-use Rattle.area.specs.Area.{tab}
-use Rattle.area.proofs.Laws.Pick.{yes, no}
+use Rattle.lists.specs.Tab.{tab}
+use Rattle.lists.proofs.Laws.Pick.{yes, no}
 use Rattle.host.specs.Calls.{answered, formed}
 use Rattle.bench_program.specs.Single.{formedInTurn}
 use Rattle.host.specs.declared.Host.{Host}

@@ -8,10 +8,11 @@ use lib.ListN.{length, getD, take}
 use lib.Seq.{length-take-le}
 use lib.Dec.{eqb}
 use borrow.Author.Tests.{eqb-true}
-use Rattle.area.specs.Pick.{both}
-use Rattle.area.specs.Area.{part, put, zeros, tab}
+use Rattle.lists.specs.Pick.{both}
+use Rattle.lists.specs.Tab.{tab}
+use Rattle.lists.proofs.Laws.Pick.{both-left, both-right}
+use Rattle.area.specs.Area.{part, put, zeros}
 use Rattle.area.specs.Little.{valueOf, bytesOf}
-use Rattle.area.proofs.Laws.Pick.{both-left, both-right}
 use Rattle.area.proofs.Laws.Parts.{part-one, part-add}
 use Rattle.area.proofs.Laws.Puts.{put-nil, put-all}
 use Rattle.blake2b.specs.Compression.{words}

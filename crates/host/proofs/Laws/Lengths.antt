@@ -1,21 +1,18 @@
 -- The lengths of the arrays in declared structs, from what a function is told of a parameter. Assumes nothing.
-use mathlib.Core.Path.{_≡_, sym, _∙_}
-use mathlib.Core.List.{List, map}
-use Prim.Native.Nat.{ℕ}
-use lib.ListN.{length, length-map}
+use mathlib.Core.Path.{_≡_}
+use mathlib.Core.List.{List}
+use lib.ListN.{length}
 use mir.Val.{Val}
 use denote.Laws.{Is}
 use denote.Struct.Declared.{row}
-use denote.Struct.Field.{Field, u8-field}
+use denote.Struct.Field.{u8-field}
+use Rattle.sia.proofs.Laws.Known.{long}
 use Rattle.host.specs.declared.Place.{Place}
 use Rattle.host.specs.declared.slots.Slots.{Slots}
 use Rattle.host.specs.declared.Host.{Host}
 use Rattle.host.proofs.Host as host
 use Rattle.host.proofs.Place as place
 use Rattle.host.proofs.slots.Slots as slots
-
-long : (F : Field) (l : List (F .Value)) {n : ℕ} → length (map (F .into) l) ≡ n → length l ≡ n
-long F l e = sym (length-map l (F .into)) ∙ e
 
 -- 64 entries for slots
 pub placed : (p : Place) (vs : List Val) → Is (row place.the-type) p vs → length (p .slots) ≡ 64

@@ -4,7 +4,7 @@ use mathlib.Core.Bool.{true, not}
 use mathlib.Core.List.{List}
 use Prim.Native.Nat.{ℕ, _≤_}
 use borrow.Author.Tests.{leb-true, le-leb, eqb-true, eq-eqb}
-use Rattle.area.proofs.Laws.Pick.{picks, skips, by, both-join, both-left, both-right}
+use Rattle.lists.proofs.Laws.Pick.{picks, skips, by, both-join, both-left, both-right}
 use Rattle.host.specs.Order.{lent, placesInOrder, stagedInOrder, termsInOrder, progressInOrder, programInOrder, inOrder}
 use Rattle.host.specs.Facts.{Contracts, Staged, Agreed, Orderly, Running, Order}
 use Rattle.host.specs.declared.Place.{Place}
@@ -130,3 +130,7 @@ facts-order h o =
     (by (h .program .active)
     (λ a. skips (not (h .program .active)) true _ (ap not a) ∙ facts-program _ _ _ _ _ (o .running a))
     (λ a. picks (not (h .program .active)) true _ (ap not a))))))
+
+-- no more has come than the head says
+pub came-within : (h : Host) → inOrder h ≡ true → h .program .active ≡ true → h .program .came ≤ h .program .terms .head .length
+came-within h o live = order-facts h o .running live .came

@@ -6,11 +6,11 @@ use Prim.Native.Nat.{ℕ, _+_, _≤_, _<_}
 use native.Mathlib.Omega.{arith}
 use lib.ListN.{length, getD}
 use lib.Seq.{slice}
-use Rattle.area.proofs.Laws.Pick.{yes, no}
+use Rattle.lists.proofs.Laws.Pick.{yes, no}
+use Rattle.lists.proofs.Laws.Slices.{slice-none, slice-one}
 use Rattle.host.specs.Empty.{noPlace}
 use Rattle.host.specs.Places.{hasId, whose}
 use Rattle.host.specs.declared.Place.{Place}
-use Rattle.host.proofs.Laws.Slices.{slice-none, slice-one}
 
 -- what code reads past the end of an array of places
 abbrev pub blank : Place

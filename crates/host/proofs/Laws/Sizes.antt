@@ -7,8 +7,8 @@ use native.Mathlib.Omega.{arith}
 use lib.Dec.{ltb, eqb}
 use lib.Pow.{pow-add}
 use borrow.Author.Tests.{ltb-true, ltb-false, eqb-true, eqb-false, eq-eqb, ne-eqb}
+use Rattle.lists.proofs.Laws.Pick.{by, never, picks, skips}
 use Rattle.area.specs.Slots.{Size}
-use Rattle.area.proofs.Laws.Pick.{by, never, picks, skips}
 use Rattle.host.specs.Sizes.{doubled, isSize}
 
 size-is : (z d : ℕ) → d ≤ 10 → z ≡ 4096 * 2 ^ d → Size z

@@ -7,11 +7,11 @@ use native.Mathlib.Numerals.{add-one}
 use native.Mathlib.Omega.{arith}
 use lib.ListN.{length, take, getD, set}
 use lib.Seq.{take-suc, take-suc-set}
-use Rattle.area.proofs.Laws.Pick.{yes, no}
+use Rattle.lists.proofs.Laws.Pick.{yes, no}
+use Rattle.lists.proofs.Laws.Slices.{take-min}
 use Rattle.sia.specs.Encode.{joined}
 use Rattle.host.specs.Places.{committed, taken}
 use Rattle.host.specs.declared.Place.{Place}
-use Rattle.host.proofs.Laws.Slices.{take-min}
 
 -- one entry more behind what is listed
 pub grown : (items l base : List ℕ) (count i k : ℕ) {m n : ℕ} → length items ≡ m → length l ≡ n → count < m → i < n → k ≡ count + 1

@@ -1,4 +1,4 @@
--- Sums tested by what is left, so that none can wrap; and the sizes of the other contracts, place by place. Assumes nothing.
+-- The sizes of the other contracts, place by place, against what is left of a limit. Assumes nothing.
 use mathlib.Core.Path.{_≡_, sym, ap, _∙_}
 use mathlib.Core.Bool.{true, false}
 use mathlib.Core.List.{List}
@@ -7,25 +7,12 @@ use native.Mathlib.Omega.{arith}
 use lib.ListN.{length, getD}
 use lib.Seq.{slice}
 use lib.Dec.{leb}
-use borrow.Author.Tests.{leb-true, leb-false, le-leb, lt-leb}
-use Rattle.area.proofs.Laws.Pick.{by}
-use Rattle.host.specs.Lists.{each, sum}
+use borrow.Author.Tests.{le-leb}
+use Rattle.lists.specs.Tests.{each, sum}
+use Rattle.lists.proofs.Laws.Slices.{slice-none, slice-one, slice-all}
+use Rattle.lists.proofs.Laws.Sums.{above, left-over}
 use Rattle.host.specs.Places.{ownSize, others}
 use Rattle.host.specs.declared.Place.{Place}
-use Rattle.host.proofs.Laws.Slices.{slice-none, slice-one, slice-all}
-
--- one of two parts is above the limit by itself
-pub above-first : (limit s o : ℕ) → limit < s → false ≡ leb (s + o) limit
-above-first limit s o h = sym (lt-leb (s + o) limit (omega arith))
-
-pub above : (limit o s : ℕ) → limit < o → false ≡ leb (s + o) limit
-above limit o s h = sym (lt-leb (s + o) limit (omega arith))
-
--- the rest of the sum against the rest of the limit
-pub left-over : (limit o s : ℕ) → o ≤ limit → leb s (limit - o) ≡ leb (s + o) limit
-left-over limit o s h = by (leb s (limit - o))
-    (λ u. u ∙ sym (le-leb (s + o) limit (omega (arith, leb-true s (limit - o) u))))
-    (λ u. u ∙ sym (lt-leb (s + o) limit (omega (arith, leb-false s (limit - o) u))))
 
 module _ (id : List ℕ) (l : List Place) (f n : ℕ) (long : length l ≡ n) where
   others-one : (d : Place) → f < n → others id (slice f n l) ≡ others id (slice (f + 1) n l) + ownSize id (getD l f d)

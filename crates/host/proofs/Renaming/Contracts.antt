@@ -3,8 +3,9 @@ use mathlib.Core.Path.{_≡_, refl, sym, ap, _∙_}
 use mathlib.Core.Bool.{not}
 use mathlib.Core.List.{List, [], _∷_}
 use Prim.Native.Nat.{ℕ}
-use Rattle.area.specs.Pick.{pick, either}
-use Rattle.host.specs.Lists.{some, each}
+use Rattle.lists.specs.Pick.{pick, either}
+use Rattle.lists.specs.Tests.{some, each}
+use Rattle.lists.proofs.Laws.Ways.{down}
 use Rattle.host.specs.Empty.{noPlace, newPlace}
 use Rattle.host.specs.With.{withPlaces}
 use Rattle.host.specs.Places.{whose}
@@ -14,7 +15,6 @@ use Rattle.host.proofs.Renaming.Places.{allAs, word-as, whose-as, repla
 use Rattle.host.specs.declared.Place.{Place}
 use Rattle.host.specs.declared.Host.{Host}
 use Rattle.host.specs.declared.Made.{Made}
-use Rattle.host.proofs.Laws.Ways.{down}
 
 module _ (r : List ℕ → List ℕ) (new : Renaming r) where
   -- ---- what a call looks at

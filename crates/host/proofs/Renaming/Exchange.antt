@@ -4,8 +4,8 @@ use mathlib.Core.Bool.{true, false}
 use mathlib.Core.List.{List}
 use Prim.Native.Nat.{ℕ}
 use lib.ListN.{length}
+use Rattle.lists.proofs.Laws.Pick.{by, picks, skips, never}
 use Rattle.area.specs.Area.{same}
-use Rattle.area.proofs.Laws.Pick.{by, picks, skips, never}
 use Rattle.area.proofs.Laws.Same.{same-refl, same-eq, eq-same}
 use Rattle.sia.specs.Names.{readOnly}
 use Rattle.host.specs.Renaming.{Renaming, exchanged}

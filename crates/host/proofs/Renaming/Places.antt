@@ -6,12 +6,12 @@ use mathlib.Core.List.{List, [], _∷_, _++_}
 use Prim.Native.Nat.{ℕ, _+_, _/_, _%_}
 use lib.ListN.{length}
 use lib.Dec.{leb, ltb, eqb}
-use Rattle.area.specs.Pick.{pick, both, either}
+use Rattle.lists.specs.Pick.{pick, both, either}
+use Rattle.lists.specs.Tests.{every, some, each, apart, sum}
+use Rattle.lists.proofs.Laws.Pick.{by, picks, skips}
 use Rattle.area.specs.Area.{same}
-use Rattle.area.proofs.Laws.Pick.{by, picks, skips}
 use Rattle.sia.specs.Names.{readOnly}
-use Rattle.sia.specs.Encode.{every, joined, within}
-use Rattle.host.specs.Lists.{some, each, apart, sum}
+use Rattle.sia.specs.Encode.{joined, within}
 use Rattle.host.specs.Empty.{noPlace}
 use Rattle.host.specs.Places.{hasId, whose, ownSize, others, committed, taken}
 use Rattle.host.specs.Sizes.{isSize}

@@ -1,7 +1,7 @@
 -- `host::lent` meets its contract. Assumes nothing.
 use mathlib.Core.Path.{refl}
 use borrow.Author.Tests.{le-leb, lt-leb}
-use Rattle.area.proofs.Laws.Pick.{yes, no}
+use Rattle.lists.proofs.Laws.Pick.{yes, no}
 use Rattle.host.specs.Order.{lent}
 use Rattle.host.proofs.lent.Statement.{statement}
 use Rattle.host.proofs.lent.Tie as tie

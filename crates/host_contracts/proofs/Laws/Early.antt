@@ -3,9 +3,9 @@ use mathlib.Core.Path.{_≡_, sym, ap, _∙_}
 use mathlib.Core.Bool.{Bool, false, not}
 use mathlib.Core.List.{List}
 use Prim.Native.Nat.{ℕ}
-use Rattle.area.specs.Pick.{pick}
+use Rattle.lists.specs.Pick.{pick}
+use Rattle.lists.proofs.Laws.Pick.{no}
 use Rattle.area.specs.Area.{same}
-use Rattle.area.proofs.Laws.Pick.{no}
 use Rattle.sia.specs.Names.{readOnly}
 use Rattle.host.specs.Order.{inOrder}
 use Rattle.host.specs.Calls.{answered}

@@ -6,8 +6,8 @@ use native.Mathlib.Omega.{arith}
 use lib.ListN.{take, set}
 use lib.Seq.{slice}
 use borrow.Author.Tests.{not-true, not-false}
+use Rattle.lists.proofs.Laws.Slices.{slice-all}
 use Rattle.host.specs.Calls.{formedAt}
-use Rattle.host.proofs.Laws.Slices.{slice-all}
 use Rattle.host.proofs.Laws.Places.{blank}
 use Rattle.host.proofs.Laws.Forming.{formed-here, formed-further, formed-done}
 use borrow.Author.Needs.{needs}

@@ -3,7 +3,7 @@ use mathlib.Core.Path.{_≡_, sym, ap, _∙_}
 use mathlib.Core.Bool.{false, not}
 use Prim.Native.Nat.{_<_}
 use borrow.Author.Tests.{not-false}
-use Rattle.area.proofs.Laws.Pick.{yes, no}
+use Rattle.lists.proofs.Laws.Pick.{yes, no}
 use Rattle.area.proofs.Laws.Slots.{some}
 use Rattle.host.specs.Sizes.{isSize}
 use Rattle.host.specs.Calls.{answered, lengthRight, freshed}

@@ -5,9 +5,9 @@ use mathlib.Core.Bool.{not}
 use Prim.Native.Nat.{_-_}
 use native.Mathlib.Omega.{arith}
 use lib.Seq.{slice}
-use Rattle.host.specs.Lists.{some}
+use Rattle.lists.specs.Tests.{some}
+use Rattle.lists.proofs.Laws.Slices.{slice-all, some-here, some-further, some-done}
 use Rattle.host.specs.declared.Place.{Place}
-use Rattle.host.proofs.Laws.Slices.{slice-all, some-here, some-further, some-done}
 use Rattle.host.proofs.Laws.Places.{blank}
 use borrow.Author.Needs.{needs}
 use Rattle.host_contracts.proofs.has_free.Statement.{statement}

@@ -1,7 +1,7 @@
 -- `host_contracts::length_right` meets its contract. Assumes nothing.
 use mathlib.Core.Path.{refl}
 use borrow.Author.Tests.{eq-eqb, ne-eqb}
-use Rattle.area.proofs.Laws.Pick.{yes, no}
+use Rattle.lists.proofs.Laws.Pick.{yes, no}
 use Rattle.host.specs.Calls.{lengthRight}
 use borrow.Author.Needs.{needs}
 use Rattle.host_contracts.proofs.length_right.Statement.{statement}

@@ -9,9 +9,9 @@ use lib.Dec.{eqb}
 use lib.ListN.{drop}
 use lib.Seq.{slice}
 use borrow.Author.Tests.{eq-eqb, ne-eqb}
-use Rattle.sia.specs.Encode.{every}
+use Rattle.lists.specs.Tests.{every}
+use Rattle.lists.proofs.Laws.Slices.{slice-all, every-stops, every-further, every-done}
 use Rattle.host.specs.Calls.{padded}
-use Rattle.host.proofs.Laws.Slices.{slice-all, every-stops, every-further, every-done}
 use borrow.Author.Needs.{needs}
 use Rattle.host_contracts.proofs.padded.Statement.{statement}
 use Rattle.host_contracts.proofs.padded.Tie as tie

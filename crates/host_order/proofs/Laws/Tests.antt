@@ -3,8 +3,8 @@
 use mathlib.Core.Path.{_≡_, refl, sym, _∙_}
 use mathlib.Core.Bool.{Bool, true, false, not}
 use borrow.Author.Tests.{not-true, not-false}
-use Rattle.area.specs.Pick.{both}
-use Rattle.area.proofs.Laws.Pick.{yes, no}
+use Rattle.lists.specs.Pick.{both}
+use Rattle.lists.proofs.Laws.Pick.{yes, no}
 
 pub on : (clause rest : Bool) {told r : Bool} → told ≡ clause → not told ≡ false → r ≡ rest → r ≡ both clause rest
 on clause rest e left = yes _ _ _ (sym e ∙ not-false _ left)

@@ -5,9 +5,9 @@ use Prim.Native.Nat.{_-_}
 use native.Mathlib.Omega.{arith}
 use lib.Seq.{slice}
 use borrow.Author.Tests.{not-true, not-false}
-use Rattle.sia.specs.Encode.{every}
+use Rattle.lists.specs.Tests.{every}
+use Rattle.lists.proofs.Laws.Slices.{slice-all, every-stops, every-further, every-done}
 use Rattle.host.specs.Order.{placeInOrder}
-use Rattle.host.proofs.Laws.Slices.{slice-all, every-stops, every-further, every-done}
 use Rattle.host.proofs.Laws.Places.{blank}
 use borrow.Author.Needs.{needs}
 use Rattle.host_order.proofs.each_in_order.Statement.{statement}

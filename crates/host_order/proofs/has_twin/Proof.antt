@@ -4,9 +4,9 @@ use mathlib.Core.Path.{_≡_, refl, sym, _∙_}
 use Prim.Native.Nat.{_-_}
 use native.Mathlib.Omega.{arith}
 use lib.Seq.{slice}
-use Rattle.host.specs.Lists.{some}
+use Rattle.lists.specs.Tests.{some}
+use Rattle.lists.proofs.Laws.Slices.{some-here, some-further, some-done}
 use Rattle.host.specs.Order.{twins}
-use Rattle.host.proofs.Laws.Slices.{some-here, some-further, some-done}
 use Rattle.host.proofs.Laws.Places.{blank}
 use borrow.Author.Needs.{needs}
 use Rattle.host_order.proofs.has_twin.Statement.{statement}

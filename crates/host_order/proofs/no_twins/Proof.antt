@@ -7,11 +7,11 @@ use Prim.Native.Nat.{_-_}
 use native.Mathlib.Omega.{arith}
 use lib.Seq.{slice}
 use borrow.Author.Tests.{not-true}
-use Rattle.area.proofs.Laws.Pick.{both-not-left, either-join}
-use Rattle.host.specs.Lists.{some, apart}
+use Rattle.lists.specs.Tests.{some, apart}
+use Rattle.lists.proofs.Laws.Pick.{both-not-left, either-join}
+use Rattle.lists.proofs.Laws.Slices.{slice-all, apart-stops, apart-further, apart-done}
 use Rattle.host.specs.Order.{twins}
 use Rattle.host.specs.declared.Place.{Place}
-use Rattle.host.proofs.Laws.Slices.{slice-all, apart-stops, apart-further, apart-done}
 use Rattle.host.proofs.Laws.Places.{blank}
 use borrow.Author.Needs.{needs}
 use Rattle.host_order.proofs.no_twins.Statement.{statement}

@@ -1,6 +1,6 @@
 -- `host_order::owed` meets its contract. Assumes nothing.
 use mathlib.Core.Path.{refl}
-use Rattle.area.proofs.Laws.Pick.{yes, no}
+use Rattle.lists.proofs.Laws.Pick.{yes, no}
 use Rattle.host_order.proofs.owed.Statement.{statement}
 use Rattle.host_order.proofs.owed.Tie as tie
 

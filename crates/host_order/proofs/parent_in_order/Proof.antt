@@ -1,6 +1,6 @@
 -- `host_order::parent_in_order` meets its contract. Assumes nothing.
 use mathlib.Core.Path.{refl, sym, ap, _∙_}
-use Rattle.area.proofs.Laws.Pick.{yes, no}
+use Rattle.lists.proofs.Laws.Pick.{yes, no}
 use Rattle.host.specs.Order.{parentInOrder}
 use Rattle.host.specs.declared.Place.{Place}
 use borrow.Author.Needs.{needs}

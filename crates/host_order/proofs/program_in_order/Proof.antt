@@ -1,7 +1,7 @@
 -- `host_order::program_in_order` meets its contract: a walk down the definition. Assumes nothing.
 use mathlib.Core.Path.{refl, sym, _∙_}
 use borrow.Author.Tests.{not-true, not-false, le-leb, lt-leb}
-use Rattle.area.proofs.Laws.Pick.{yes, no}
+use Rattle.lists.proofs.Laws.Pick.{yes, no}
 use Rattle.host.specs.Order.{programInOrder}
 use borrow.Author.Needs.{needs}
 use Rattle.host_order.proofs.program_in_order.Statement.{statement}

@@ -6,8 +6,8 @@ use native.Mathlib.Nat.{mul-le-mul}
 use native.Mathlib.Omega.{arith}
 use lib.Dec.{leb}
 use borrow.Author.Tests.{eq-eqb, ne-eqb, le-leb, lt-leb}
-use Rattle.area.specs.Pick.{pick, both}
-use Rattle.area.proofs.Laws.Pick.{yes, no}
+use Rattle.lists.specs.Pick.{pick, both}
+use Rattle.lists.proofs.Laws.Pick.{yes, no}
 use Rattle.area.proofs.Laws.Slots.{some}
 use Rattle.host.specs.Order.{stagedInOrder, progressInOrder}
 use Rattle.host.specs.declared.Place.{Place}

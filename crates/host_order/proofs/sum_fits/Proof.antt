@@ -1,5 +1,5 @@
 -- `host_order::sum_fits` meets its contract: the one part is tested against what the other leaves of the limit. Assumes nothing.
-use Rattle.host.proofs.Laws.Sums.{above, left-over}
+use Rattle.lists.proofs.Laws.Sums.{above, left-over}
 use Rattle.host_order.proofs.sum_fits.Statement.{statement}
 use Rattle.host_order.proofs.sum_fits.Tie as tie
 

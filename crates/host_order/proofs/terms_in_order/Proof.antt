@@ -1,7 +1,7 @@
 -- `host_order::terms_in_order` meets its contract: a walk down the definition. Assumes nothing.
 use mathlib.Core.Path.{refl}
 use borrow.Author.Tests.{le-leb, lt-leb}
-use Rattle.area.proofs.Laws.Pick.{yes, no}
+use Rattle.lists.proofs.Laws.Pick.{yes, no}
 use Rattle.host.specs.Order.{termsInOrder}
 use borrow.Author.Needs.{needs}
 use Rattle.host_order.proofs.Laws.Tests.{on, off}

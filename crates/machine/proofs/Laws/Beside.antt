@@ -7,10 +7,11 @@ use native.Mathlib.Omega.{arith}
 use lib.ListN.{length, getD}
 use lib.Dec.{ltb, eqb}
 use borrow.Author.Tests.{ltb-true, eqb-true, ne-eqb}
-use Rattle.area.specs.Pick.{both}
+use Rattle.lists.specs.Pick.{both}
+use Rattle.lists.specs.Tests.{every}
+use Rattle.lists.proofs.Laws.Pick.{skips, both-left, both-right, both-join}
+use Rattle.lists.proofs.Laws.Every.{every-get}
 use Rattle.area.specs.Area.{same}
-use Rattle.area.proofs.Laws.Pick.{skips, both-left, both-right, both-join}
-use Rattle.sia.specs.Encode.{every}
 use Rattle.host.specs.Empty.{none}
 use Rattle.host.specs.Places.{taken}
 use Rattle.host.specs.Order.{slotInOrder, inOrder}
@@ -18,7 +19,6 @@ use Rattle.host.proofs.Laws.Order.{order-facts}
 use Rattle.machine_rules.specs.View.{sector, diskRight, areasRight}
 use Rattle.machine_rules.specs.Roots.{sectorRoot, keptRoot}
 use Rattle.machine_rules.specs.Sound.{right, stagedRight}
-use Rattle.machine_rules.proofs.Laws.Spots.{every-get}
 use Rattle.machine_rules.proofs.Laws.Staged.{slot-below}
 use Rattle.machine_sight.specs.Seen.{holds}
 use Rattle.machine_sight.proofs.Callers.{slots-hold}

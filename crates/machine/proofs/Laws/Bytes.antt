@@ -1,14 +1,15 @@
 -- What stage slots hold copied back, position by position. Slots have z bytes. Assumes nothing.
-use mathlib.Core.Path.{_≡_, refl, sym, ap, _∙_, subst}
+use mathlib.Core.Path.{_≡_, sym, ap, _∙_, subst}
 use mathlib.Core.Bool.{true, false}
-use mathlib.Core.List.{List, [], _∷_}
-use Prim.Native.Nat.{ℕ, zero, suc, _+_, _-_, _*_, _≤_, _<_}
+use mathlib.Core.List.{List}
+use Prim.Native.Nat.{ℕ, suc, _+_, _-_, _*_, _≤_, _<_}
 use native.Mathlib.Numerals.{add-one}
 use native.Mathlib.Omega.{arith}
 use lib.ListN.{length, getD}
 use lib.Dec.{eqb}
+use Rattle.lists.proofs.Laws.Pick.{by, picks, skips}
+use Rattle.lists.proofs.Laws.Entries.{any-default}
 use Rattle.area.specs.Area.{part, put}
-use Rattle.area.proofs.Laws.Pick.{by, picks, skips}
 use Rattle.area.proofs.Laws.Puts.{length-put}
 use Rattle.host.specs.Empty.{none}
 use Rattle.machine_rules.specs.Commit.{copiedBack}
@@ -34,15 +35,9 @@ length-laid z stage from to disk =
 
 -- ---- all of them
 
--- an entry that there is, whatever stands for one that is not
-entry : (l : List ℕ) (i d e : ℕ) → i < length l → getD l i d ≡ getD l i e
-entry [] i d e h = absurd (omega arith)
-entry (x ∷ xs) zero d e h = refl
-entry (x ∷ xs) (suc i) d e h = entry xs i d e (omega arith)
-
 module _ (z : ℕ) (stage staged slots : List ℕ) (n i : ℕ) (known : length staged ≡ 64) (few : n ≤ 64) where
   same-entry : i < n → getD staged i none ≡ getD staged i 0
-  same-entry h = entry staged i none 0 (omega arith)
+  same-entry h = any-default staged i none 0 (omega arith)
 
   -- the slots of the next position lie within the areas, which stay as long as they were
   pub next-lies : (old disk : List ℕ) → i < n → Back z stage staged slots n old → length disk ≡ length old

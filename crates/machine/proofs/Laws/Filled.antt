@@ -5,17 +5,15 @@ use mathlib.Core.List.{List, [], _∷_, _++_, append-assoc}
 use Prim.Native.Nat.{ℕ, zero, suc, _+_, _-_, _/_, _≤_, min}
 use native.Mathlib.Omega.{arith}
 use lib.ListN.{length, take, length-take, length-append}
+use Rattle.lists.proofs.Laws.Pick.{by, picks, skips}
 use Rattle.area.specs.Area.{put, zeros}
-use Rattle.area.proofs.Laws.Pick.{by, picks, skips}
+use Rattle.area.proofs.Laws.Puts.{cons}
 use Rattle.host.specs.Places.{committed, taken}
 use Rattle.host.specs.Calls.{replaced}
 use Rattle.machine_rules.specs.Commit.{cut, newSlots, finalSlots}
 use Rattle.host.specs.declared.Place.{Place}
 use Rattle.machine.specs.Marks.{marksOf, newFrom, filled}
 use Rattle.machine.proofs.Laws.Marks.{marks-told, new-told, length-new}
-
-cons : (x : ℕ) {l m : List ℕ} → l ≡ m → x ∷ l ≡ x ∷ m
-cons x e = ap (λ (l : List ℕ). x ∷ l) e
 
 -- ---- laid over zeros
 

@@ -2,14 +2,13 @@
 use mathlib.Core.Path.{_≡_, refl, sym, ap, ap₂, _∙_}
 use mathlib.Core.Bool.{Bool, true, false, not}
 use mathlib.Core.List.{List, []}
-use Prim.Native.Nat.{ℕ, _+_, _-_, _≤_}
+use Prim.Native.Nat.{ℕ, _+_, _≤_}
 use native.Mathlib.Omega.{arith}
 use lib.ListN.{length}
-use lib.Dec.{ltb}
-use borrow.Author.Tests.{leb-true, not-true, not-false, eqb-true, lt-ltb, le-ltb, ltb-true, ltb-false}
-use Rattle.area.specs.Pick.{pick, both}
+use borrow.Author.Tests.{leb-true, not-true, not-false, eqb-true}
+use Rattle.lists.specs.Pick.{pick, both}
+use Rattle.lists.proofs.Laws.Pick.{picks, skips, both-left, both-right, both-join, both-not-left}
 use Rattle.area.specs.Area.{put}
-use Rattle.area.proofs.Laws.Pick.{by, picks, skips, both-left, both-right, both-join, both-not-left}
 use Rattle.sia.specs.Encode.{within}
 use Rattle.host.specs.Order.{inOrder}
 use Rattle.host.proofs.Laws.Order.{order-facts}
@@ -46,13 +45,6 @@ unfolding pick
 wrong-second true one two e = ap (λ (b : Bool). not b) (sym (picks one two false (not-false _ e)))
 wrong-second false one two e = refl
 
--- what is left of a limit against a sum
-pub rest-less : (limit one n : ℕ) → one ≤ limit → ltb (limit - one) n ≡ ltb limit (one + n)
-rest-less limit one n h =
-    by (ltb (limit - one) n)
-    (λ e. e ∙ sym (lt-ltb limit (one + n) (omega (arith, ltb-true (limit - one) n e))))
-    (λ e. e ∙ sym (le-ltb limit (one + n) (omega (arith, ltb-false (limit - one) n e))))
-
 pub input-long : (h : Host) (input : List ℕ) → inputRight h input ≡ true → length input ≡ h .program .terms .head .length
 unfolding inputRight
 input-long h input e = eqb-true _ _ e
@@ -85,6 +77,3 @@ reached-any h disk stage =
 pub declared-most : (h : Host) → inOrder h ≡ true → h .program .active ≡ true → h .program .terms .head .length ≤ 65536
 unfolding within
 declared-most h o live = leb-true _ _ (both-left _ _ (both-right _ _ (order-facts h o .running live .terms .head)))
-
-pub came-within : (h : Host) → inOrder h ≡ true → h .program .active ≡ true → h .program .came ≤ h .program .terms .head .length
-came-within h o live = order-facts h o .running live .came

@@ -8,12 +8,14 @@ use lib.ListN.{length, getD, set, length-set, length-replicate, getD-replicate}
 use lib.Seq.{getD-set-same, getD-set-other, ext-getD}
 use lib.Dec.{eqb}
 use borrow.Author.Tests.{eqb-true, eqb-false}
-use Rattle.area.specs.Pick.{pick, either}
+use Rattle.lists.specs.Pick.{pick, either}
+use Rattle.lists.specs.Tests.{some, unused}
+use Rattle.lists.specs.Lowest.{lowest}
+use Rattle.lists.proofs.Laws.Pick.{by, picks, skips}
+use Rattle.lists.proofs.Laws.Tab.{length-tab, getD-tab}
+use Rattle.lists.proofs.Laws.Some.{some-moved}
+use Rattle.lists.proofs.Laws.Lowest.{lowest-alike}
 use Rattle.area.specs.Area.{zeros}
-use Rattle.area.specs.Lowest.{lowest}
-use Rattle.area.proofs.Laws.Pick.{by, picks, skips}
-use Rattle.area.proofs.Laws.Tab.{length-tab, getD-tab}
-use Rattle.host.specs.Lists.{some, unused}
 use Rattle.machine_rules.specs.Commit.{newSlots}
 use Rattle.machine.specs.Marks.{flag, marksOf, unmarked, newFrom}
 
@@ -62,17 +64,6 @@ tells-swap : (flags a b : List ℕ) → ((j : ℕ) → some (eqb j) a ≡ some (
 unfolding flag
 tells-swap flags a b e t = record { long = t .long; same = λ j h. t .same j h ∙ ap (λ (c : Bool). pick {A = ℕ} c 1 0) (e j) }
 
-either-swap : (a b c : Bool) → either a (either b c) ≡ either b (either a c)
-unfolding pick
-either-swap true true c = refl
-either-swap true false c = refl
-either-swap false b c = refl
-
-some-moved : (x : ℕ) (l m : List ℕ) (j : ℕ) → some (eqb j) (l ++ (x ∷ m)) ≡ some (eqb j) (x ∷ (l ++ m))
-unfolding some
-some-moved x [] m j = refl
-some-moved x (y ∷ l) m j = ap (either (eqb j y)) (some-moved x l m j) ∙ either-swap (eqb j y) (eqb j x) (some (eqb j) (l ++ m))
-
 -- ---- marks that are laid one after another
 
 unfoldable pub marks : List ℕ → List ℕ → List ℕ
@@ -99,17 +90,10 @@ unfolding pick
 flag-not true = refl
 flag-not false = refl
 
-alike : (p q : ℕ → Bool) (i n : ℕ) → ((j : ℕ) → i ≤ j → j < i + n → p j ≡ q j) → lowest p i n ≡ lowest q i n
-unfolding lowest
-alike p q i zero h = refl
-alike p q i (suc n) h =
-    ap (λ (b : Bool). pick b i (lowest p (suc i) n)) (h i (omega arith) (omega arith))
-    ∙ ap (pick (q i) i) (alike p q (suc i) n (λ j lo hi. h j (omega arith) (omega arith)))
-
 lowest-told : (disk : ℕ) (flags used : List ℕ) → disk ≤ 64 → Tells flags used → lowest (unmarked flags) 0 disk ≡ lowest (unused used) 0 disk
 unfolding flag
 lowest-told disk flags used few t =
-    alike (unmarked flags) (unused used) 0 disk (λ j lo hi. ap (λ (v : ℕ). eqb v 0) (t .same j (omega arith)) ∙ flag-not (some (eqb j) used))
+    lowest-alike (unmarked flags) (unused used) 0 disk (λ j lo hi. ap (λ (v : ℕ). eqb v 0) (t .same j (omega arith)) ∙ flag-not (some (eqb j) used))
 
 -- ---- new slots
 

@@ -3,9 +3,9 @@ use mathlib.Core.Path.{_≡_, sym}
 use mathlib.Core.Bool.{true, false}
 use Prim.Native.Nat.{_*_}
 use lib.ListN.{length}
-use Rattle.area.specs.Pick.{pick}
+use Rattle.lists.specs.Pick.{pick}
+use Rattle.lists.proofs.Laws.Pick.{picks, skips}
 use Rattle.area.specs.Area.{same, zeros}
-use Rattle.area.proofs.Laws.Pick.{picks, skips}
 use Rattle.sia.specs.Names.{readOnly}
 use Rattle.host.specs.Places.{hasId}
 use Rattle.host.specs.Order.{inOrder}

@@ -5,10 +5,10 @@ use Prim.Native.Nat.{ℕ, suc, _+_, _-_, _≤_, _<_}
 use native.Mathlib.Omega.{arith}
 use lib.ListN.{length, getD, set}
 use lib.Seq.{slice}
+use Rattle.lists.specs.Lowest.{lowest}
+use Rattle.lists.proofs.Laws.Slices.{slice-none, slice-one}
 use Rattle.area.specs.Area.{put}
-use Rattle.area.specs.Lowest.{lowest}
 use Rattle.area.proofs.Laws.Puts.{set-put, put-append, put-nil}
-use Rattle.host.proofs.Laws.Slices.{slice-none, slice-one}
 use Rattle.machine.specs.Marks.{unmarked, newFrom}
 use Rattle.machine.proofs.Laws.Marks.{marks}
 

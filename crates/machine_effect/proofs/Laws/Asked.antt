@@ -6,8 +6,8 @@ use native.Mathlib.Omega.{arith}
 use lib.ListN.{length, getD}
 use lib.Dec.{ltb, eqb}
 use borrow.Author.Tests.{lt-ltb, eqb-true}
-use Rattle.area.specs.Pick.{pick}
-use Rattle.area.proofs.Laws.Pick.{by, picks, skips}
+use Rattle.lists.specs.Pick.{pick}
+use Rattle.lists.proofs.Laws.Pick.{by, picks, skips}
 use Rattle.host.specs.Empty.{none}
 use Rattle.machine_rules.specs.declared.Args.{Args}
 use Rattle.machine_rules.specs.Plan.{touched}

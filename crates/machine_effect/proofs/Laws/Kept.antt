@@ -10,8 +10,9 @@ use lib.ListN.{length, getD, set}
 use lib.Seq.{getD-set-same, getD-set-other}
 use lib.Dec.{eqb}
 use borrow.Author.Tests.{eqb-true, eqb-false, ne-eqb, ltb-true}
+use Rattle.lists.proofs.Laws.Pick.{by, never, either-second}
+use Rattle.lists.proofs.Laws.Every.{every-set, every-at}
 use Rattle.area.specs.Area.{part, put}
-use Rattle.area.proofs.Laws.Pick.{by, never}
 use Rattle.area.proofs.Laws.Parts.{length-part}
 use Rattle.area.proofs.Laws.Puts.{length-put, part-put}
 use Rattle.area.proofs.Laws.Exchange.{part-away, put-away}
@@ -20,10 +21,8 @@ use Rattle.host.specs.Empty.{none}
 use Rattle.host.specs.Places.{freeCopy}
 use Rattle.host.specs.Order.{slotInOrder}
 use Rattle.machine_rules.specs.Effect.{Ground, Staging, newCopy, sectorAt, copied, laid}
-use Rattle.machine_rules.proofs.Laws.Lists.{every-set}
 use Rattle.machine_rules.proofs.Laws.Staged.{slot-none, slot-below}
 use Rattle.machine_rules.proofs.Laws.Effects.{free-slot}
-use Rattle.machine_rules.proofs.Laws.Spots.{every-at, either-second}
 use Rattle.machine_effect.specs.Asks.{bare, Lent, Free, Lies, Room}
 use Rattle.machine_effect.proofs.Laws.Slots.{New, new-slot}
 use Rattle.machine_effect.proofs.Laws.Copies.{onDisk, reads-disk, reads-stage, copied-new, copied-old}

@@ -2,16 +2,16 @@
 use mathlib.Core.Path.{_≡_, sym, ap, _∙_, subst}
 use mathlib.Core.Bool.{true, false}
 use mathlib.Core.List.{List, [], _∷_}
-use Prim.Native.Nat.{ℕ, _+_, _*_, _/_, _%_, _≤_, _<_}
-use native.Mathlib.Nat.{div-lt-iff-lt-mul, mul-le-mul-right, le-of-mul-le-mul-right}
+use Prim.Native.Nat.{ℕ, _+_, _*_, _/_, _≤_, _<_}
+use native.Mathlib.Nat.{div-lt-iff-lt-mul, mul-le-mul-right}
 use native.Mathlib.Omega.{arith}
 use lib.ListN.{length, getD}
 use lib.Dec.{ltb, eqb}
-use borrow.Author.Tests.{ltb-true, ltb-false, lt-ltb}
-use Rattle.area.specs.Pick.{pick}
-use Rattle.area.proofs.Laws.Pick.{picks, either-left, either-right}
+use borrow.Author.Tests.{ltb-true, lt-ltb}
+use Rattle.lists.specs.Pick.{pick}
+use Rattle.lists.specs.Tests.{those, count, unused}
+use Rattle.lists.proofs.Laws.Pick.{picks, either-left, either-right}
 use Rattle.area.proofs.Laws.Slots.{slot-ends, some}
-use Rattle.host.specs.Lists.{those, count, unused}
 use Rattle.host.specs.Empty.{none}
 use Rattle.host.specs.Places.{whose}
 use Rattle.machine_rules.specs.View.{Setting, parent, freeCopies}
@@ -19,9 +19,10 @@ use Rattle.machine_rules.specs.declared.Args.{Args}
 use Rattle.machine_rules.specs.Plan.{badSpan, badSpans, touched, wanted, newSize}
 use Rattle.machine_rules.specs.Facts.{Good, Solid}
 use Rattle.machine_rules.specs.Effect.{groundOf, Staging, copied, effect}
-use Rattle.machine_rules.proofs.Laws.Effects.{Passed, neither, whole-sectors, sector-below, asks, asks-some, asks-two, copied-map, wanted-one}
+use Rattle.machine_rules.proofs.Laws.Effects.{Passed, sector-below, asks, asks-some, asks-two, copied-map, wanted-one, few-sectors}
 use Rattle.machine_rules.proofs.Laws.Effects.{swap-asks, span-in, past-first}
 use Rattle.machine_rules.proofs.Laws.Spots.{unstaged, committed-slot}
+use Rattle.machine_rules.proofs.Laws.Wrote.{span-few}
 use Rattle.sia.specs.declared.Op.{Op}
 use Rattle.sia.specs.declared.Op.the-variants.{Write, Copy, Swap, Truncate}
 use Rattle.host.specs.declared.Progress.{Progress}
@@ -30,11 +31,6 @@ use Rattle.machine_effect.specs.Parts.{ground, staging, args}
 use Rattle.machine_effect.specs.Asks.{bare, Lent, Lies, From, Over, Two, Sized, Stands}
 use Rattle.machine_effect.proofs.Laws.Kept.{lies-copied}
 use Rattle.machine_effect.proofs.Laws.Cases.{effect-args, effect-data}
-
--- what `badSpan` rules out
-span-within : (z size at n : ℕ) → badSpan z size at n ≡ false → at % z + n ≤ z
-unfolding badSpan
-span-within z size at n e = ltb-false _ _ (neither _ _ (neither _ _ e .1) .1)
 
 -- a position that asks for a slot and gets one
 asked : (copies : ℕ) (g : Staging) (p : ℕ) → asks (g .staged) p ≤ count (unused (g .staged)) 0 copies → bare p g ≡ true
@@ -48,9 +44,7 @@ module _ (z : ℕ) (s : Setting) (p : Progress) (bytes : List ℕ) (good : Good 
   most = mul-le-mul-right {m = s .sectors} {n = 64} z (solid .lent .most)
 
   sectors : p .size / z ≤ 64
-  sectors =
-      le-of-mul-le-mul-right {m = p .size / z} {n = 64} {k = z}
-      (omega (arith, whole-sectors z (p .size) (good .orderly .whole), good .orderly .within, most)) (some z (solid .lent .size))
+  sectors = few-sectors z s p (solid .lent) good
 
   -- a position whose byte is below a size that fits the disk
   below : (at size : ℕ) → at < size → size ≤ s .sectors * z → at / z < 64
@@ -74,14 +68,14 @@ module _ (z : ℕ) (s : Setting) (p : Progress) (bytes : List ℕ) (good : Good 
       }
 
   source : (at n : ℕ) → badSpan z (p .size) at n ≡ false → From z (groundOf s) (staging (p .staged) bytes) at n
-  source at n h = record { lies = lies at (span-in z (p .size) at n h); within = span-within z (p .size) at n h }
+  source at n h = record { lies = lies at (span-in z (p .size) at n h); within = span-few z (p .size) at n h }
 
   over : (at n : ℕ) → badSpan z (p .size) at n ≡ false → asks (p .staged) (at / z) ≤ freeCopies s p → Over z (groundOf s) (staging (p .staged) bytes) at n
   unfolding freeCopies
   over at n h free =
       record {
         room = record { lies = lies at (span-in z (p .size) at n h); free = asked (s .copies) (staging (p .staged) bytes) (at / z) free };
-        within = span-within z (p .size) at n h;
+        within = span-few z (p .size) at n h;
       }
 
   spans : (one two n : ℕ) → badSpan z (p .size) one n ≡ false → badSpan z (p .size) two n ≡ false
@@ -102,7 +96,7 @@ module _ (z : ℕ) (s : Setting) (p : Progress) (bytes : List ℕ) (good : Good 
             free = asked (s .copies) (copied z (groundOf s) (two / z) g) (one / z)
                 (subst (λ (m : List ℕ). asks m (one / z) ≤ count (unused m) 0 (s .copies)) (sym map) (both .1));
           };
-          within = span-within z (p .size) one n h;
+          within = span-few z (p .size) one n h;
         };
       }
 

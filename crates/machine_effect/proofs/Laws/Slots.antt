@@ -1,5 +1,5 @@
 -- Slots of the stage: where they begin and end, and what the lowest free one is. z is the sector size. Assumes nothing.
-use mathlib.Core.Path.{_≡_, refl, sym, ap, _∙_}
+use mathlib.Core.Path.{_≡_, sym, ap, _∙_}
 use mathlib.Core.Bool.{false}
 use mathlib.Core.List.{List, [], _∷_}
 use Prim.Native.Nat.{ℕ, zero, suc, _+_, _*_, _/_, _%_, _≤_, _<_}
@@ -7,21 +7,16 @@ use native.Mathlib.Omega.{arith}
 use lib.ListN.{length, getD}
 use lib.Dec.{eqb}
 use borrow.Author.Tests.{eqb-false}
+use Rattle.lists.specs.Tests.{some}
+use Rattle.lists.proofs.Laws.Entries.{any-default}
+use Rattle.lists.proofs.Laws.Some.{some-first, some-tail}
 use Rattle.area.proofs.Laws.Slots.{slot-ends}
-use Rattle.host.specs.Lists.{some}
 use Rattle.host.specs.Empty.{none}
 use Rattle.host.specs.Places.{freeCopy}
 use Rattle.machine_rules.specs.Effect.{Ground, Staging}
-use Rattle.machine_rules.proofs.Laws.Lists.{some-first, some-tail}
 use Rattle.machine_rules.proofs.Laws.Effects.{free-slot}
 use Rattle.machine_effect.specs.Parts.{placeOf}
 use Rattle.machine_effect.specs.Asks.{Lent, Free}
-
--- an entry that there is, whatever stands for one that is not
-pub any-default : (l : List ℕ) (p d c : ℕ) → p < length l → getD l p d ≡ getD l p c
-any-default [] p d c h = absurd (omega arith)
-any-default (x ∷ xs) zero d c h = refl
-any-default (x ∷ xs) (suc p) d c h = any-default xs p d c (omega arith)
 
 -- the code's place of a byte
 pub place-is : {slot : ℕ} (z : ℕ) (slots : List ℕ) (at : ℕ) → length slots ≡ 64 → at / z < 64 → slot ≡ getD slots (at / z) 0

@@ -5,6 +5,7 @@ use mathlib.Core.List.{List}
 use Prim.Native.Nat.{ℕ, _+_, _*_, _/_, _%_, _≤_}
 use native.Mathlib.Omega.{arith}
 use lib.ListN.{length, getD}
+use Rattle.lists.proofs.Laws.Entries.{any-default}
 use Rattle.area.specs.Area.{part, put, exchanged}
 use Rattle.area.proofs.Laws.Parts.{length-part, part-part}
 use Rattle.host.specs.Empty.{none}
@@ -12,7 +13,6 @@ use Rattle.machine_rules.specs.Effect.{Ground, Staging, copied, spanRead, laid,
 use Rattle.machine_rules.proofs.Laws.Effects.{copied-map, length-copied as length-map}
 use Rattle.machine_effect.specs.Parts.{staging, placeOf, spanCopied, spansSwapped}
 use Rattle.machine_effect.specs.Asks.{bare, Lent, Lies, Room, From, Over, Two}
-use Rattle.machine_effect.proofs.Laws.Slots.{any-default}
 use Rattle.machine_effect.proofs.Laws.Copies.{onDisk, reads-disk, reads-stage}
 use Rattle.machine_effect.proofs.Laws.Kept.{Has, has, lent-copied, lies-copied, has-copied, still, sector-copied, laid-copied}
 

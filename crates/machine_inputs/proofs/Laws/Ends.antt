@@ -8,10 +8,10 @@ use lib.ListN.{length, take, getD}
 use lib.Seq.{slice, take-all}
 use lib.Dec.{leb}
 use borrow.Author.Tests.{leb-true, leb-false, ltb-false}
-use Rattle.area.proofs.Laws.Pick.{by, either-left, either-right}
+use Rattle.lists.specs.Tests.{some}
+use Rattle.lists.proofs.Laws.Pick.{by, either-left, either-right}
+use Rattle.lists.proofs.Laws.Slices.{slice-none, slice-one}
 use Rattle.sia.specs.Empty.{noOperand}
-use Rattle.host.specs.Lists.{some}
-use Rattle.host.proofs.Laws.Slices.{slice-none, slice-one}
 use Rattle.machine_rules.specs.Inputs.{largest}
 use Rattle.machine_inputs.specs.Ends.{endsPast, endOf}
 use Rattle.sia.specs.declared.Operand.{Operand}

@@ -1,20 +1,21 @@
 -- What the decoders tell, and the inputs of an instruction by its operands. Assumes nothing.
 use mathlib.Core.Path.{_≡_, refl, sym, ap, _∙_}
-use mathlib.Core.Bool.{Bool, true, false}
+use mathlib.Core.Bool.{true, false}
 use mathlib.Core.List.{List, [], _∷_}
-use Prim.Native.Nat.{ℕ, zero, suc, _+_, _-_, _≤_, _<_}
+use Prim.Native.Nat.{ℕ, _+_, _-_, _≤_, _<_}
 use native.Mathlib.Omega.{arith}
 use lib.ListN.{length, take, drop, getD, length-drop}
 use lib.Seq.{length-take-le, take-all}
 use borrow.Author.Tests.{not-false, ltb-false, leb-true, le-leb, eq-eqb, ne-eqb, eqb-true}
+use Rattle.lists.specs.Tests.{some, each}
+use Rattle.lists.proofs.Laws.Pick.{yes, no, by, picks, skips, both-join, both-left, both-right, both-not-right, either-left, either-right}
+use Rattle.lists.proofs.Laws.Some.{some-taken}
 use Rattle.area.specs.Area.{part, zeros}
 use Rattle.area.specs.Little.{valueOf}
-use Rattle.area.proofs.Laws.Pick.{yes, no, by, picks, skips, both-join, both-left, both-right, both-not-right, either-left, either-right}
 use Rattle.area.proofs.Laws.Parts.{length-part, part-part}
 use Rattle.sia.specs.Names.{opOf}
 use Rattle.sia.specs.Number.{Decoded, decoded, number}
 use Rattle.sia.specs.Empty.{noOperand}
-use Rattle.host.specs.Lists.{some, each}
 use Rattle.machine_rules.specs.Inputs.{dataIn, illFormed, pastEnd, inputsOf, nth, isTold, told, isNumber, isKey, isData, wellFormed, readArgs, spanArgs, argsOf}
 use Rattle.machine_rules.specs.Kinds.{known, operandsOf, kind}
 use Rattle.sia.specs.declared.Operand.{Operand}
@@ -138,17 +139,10 @@ size-accepted area os m p =
 
 -- ---- operands
 
-some-at : {A : Type 0} (p : A → Bool) (l : List A) (n k : ℕ) (d : A) → some p (take n l) ≡ false → k < n → k < length l → p (getD l k d) ≡ false
-unfolding some
-some-at p l zero k d e h g = absurd (omega arith)
-some-at p [] (suc n) k d e h g = absurd (omega arith)
-some-at p (x ∷ xs) (suc n) zero d e h g = either-left _ _ e
-some-at p (x ∷ xs) (suc n) (suc k) d e h g = some-at p xs n k d (either-right _ _ e) (omega arith) (omega arith)
-
 -- operand k of n ends within the input
 pub ends-within : (declared : ℕ) (l : List Operand) (n k : ℕ) → length l ≡ 4 → some (endsPast declared) (take n l) ≡ false → k < n → k < 4
     → getD l k noOperand .offset + getD l k noOperand .len ≤ declared
-ends-within declared l n k long e h g = ltb-false _ _ (some-at (endsPast declared) l n k noOperand e h (omega arith))
+ends-within declared l n k long e h g = ltb-false _ _ (some-taken (endsPast declared) l n k noOperand e h (omega arith))
 
 -- the operand count of a well-formed instruction
 pub count-right : (i : Instruction) (op : Op) → op ≡ opOf (i .name) → illFormed i ≡ false → i .count ≡ operandsOf op

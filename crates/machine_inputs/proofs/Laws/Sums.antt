@@ -4,7 +4,7 @@ use mathlib.Core.Bool.{Bool, true, false}
 use Prim.Native.Nat.{ℕ, _+_, _≤_, _<_}
 use lib.Dec.{ltb}
 use borrow.Author.Tests.{lt-ltb, le-ltb}
-use Rattle.area.proofs.Laws.Pick.{by}
+use Rattle.lists.proofs.Laws.Pick.{by}
 
 -- a test that holds exactly where the sum is above the limit
 pub over : (t : Bool) (limit a b : ℕ) → (t ≡ true → limit < a + b) → (t ≡ false → a + b ≤ limit) → t ≡ ltb limit (a + b)

@@ -6,15 +6,13 @@ use Prim.Native.Nat.{ℕ, _+_, _*_, _≤_}
 use native.Mathlib.Omega.{arith}
 use lib.ListN.{length}
 use borrow.Author.Tests.{leb-true}
-use Rattle.area.specs.Pick.{pick}
+use Rattle.lists.specs.Pick.{pick}
+use Rattle.lists.specs.Tests.{every}
+use Rattle.lists.proofs.Laws.Pick.{yes, no, both-left}
 use Rattle.area.specs.Area.{same}
-use Rattle.area.proofs.Laws.Pick.{yes, no, by, picks, skips, both-left, both-right}
 use Rattle.area.proofs.Laws.Same.{same-eq}
 use Rattle.sia.specs.Names.{readOnly}
-use Rattle.sia.specs.Encode.{every}
-use Rattle.host.specs.Empty.{noPlace}
 use Rattle.host.specs.Places.{hasId, whose}
-use Rattle.host.specs.Order.{placeInOrder}
 use Rattle.machine_rules.specs.View.{Setting, readOnlyMode, parent, parentSpots, committedSpots}
 use Rattle.machine_rules.specs.Roots.{keptRoot}
 use Rattle.machine_rules.specs.Seats.{seats, allSeats, seatsOf, firstSeat}
@@ -46,18 +44,6 @@ unfolding isThere spots
 shows-missing v e = record { there = refl; sectors = e }
 
 -- ---- contracts
-
-none-in-order : (z : ℕ) → placeInOrder z noPlace ≡ true
-unfolding placeInOrder noPlace pick
-none-in-order z = refl
-
--- the contract of an id is in order
-pub whose-in-order : (z : ℕ) (id : List ℕ) (ps : List Place) → every (placeInOrder z) ps ≡ true → placeInOrder z (whose id ps) ≡ true
-unfolding every whose
-whose-in-order z id [] e = none-in-order z
-whose-in-order z id (p ∷ ps) e = by (hasId id p)
-    (λ u. ap (placeInOrder z) (picks (hasId id p) p (whose id ps) u) ∙ both-left _ _ e)
-    (λ u. ap (placeInOrder z) (skips (hasId id p) p (whose id ps) u) ∙ whose-in-order z id ps (both-right _ _ e))
 
 module _ (z : ℕ) (s : Setting) (p : Progress) (id : List ℕ) where
   pub not-found : whose id (s .places) .held ≡ false → missing ≡ contractSource z s p id

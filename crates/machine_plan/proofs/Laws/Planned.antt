@@ -1,15 +1,14 @@
 -- Walking down checks 21 to 25, and on to the plan. Assumes nothing.
+use Rattle.lists.specs.Pick.{pick, both}
+use Rattle.lists.proofs.Laws.Pick.{yes, no}
 use Rattle.machine_rules.specs.declared.Args.{Args}
 use mathlib.Core.Path.{_≡_, refl, sym, ap, _∙_}
 use mathlib.Core.Bool.{true, false, not}
 use mathlib.Core.List.{List, []}
 use lib.ListN.{length}
-use Prim.Native.Nat.{suc, ℕ, _/_, _≤_}
-use native.Mathlib.Nat.{mul-le-mul-right, div-le-of-le-mul}
+use Prim.Native.Nat.{suc, ℕ, _≤_}
 use native.Mathlib.Omega.{arith}
 use borrow.Author.Tests.{eq-eqb, ne-eqb}
-use Rattle.area.specs.Pick.{pick, both}
-use Rattle.area.proofs.Laws.Pick.{yes, no}
 use Rattle.sia.specs.Names.{opOf}
 use Rattle.sia.proofs.Laws.Limits.{within-is}
 use Rattle.host.proofs.Laws.Order.{terms-facts}
@@ -19,7 +18,7 @@ use Rattle.machine_rules.specs.Inputs.{illFormed, pastEnd, inputsOf, wellFormed
 use Rattle.machine_rules.specs.Plan.{fitted, weighed, plannedArgs, plannedInputs, planned, refused, Source, isThere, spots, contractSource}
 use Rattle.machine_rules.specs.Plan.{sectorSource, sourceOf}
 use Rattle.machine_rules.specs.Kinds.{changes}
-use Rattle.machine_rules.specs.Facts.{Lent, Good}
+use Rattle.machine_rules.specs.Facts.{Good}
 use Rattle.sia.specs.declared.Instruction.{Instruction}
 use Rattle.sia.specs.declared.Op.{Op}
 use Rattle.sia.specs.declared.Op.the-variants.{Read, ReadSector, Write, Copy, Swap, Truncate, Unknown}
@@ -58,9 +57,6 @@ plan-same z s f p i area =
     (sym (source-same z (setting (s .sectors) (s .copies) (s .places) (s .terms) [] []) f p op (a .key)) ∙ source-same z s f p op (a .key))
 
 -- ---- limits, from the facts of a machine in order
-
-pub size-few : (z : ℕ) (s : Setting) (p : Progress) → Lent z s → Good z s p → p .size / z ≤ 64
-size-few z s p h g = div-le-of-le-mul z (omega (arith, g .orderly .within, mul-le-mul-right z (h .most)))
 
 pub length-most : (z : ℕ) (s : Setting) (p : Progress) → Good z s p → s .terms .head .length ≤ 65536
 length-most z s p g = within-is _ (terms-facts _ _ _ (g .terms) .head) .declared

@@ -4,9 +4,9 @@ use mathlib.Core.Bool.{Bool, true, false, not}
 use Prim.Native.Nat.{ℕ}
 use lib.Dec.{leb, ltb}
 use borrow.Author.Tests.{leb-true, leb-false, le-ltb, lt-ltb}
-use Rattle.area.specs.Pick.{both}
+use Rattle.lists.specs.Pick.{both}
+use Rattle.lists.proofs.Laws.Pick.{by, never, picks, either-left}
 use Rattle.area.specs.Slots.{Size}
-use Rattle.area.proofs.Laws.Pick.{by, never, picks, either-left}
 use Rattle.machine_rules.specs.Plan.{badSpans, badProof}
 use Rattle.machine_rules.specs.Kinds.{kind}
 use Rattle.sia.specs.declared.Op.{Op}

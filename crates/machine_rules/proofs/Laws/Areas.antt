@@ -1,13 +1,11 @@
 -- Instructions keep the lengths of stage and output. Assumes nothing.
 use mathlib.Core.Path.{_≡_, refl, sym, ap, _∙_, subst}
-use mathlib.Core.Bool.{Bool, true, false, not}
 use mathlib.Core.List.{List, [], _∷_}
 use Prim.Native.Nat.{ℕ, zero, suc, _/_}
 use lib.ListN.{length, getD}
 use lib.Dec.{ltb, eqb}
-use Rattle.area.specs.Pick.{pick, either}
+use Rattle.lists.proofs.Laws.Pick.{by, picks, skips}
 use Rattle.area.specs.Area.{zeros}
-use Rattle.area.proofs.Laws.Pick.{by, picks, skips, never}
 use Rattle.area.proofs.Laws.Puts.{length-put}
 use Rattle.sia.specs.Names.{opOf}
 use Rattle.host.specs.Empty.{none}
@@ -22,18 +20,6 @@ use Rattle.sia.specs.declared.Op.{Op}
 use Rattle.sia.specs.declared.Op.the-variants.{Read, ReadSector, Write, Copy, Swap, Truncate, Unknown}
 use Rattle.sia.specs.declared.Instruction.{Instruction}
 use Rattle.machine_rules.specs.Roots.{rootAt}
-
--- ---- areas keep their lengths
-
-pub or-right : (a b : Bool) → b ≡ true → either a b ≡ true
-unfolding pick
-or-right true b e = refl
-or-right false b e = e
-
-pub either-second : (a b : Bool) → either (not a) b ≡ true → a ≡ true → b ≡ true
-unfolding pick
-either-second true b e f = e
-either-second false b e f = never (sym f)
 
 written-length : (z : ℕ) (n : Ground) (at : ℕ) (bs : List ℕ) (g : Staging) → length (spanWritten z n at bs g .bytes) ≡ length (g .bytes)
 unfolding spanWritten laid copied newCopy

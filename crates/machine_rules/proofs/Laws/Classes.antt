@@ -5,8 +5,8 @@ use Prim.Native.Nat.{ℕ, _≤_, _<_}
 use native.Mathlib.Omega.{arith}
 use lib.Dec.{eqb}
 use borrow.Author.Tests.{ne-eqb, le-leb, lt-leb}
-use Rattle.area.specs.Pick.{pick}
-use Rattle.area.proofs.Laws.Pick.{yes, no, both-join, both-not-left, both-not-right}
+use Rattle.lists.specs.Pick.{pick}
+use Rattle.lists.proofs.Laws.Pick.{yes, no, both-join, both-not-left, both-not-right}
 use Rattle.machine_rules.specs.Class.{between, classOf}
 use Rattle.machine_rules.specs.declared.class.Class.{Class}
 use Rattle.machine_rules.specs.declared.class.Class.the-variants.{Done, Interrupted, Invalid, Host}

@@ -3,19 +3,20 @@ use mathlib.Core.Path.{_≡_, refl, sym, ap, _∙_, subst}
 use mathlib.Core.Bool.{Bool, true, false, not}
 use mathlib.Core.List.{List, [], _∷_}
 use Prim.Native.Nat.{ℕ, zero, suc, _+_, _*_, _/_, _%_, _≤_, _<_}
-use native.Mathlib.Nat.{div-add-mod', div-lt-iff-lt-mul, lt-of-mul-lt-mul-right, le-trans, suc-mul, mul-le-mul-right, le-of-mul-le-mul-right}
+use native.Mathlib.Nat.{div-add-mod', div-lt-iff-lt-mul, div-le-of-le-mul, lt-of-mul-lt-mul-right, le-trans, suc-mul, mul-le-mul-right, le-of-mul-le-mul-right}
 use native.Mathlib.Omega.{arith}
 use lib.ListN.{length, drop, getD, set, length-set}
 use lib.Seq.{getD-set-same, getD-set-other}
 use lib.Dec.{ltb, eqb}
 use borrow.Author.Tests.{not-true, not-false, ltb-true, ltb-false, eqb-true, eqb-false, ne-eqb}
-use Rattle.area.specs.Pick.{pick, both, either}
+use Rattle.lists.specs.Pick.{pick, both}
+use Rattle.lists.specs.Tests.{every, those, count, unused}
+use Rattle.lists.specs.Lowest.{lowest}
+use Rattle.lists.proofs.Laws.Pick.{by, picks, skips, never, both-left, either-left, either-right, neither}
+use Rattle.lists.proofs.Laws.Some.{some-set}
+use Rattle.lists.proofs.Laws.Counts.{lowest-is, count-but-one}
 use Rattle.area.specs.Area.{zeros}
-use Rattle.area.specs.Lowest.{lowest}
-use Rattle.area.proofs.Laws.Pick.{by, picks, skips, never, both-left, either-left, either-right}
 use Rattle.sia.specs.Names.{opOf}
-use Rattle.sia.specs.Encode.{every}
-use Rattle.host.specs.Lists.{those, count, unused}
 use Rattle.host.specs.Empty.{none}
 use Rattle.host.specs.Places.{others, freeCopy}
 use Rattle.host.specs.Facts.{Staged}
@@ -26,18 +27,14 @@ use Rattle.machine_rules.specs.Plan.{proofCount, sourceOf, badSpan, badS
 use Rattle.machine_rules.specs.Kinds.{changes, kind}
 use Rattle.machine_rules.specs.Plan.{spots, refused, fitted, weighed, plannedInputs, plannedArgs, planned, judged}
 use Rattle.machine_rules.specs.Effect.{Ground, groundOf, Staging, newCopy, copied, laid, spanWritten, resized, effect}
-use Rattle.machine_rules.proofs.Laws.Lists.{some-set, lowest-is, count-but-one}
 use Rattle.machine_rules.proofs.Laws.Staged.{Free, copy-kept, grow-kept, shrink-kept}
 use Rattle.sia.specs.declared.Op.{Op}
 use Rattle.sia.specs.declared.Op.the-variants.{Read, ReadSector, Write, Copy, Swap, Truncate, Unknown}
 use Rattle.sia.specs.declared.Instruction.{Instruction}
 use Rattle.host.specs.declared.Progress.{Progress}
 use Rattle.machine_rules.specs.declared.Spot.{Spot}
+use Rattle.machine_rules.specs.Facts.{Lent, Good}
 use Rattle.machine_rules.specs.declared.Plan.{Plan}
-
--- both parts of a test that does not hold
-pub neither : (a b : Bool) → either a b ≡ false → (a ≡ false) × (b ≡ false)
-neither a b e = (either-left a b e, either-right a b e)
 
 -- ---- a check that did not apply
 
@@ -126,6 +123,10 @@ whole-sectors z n e = omega (arith, div-add-mod' n z)
 -- a byte below a whole size lies in a sector below it
 pub sector-below : (z at size : ℕ) → 0 < z → size % z ≡ 0 → at < size → at / z < size / z
 sector-below z at size pos e lt = div-lt-iff-lt-mul {k = z} {x = at} {y = size / z} pos .1 (subst (λ (n : ℕ). at < n) (sym (whole-sectors z size e)) lt)
+
+-- a running size within the disk is at most 64 sectors
+pub few-sectors : (z : ℕ) (s : Setting) (p : Progress) → Lent z s → Good z s p → p .size / z ≤ 64
+few-sectors z s p L g = div-le-of-le-mul z (omega (arith, g .orderly .within, mul-le-mul-right z (L .most)))
 
 -- ---- the stage staged
 

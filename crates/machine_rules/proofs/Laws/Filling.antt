@@ -3,47 +3,26 @@ use mathlib.Core.Path.{_≡_, refl, sym, ap, ap₂, _∙_, subst}
 use mathlib.Core.Bool.{false}
 use mathlib.Core.List.{List, [], _∷_, _++_}
 use Prim.Native.Nat.{ℕ, zero, suc, _+_, _*_, _≤_, _<_}
-use native.Mathlib.Nat.{suc-mul, mul-le-mul-right}
 use native.Mathlib.Omega.{arith}
-use lib.ListN.{length, drop, getD, length-take}
+use lib.ListN.{length, getD}
 use lib.Dec.{ltb, eqb}
 use borrow.Author.Tests.{ltb-true, ltb-false}
-use Rattle.area.specs.Pick.{pick}
-use Rattle.area.specs.Area.{part, put, tab}
-use Rattle.area.proofs.Laws.Pick.{by, picks, skips}
-use Rattle.area.proofs.Laws.Puts.{length-put, part-put, part-before, part-behind}
+use Rattle.lists.specs.Pick.{pick}
+use Rattle.lists.specs.Tests.{each}
+use Rattle.lists.specs.Tab.{tab}
+use Rattle.lists.proofs.Laws.Pick.{by, picks, skips}
+use Rattle.area.specs.Area.{part, put}
+use Rattle.area.proofs.Laws.Puts.{length-put, part-put}
+use Rattle.area.proofs.Laws.Slots.{other-slot}
+use Rattle.area.proofs.Laws.Parts.{few-part}
 use Rattle.tree.specs.Tree.{join}
 use Rattle.sia.specs.Encode.{joined}
-use Rattle.host.specs.Lists.{each}
 use Rattle.host.specs.Empty.{none}
 use Rattle.machine_rules.specs.Roots.{contractRoot}
 use Rattle.machine_rules.specs.Commit.{copiedBack}
 use Rattle.machine_rules.specs.declared.Spot.{Spot}
 
 -- ---- slots
-
--- bytes within slot k leave slot m
-pub other-span : (z : ℕ) (a : List ℕ) (k m off : ℕ) (bs : List ℕ) → off + length bs ≤ z → (k ≡ m → ⊥) → part (put a (k * z + off) bs) (m * z) z
-    ≡ part a (m * z) z
-other-span z a k m off bs few ne =
-    by (ltb m k)
-    (λ e. let le = mul-le-mul-right {m = suc m} {n = k} z (ltb-true m k e) in part-before a (k * z + off) bs (m * z) z (omega (arith, suc-mul m z)))
-    (λ e. by (ltb k m)
-    (λ d. let le = mul-le-mul-right {m = suc k} {n = m} z (ltb-true k m d) in part-behind a (k * z + off) bs (m * z) z (omega (arith, suc-mul k z)))
-    (λ d. absurd (ne (omega (arith, ltb-false m k e, ltb-false k m d)))))
-
--- n bytes or fewer in slot k leave slot m
-pub other-slot : (z : ℕ) (a : List ℕ) (k m : ℕ) (bs : List ℕ) → length bs ≤ z → (k ≡ m → ⊥) → part (put a (k * z) bs) (m * z) z ≡ part a (m * z) z
-other-slot z a k m bs few ne =
-    by (ltb m k)
-    (λ e. let le = mul-le-mul-right {m = suc m} {n = k} z (ltb-true m k e) in part-before a (k * z) bs (m * z) z (omega (arith, suc-mul m z)))
-    (λ e. by (ltb k m)
-    (λ d. let le = mul-le-mul-right {m = suc k} {n = m} z (ltb-true k m d) in part-behind a (k * z) bs (m * z) z (omega (arith, suc-mul k z)))
-    (λ d. absurd (ne (omega (arith, ltb-false m k e, ltb-false k m d)))))
-
-pub few-part : (a : List ℕ) (at n : ℕ) → length (part a at n) ≤ n
-unfolding part
-few-part a at n = omega (arith, length-take n (drop at a))
 
 module _ (z : ℕ) (stage staged slots : List ℕ) where
   -- position i alone

@@ -7,32 +7,27 @@ use Prim.Native.Nat.{ℕ, zero, suc}
 use native.Mathlib.Omega.{arith}
 use lib.ListN.{getD}
 use borrow.Author.Tests.{not-true}
-use Rattle.area.specs.Pick.{pick}
+use Rattle.lists.specs.Pick.{pick}
+use Rattle.lists.specs.Tests.{every, apart, firstOf}
+use Rattle.lists.proofs.Laws.Pick.{by, picks, skips, never, both-left, both-right, second-not}
+use Rattle.lists.proofs.Laws.Every.{every-at}
+use Rattle.lists.proofs.Laws.Apart.{tail-apart}
 use Rattle.area.specs.Area.{same}
-use Rattle.area.proofs.Laws.Pick.{by, picks, skips, never, both-left, both-right}
 use Rattle.sia.specs.Names.{readOnly}
-use Rattle.sia.specs.Encode.{every}
-use Rattle.host.specs.Lists.{apart, firstOf}
 use Rattle.host.specs.Empty.{noPlace}
 use Rattle.host.specs.Places.{hasId, whose}
 use Rattle.host.specs.Order.{placeInOrder, twins}
+use Rattle.host.proofs.Laws.Whose.{no-id}
 use Rattle.machine_rules.specs.View.{Setting, committedSpots}
 use Rattle.machine_rules.specs.Seats.{seated, committedSeats, seats, nobody, allSeats}
 use Rattle.machine_rules.specs.StageFirst.{writing, reading}
 use Rattle.machine_rules.proofs.Laws.Search.{Apart}
 use Rattle.machine_rules.proofs.Laws.Split.{none-has}
-use Rattle.machine_rules.proofs.Laws.Spots.{every-at}
-use Rattle.machine_rules.proofs.Laws.Areas.{either-second}
-use Rattle.machine_rules.proofs.Laws.Pigeons.{tail-apart}
 use Rattle.host.specs.declared.Place.{Place}
 use Rattle.host.specs.declared.Progress.{Progress}
 use Rattle.machine_rules.specs.declared.Seat.{Seat}
 
 -- ---- one place
-
-no-id : (id : List ℕ) → hasId id noPlace ≡ false
-unfolding hasId noPlace pick
-no-id id = refl
 
 -- no other place has the id
 no-other : (id : List ℕ) (p : Place) (ps : List Place) (j : ℕ) → apart twins (p ∷ ps) ≡ true → hasId id p ≡ true
@@ -76,7 +71,7 @@ not-read-only : (z : ℕ) (p : Place) → placeInOrder z p ≡ true → hasId re
 unfolding placeInOrder hasId
 not-read-only z p o =
     by (p .held)
-    (λ e. picks (p .held) (same (p .id) readOnly) false e ∙ not-true _ (both-left _ _ (either-second (p .held) _ o e)))
+    (λ e. picks (p .held) (same (p .id) readOnly) false e ∙ not-true _ (both-left _ _ (second-not (p .held) _ o e)))
     (λ e. skips (p .held) (same (p .id) readOnly) false e)
 
 none-left-out : (z i : ℕ) (ps : List Place) → every (placeInOrder z) ps ≡ true

@@ -1,20 +1,18 @@
 -- An instruction and a run keep the progress of a program in order. Assumes nothing.
 use mathlib.Core.Path.{_≡_, refl, sym, ap, _∙_, subst}
-use mathlib.Core.Bool.{Bool, true, false}
+use mathlib.Core.Bool.{true, false}
 use mathlib.Core.List.{List}
-use Prim.Native.Nat.{ℕ, zero, suc, _*_, _/_, _≤_, _<_}
-use native.Mathlib.Nat.{mul-le-mul-right, le-of-mul-le-mul-right}
+use Prim.Native.Nat.{ℕ, zero, suc, _<_}
 use native.Mathlib.Omega.{arith}
 use lib.ListN.{length}
 use lib.Dec.{eqb}
-use borrow.Author.Tests.{leb-true, eqb-true, le-leb, eq-eqb}
-use Rattle.area.specs.Pick.{pick, both}
-use Rattle.area.proofs.Laws.Pick.{by, picks, skips, never, both-left, both-right, both-join}
+use borrow.Author.Tests.{eqb-true}
+use Rattle.lists.specs.Pick.{pick}
+use Rattle.lists.proofs.Laws.Pick.{by, picks, skips, both-left, both-right, both-join, not-both}
 use Rattle.sia.specs.Names.{opOf}
 use Rattle.area.proofs.Laws.Slots as Slots
 use Rattle.host.specs.Places.{whose}
-use Rattle.host.specs.Order.{stagedInOrder, parentInOrder, termsInOrder, progressInOrder}
-use Rattle.host.specs.Facts.{Staged}
+use Rattle.host.specs.Order.{parentInOrder, termsInOrder}
 use Rattle.machine_rules.specs.View.{Setting, Turn, readOnlyMode}
 use Rattle.machine_rules.specs.Inputs.{dataIn, argsOf, inputsOf}
 use Rattle.machine_rules.specs.declared.Args.{Args}
@@ -22,9 +20,9 @@ use Rattle.machine_rules.specs.Plan.{cost, newSize, judged}
 use Rattle.machine_rules.specs.Kinds.{changes}
 use Rattle.machine_rules.specs.Effect.{groundOf, effect}
 use Rattle.machine_rules.specs.Run.{failedProgress, failing, ranProgress, succeeding, stepped, current, step, going, ready, runs}
-use Rattle.machine_rules.specs.Facts.{Good, InOrder, Lent, startOf}
+use Rattle.machine_rules.specs.Facts.{Good, Lent, startOf}
 use Rattle.machine_rules.proofs.Laws.Steps.{not-failed, left-going, ready-going, runs-go, runs-stop}
-use Rattle.machine_rules.proofs.Laws.Effects.{Passed, passed, whole-sectors, effect-kept, effect-length, size-whole, size-read}
+use Rattle.machine_rules.proofs.Laws.Effects.{Passed, passed, effect-kept, effect-length, size-whole, size-read, few-sectors}
 use Rattle.sia.specs.declared.Op.{Op}
 use Rattle.sia.specs.declared.Instruction.{Instruction}
 use Rattle.host.specs.declared.Place.{Place}
@@ -34,42 +32,6 @@ use Rattle.machine_rules.specs.declared.Spot.{Spot}
 use Rattle.machine_rules.specs.Roots.{rootAt}
 
 -- ---- progress
-
-abbrev pub inProgress : ℕ → Setting → Progress → Bool
-inProgress z s p = progressInOrder z (s .sectors) (s .copies) (s .places) (s .terms) p
-
-staged-facts : (stage start size : ℕ) (l : List ℕ) → stagedInOrder stage start size l ≡ true → Staged stage start size l
-unfolding stagedInOrder
-staged-facts stage start size l h =
-    let b = both-right _ _ h in
-    let c = both-right _ _ b in
-    record { slots = both-left _ _ h; own = both-left _ _ b; below = both-left _ _ c; past = both-right _ _ c }
-
-pub facts-staged : (stage start size : ℕ) (l : List ℕ) → Staged stage start size l → stagedInOrder stage start size l ≡ true
-unfolding stagedInOrder
-facts-staged stage start size l f = both-join _ _ (f .slots) (both-join _ _ (f .own) (both-join _ _ (f .below) (f .past)))
-
-pub progress-facts : (z : ℕ) (s : Setting) (p : Progress) → inProgress z s p ≡ true → InOrder z s p
-unfolding progressInOrder
-progress-facts z s p h =
-    let b = both-right _ _ h in
-    let c = both-right _ _ b in
-    let d = both-right _ _ c in
-    let e = both-right _ _ d in
-    record {
-      ran = leb-true _ _ (both-left _ _ h);
-      paid = leb-true _ _ (both-left _ _ b);
-      fits = leb-true _ _ (both-left _ _ c);
-      whole = eqb-true _ _ (both-left _ _ d);
-      within = leb-true _ _ (both-left _ _ e);
-      staged = staged-facts _ _ _ _ (both-right _ _ e);
-    }
-
-pub facts-progress : (z : ℕ) (s : Setting) (p : Progress) → InOrder z s p → inProgress z s p ≡ true
-unfolding progressInOrder
-facts-progress z s p o =
-    both-join _ _ (le-leb _ _ (o .ran)) (both-join _ _ (le-leb _ _ (o .paid)) (both-join _ _ (le-leb _ _ (o .fits))
-    (both-join _ _ (eq-eqb _ _ (o .whole)) (both-join _ _ (le-leb _ _ (o .within)) (facts-staged _ _ _ _ (o .staged))))))
 
 terms-size : (ps : List Place) (t : Terms) (m n : ℕ) → (readOnlyMode t ≡ true → n ≡ m) → termsInOrder ps t m ≡ true → termsInOrder ps t n ≡ true
 unfolding termsInOrder parentInOrder readOnlyMode
@@ -98,9 +60,7 @@ pub ran-good : (z : ℕ) (s : Setting) (p : Progress) (op : Op) (a : Args) (n : 
 unfolding ranProgress
 ran-good z s p op a n d bytes L e lt q g =
     let o = g .orderly in
-    let c : s .sectors * z ≤ 64 * z = mul-le-mul-right {m = s .sectors} {n = 64} z (L .most) in
-    let w = whole-sectors z (p .size) (o .whole) in
-    let u : p .size / z ≤ 64 = le-of-mul-le-mul-right {m = p .size / z} {n = 64} {k = z} (omega (arith, w, o .within, c)) (Slots.some z (L .size)) in
+    let u = few-sectors z s p L g in
     record {
       orderly = record {
         ran = omega arith;
@@ -114,9 +74,6 @@ ran-good z s p op a n d bytes L e lt q g =
       terms = terms-size (s .places) (s .terms) (p .size) _ (λ r. size-read op (p .size) a (not-both (changes op) (q .allowed) r)) (g .terms);
       entries = effect-length z (groundOf s) (p .size) op a d _ ∙ g .entries;
     }
-  where
-    not-both : (b : Bool) {c : Bool} → both b c ≡ false → c ≡ true → b ≡ false
-    not-both b e h = by b (λ u. never (sym (both-join b _ u h) ∙ e)) (λ u. u)
 
 -- ---- a step, a run
 

@@ -3,20 +3,23 @@ use mathlib.Core.Path.{_≡_, refl, sym, ap, _∙_}
 use mathlib.Core.Bool.{Bool, true, false, not}
 use mathlib.Core.List.{List, [], _∷_}
 use Prim.Native.Nat.{ℕ, zero, suc, _+_, _*_, _/_, _%_, _^_, _≤_, _<_}
-use native.Mathlib.Nat.{suc-mul, zero-mul, div-lt-iff-lt-mul, mul-le-mul-right, le-of-mul-le-mul-right}
+use native.Mathlib.Nat.{zero-mul, div-lt-iff-lt-mul, mul-le-mul-right}
 use native.Mathlib.Omega.{arith}
 use lib.ListN.{length, getD, length-append, length-replicate}
 use lib.Dec.{ltb, eqb}
 use borrow.Author.Tests.{not-false, ltb-true, ltb-false, eqb-true, eqb-false, eq-eqb}
-use Rattle.area.specs.Pick.{pick}
-use Rattle.area.specs.Area.{part}
-use Rattle.area.proofs.Laws.Pick.{by, picks, skips, never, both-left, either-left}
+use Rattle.lists.specs.Pick.{pick}
+use Rattle.lists.specs.Tests.{every}
+use Rattle.lists.proofs.Laws.Pick.{by, picks, skips, never, both-left, either-left, neither}
+use Rattle.lists.proofs.Laws.Every.{every-at}
 use Rattle.area.proofs.Laws.Parts.{length-part}
 use Rattle.area.proofs.Laws.Little.{length-bytes}
+use Rattle.area.proofs.Laws.Slots as Slots
+use Rattle.area.proofs.Laws.Slots.{slot-length}
 use Rattle.tree.specs.Walk.{count}
 use Rattle.tree.proofs.Promise.{roots}
 use Rattle.sia.specs.Names.{opOf}
-use Rattle.sia.specs.Encode.{joined, every}
+use Rattle.sia.specs.Encode.{joined}
 use Rattle.machine_rules.specs.View.{Way, kept, worked, Setting, Turn, sector, parent, committedSpots}
 use Rattle.machine_rules.specs.Roots.{sectorRoot, keptRoot, rootBy, rootOf, contractRoot, segments, rangeProof, rootAt, rootOnDisk}
 use Rattle.machine_rules.proofs.Laws.Worked.{proof-counted}
@@ -31,21 +34,17 @@ use Rattle.machine_rules.specs.Record.{pairOf, startingPair, runningPair
 use Rattle.machine_rules.specs.Run.{failedProgress, failing, ranProgress, succeeding, stepped}
 use Rattle.machine_rules.specs.Trace.{recordOf}
 use Rattle.machine_rules.specs.Facts.{Good, Solid, Within, valid}
-use Rattle.machine_rules.proofs.Laws.Effects.{passes, neither, Passed, passed, whole-sectors}
-use Rattle.machine_rules.proofs.Laws.Spots.{every-at, source-valid, few-spots}
+use Rattle.machine_rules.proofs.Laws.Effects.{passes, few-sectors, Passed, passed}
+use Rattle.machine_rules.proofs.Laws.Spots.{source-valid, few-spots}
 use Rattle.sia.specs.declared.Op.{Op}
 use Rattle.sia.specs.declared.Op.the-variants.{Read, ReadSector, Write, Copy, Swap, Truncate, Unknown}
 use Rattle.sia.specs.declared.Instruction.{Instruction}
-use Rattle.area.proofs.Laws.Slots as Slots
 use Rattle.host.specs.declared.Progress.{Progress}
 use Rattle.machine_rules.specs.declared.Spot.{Spot}
 use Rattle.machine_rules.specs.declared.Pair.{Pair}
 use Rattle.machine_rules.specs.declared.Spot.the-variants.{OnDisk, InStage}
 
 -- ---- what a read hands out is as long as it was asked for
-
-slot-length : (l : List ℕ) (n m z : ℕ) → n < m → length l ≡ m * z → length (part l (n * z) z) ≡ z
-slot-length l n m z lt e = length-part l (n * z) z (omega (arith, mul-le-mul-right {m = suc n} {n = m} z lt, suc-mul n z))
 
 pub sector-length : (z : ℕ) (s : Setting) (stage : List ℕ) (x : Spot) → length (s .disk) ≡ s .sectors * z → length stage ≡ s .copies * z → valid s x ≡ true
     → length (sector z (s .disk) stage x) ≡ z
@@ -218,10 +217,7 @@ success-length : (z : ℕ) (s : Setting) (f : Spot → List ℕ) (p : Progress) 
 unfolding successBytes recordCount runningPair
 success-length z s f p asked op a n count d bytes copies solid g e r c q asks right =
     let from = sourceOf z s f p op (a .key) in
-    let w = whole-sectors z (p .size) (g .orderly .whole) in
-    let m : s .sectors * z ≤ 64 * z = mul-le-mul-right {m = s .sectors} {n = 64} z (solid .lent .most) in
-    let u : p .size / z ≤ 64 = le-of-mul-le-mul-right {m = p .size / z} {n = 64} {k = z} (omega (arith, w, g .orderly .within, m))
-        (Slots.some z (solid .lent .size)) in
+    let u = few-sectors z s p (solid .lent) g in
     let valid = source-valid z s p solid (g .orderly .staged) (omega (arith, u, g .entries)) f op (a .key) in
     let stage = effect-bytes z (groundOf s) (p .size) op a d (record { staged = p .staged; bytes = bytes }) ∙ e in
     length-record 0 n _ (proofCount z asked (length (spots from)) a) _ (outputCount op a) _

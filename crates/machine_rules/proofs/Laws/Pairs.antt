@@ -6,10 +6,10 @@ use Prim.Native.Nat.{ℕ, _/_}
 use native.Mathlib.Nat.{zero-div}
 use lib.ListN.{take}
 use borrow.Author.Tests.{eqb-true, eq-eqb}
-use Rattle.area.proofs.Laws.Pick.{by, skips, never, both-join, both-left, both-right}
+use Rattle.lists.specs.Tests.{each}
+use Rattle.lists.specs.Tab.{tab}
+use Rattle.lists.proofs.Laws.Pick.{by, skips, never, both-join, both-left, both-right}
 use Rattle.area.proofs.Laws.Same.{same-eq, eq-same}
-use Rattle.area.specs.Area.{tab}
-use Rattle.host.specs.Lists.{each}
 use Rattle.host.specs.Places.{whose, committed}
 use Rattle.machine_rules.specs.View.{Setting, parent, spotOf, parentSpots, committedSpots}
 use Rattle.machine_rules.specs.Roots.{rootOnDisk, contractRoot}

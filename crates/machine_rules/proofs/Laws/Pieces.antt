@@ -7,9 +7,10 @@ use native.Mathlib.Nat.{suc-mul, zero-mul}
 use native.Mathlib.Omega.{arith}
 use lib.ListN.{length, take, drop, getD, length-append}
 use lib.Seq.{take-at, drop-append-add}
+use Rattle.lists.specs.Tests.{every}
+use Rattle.lists.proofs.Laws.Pick.{both-left, both-right}
 use Rattle.area.specs.Area.{part}
-use Rattle.area.proofs.Laws.Pick.{both-left, both-right}
-use Rattle.sia.specs.Encode.{joined, every}
+use Rattle.sia.specs.Encode.{joined}
 
 module _ {A : Type 0} (p : A → Bool) (f : A → List ℕ) (k : ℕ) (long : (x : A) → p x ≡ true → length (f x) ≡ k) where
   pub length-pieces : (l : List A) → every p l ≡ true → length (joined f l) ≡ length l * k

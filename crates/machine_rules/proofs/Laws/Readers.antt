@@ -2,23 +2,27 @@
 use mathlib.Core.Path.{_≡_, refl, sym, ap, ap₂, _∙_, subst}
 use mathlib.Core.Bool.{Bool, true, false, not}
 use mathlib.Core.List.{List, [], _∷_, _++_}
-use Prim.Native.Nat.{ℕ, _+_, _-_, _/_, _%_, _≤_, _<_}
+use Prim.Native.Nat.{ℕ, _+_, _/_, _%_, _≤_, _<_}
 use native.Mathlib.Nat.{zero-div}
 use native.Mathlib.Omega.{arith}
 use lib.ListN.{length, take, getD, length-take, length-replicate}
 use lib.Seq.{getD-take}
 use lib.Dec.{eqb}
-use Rattle.area.specs.Pick.{pick, both}
+use Rattle.lists.specs.Pick.{pick, both}
+use Rattle.lists.specs.Tests.{every}
+use Rattle.lists.proofs.Laws.Pick.{by, picks, skips, both-left, both-right}
+use Rattle.lists.proofs.Laws.Tab.{every-tab}
+use Rattle.lists.proofs.Laws.Every.{every-get, every-pick, every-alike, every-none}
 use Rattle.area.specs.Area.{same}
-use Rattle.area.proofs.Laws.Pick.{by, picks, skips, both-left, both-right, both-join}
 use Rattle.area.proofs.Laws.Same.{same-eq}
 use Rattle.tree.specs.Tree.{join}
 use Rattle.tree.specs.Walk.{proofIn}
 use Rattle.sia.specs.Names.{opOf}
-use Rattle.sia.specs.Encode.{joined, every}
+use Rattle.sia.specs.Encode.{joined}
 use Rattle.host.specs.Empty.{none, noPlace}
-use Rattle.host.specs.Places.{hasId, whose, committed, taken}
+use Rattle.host.specs.Places.{hasId, whose, taken}
 use Rattle.host.specs.Facts.{Staged}
+use Rattle.host.proofs.Laws.Whose.{committed-held}
 use Rattle.machine_rules.specs.View.{Way, kept, worked, Setting, Turn, readOnlyMode, parent, freeCopies, sector, spotOf, parentSpots, committedSpots}
 use Rattle.machine_rules.specs.Roots.{sectorRoot, keptRoot, rootBy, rootOf, contractRoot, rangeProof}
 use Rattle.machine_rules.specs.Seats.{seatsOf, firstSeat}
@@ -29,8 +33,7 @@ use Rattle.machine_rules.specs.Plan.{refused, fitted, weighed, plannedIn
 use Rattle.machine_rules.specs.Facts.{Solid, startOf}
 use Rattle.machine_rules.specs.Visit.{Shaped}
 use Rattle.machine_rules.specs.Sound.{right, stagedRight}
-use Rattle.machine_rules.proofs.Laws.Spots.{every-get, whose-every, whose-nobody, unstaged, every-tab, every-pick, pick-spots, disk-every}
-use Rattle.machine_rules.proofs.Laws.Spots.{program-every, sought-every}
+use Rattle.machine_rules.proofs.Laws.Spots.{whose-every, whose-nobody, unstaged, pick-spots, disk-every, program-every, sought-every}
 use Rattle.machine_rules.proofs.Laws.Rehashed.{right-at}
 use Rattle.sia.specs.declared.Op.{Op}
 use Rattle.sia.specs.declared.Op.the-variants.{Read, ReadSector, Write, Copy, Swap, Truncate, Unknown}
@@ -75,10 +78,6 @@ first-agree f g key (x ∷ xs) h =
 
 -- ---- what holds of every sector in use holds of all that is seen
 
-pub every-none : (p : Spot → Bool) → every p [] ≡ true
-unfolding every
-every-none p = refl
-
 length-slots : (id : List ℕ) (ps : List Place) → Shaped ps → length (whose id ps .slots) ≡ 64
 unfolding whose noPlace
 length-slots id [] h = length-replicate {A = ℕ} 64 0
@@ -86,10 +85,6 @@ length-slots id (p ∷ ps) h =
     by (hasId id p)
     (λ e. ap (λ (x : Place). length (x .slots)) (picks (hasId id p) p (whose id ps) e) ∙ h .0)
     (λ e. ap (λ (x : Place). length (x .slots)) (skips (hasId id p) p (whose id ps) e) ∙ length-slots id ps (h .1))
-
-committed-held : (z : ℕ) (p : Place) → p .held ≡ true → committed z p ≡ take (p .size / z) (p .slots)
-unfolding committed
-committed-held z p e = picks (p .held) _ [] e
 
 module _ (z : ℕ) (s : Setting) (P : Spot → Bool) (onDisk : every (λ n. P (OnDisk n)) (taken z (s .places)) ≡ true) where
   pub all-committed : (id : List ℕ) → every P (committedSpots z (whose id (s .places))) ≡ true
@@ -165,11 +160,6 @@ stage-agrees : (z : ℕ) (s : Setting) (stage copies : List ℕ) (n : ℕ) → r
     ≡ agree (rootOf z (withWay kept s) stage copies) (rootOf z (withWay worked s) stage copies) (InStage n)
 unfolding right agree rootOf rootBy withWay keptRoot sectorRoot sector
 stage-agrees z s stage copies n = refl
-
-every-alike : (p q : ℕ → Bool) (l : List ℕ) → ((n : ℕ) → p n ≡ q n) → every p l ≡ true → every q l ≡ true
-unfolding every
-every-alike p q [] e h = refl
-every-alike p q (x ∷ xs) e h = both-join _ _ (sym (e x) ∙ both-left _ _ h) (every-alike p q xs e (both-right _ _ h))
 
 -- roots that are right, of the sectors that there are while instructions run
 pub record Known (z : ℕ) (s : Setting) (t : Turn) : Type 0 where

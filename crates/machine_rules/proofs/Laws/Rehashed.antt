@@ -1,45 +1,33 @@
 -- The roots kept beside the stage's slots after an instruction: right where they were right before. Assumes nothing.
 use mathlib.Core.Path.{_≡_, refl, sym, ap, _∙_, subst}
-use mathlib.Core.Bool.{Bool, true, false, not}
+use mathlib.Core.Bool.{true, false, not}
 use mathlib.Core.List.{List, [], _∷_}
 use Prim.Native.Nat.{ℕ, zero, suc, _+_, _*_, _≤_, _<_}
 use native.Mathlib.Omega.{arith}
 use lib.ListN.{length, getD}
 use lib.Dec.{ltb, eqb}
-use borrow.Author.Tests.{not-true, ltb-true, ltb-false, eqb-true, eqb-false, ne-eqb, eq-eqb}
-use Rattle.area.specs.Pick.{either, both}
+use borrow.Author.Tests.{not-true, ltb-true, ltb-false, eqb-true, eqb-false, eq-eqb}
+use Rattle.lists.specs.Pick.{either, both}
+use Rattle.lists.specs.Tests.{some, apart}
+use Rattle.lists.proofs.Laws.Pick.{by, picks, skips, never, both-left, both-right, both-join, either-left, either-right, either-else}
+use Rattle.lists.proofs.Laws.Every.{every-at, every-all}
+use Rattle.lists.proofs.Laws.Some.{member-here, member-more, member-less}
 use Rattle.area.specs.Area.{part, put}
-use Rattle.area.proofs.Laws.Pick.{by, picks, skips, never, both-left, both-right, both-join, either-left, either-right}
 use Rattle.area.proofs.Laws.Puts.{part-put}
 use Rattle.area.proofs.Laws.Same.{same-eq, eq-same}
 use Rattle.tree.specs.Tree.{root}
 use Rattle.tree.proofs.Promise.{roots}
-use Rattle.sia.specs.Encode.{every}
-use Rattle.host.specs.Lists.{some, apart}
 use Rattle.host.specs.Empty.{none}
 use Rattle.host.specs.Order.{slotInOrder, clash}
 use Rattle.host.specs.Facts.{Staged}
 use Rattle.machine_rules.specs.Effect.{Staging, rehashed}
 use Rattle.machine_rules.specs.Sound.{right, stagedRight}
-use Rattle.machine_rules.proofs.Laws.Spots.{every-at}
-use Rattle.machine_rules.proofs.Laws.Filling.{other-slot}
+use Rattle.area.proofs.Laws.Slots.{other-slot}
 use Rattle.machine_rules.proofs.Laws.Areas.{rehashed-length}
 use Rattle.machine_rules.proofs.Laws.Wrote.{Wrote}
 use Rattle.machine_rules.proofs.Laws.Staged.{slot-none}
 
 -- ---- the slots of a list of positions
-
-some-here : (j : ℕ) (l : List ℕ) → some (eqb j) (j ∷ l) ≡ true
-unfolding some
-some-here j l = picks (eqb j j) true _ (eq-eqb j j refl)
-
-some-more : (j at : ℕ) (l : List ℕ) → some (eqb j) l ≡ true → some (eqb j) (at ∷ l) ≡ true
-unfolding some
-some-more j at l e = by (eqb j at) (λ u. picks (eqb j at) true _ u) (λ u. skips (eqb j at) true _ u ∙ e)
-
-some-less : (j at : ℕ) (l : List ℕ) → (j ≡ at → ⊥) → some (eqb j) (at ∷ l) ≡ true → some (eqb j) l ≡ true
-unfolding some
-some-less j at l ne e = sym (skips (eqb j at) true _ (ne-eqb j at ne)) ∙ e
 
 -- none of the positions has slot m
 pub rehashed-out : (z : ℕ) (g : Staging) (m : ℕ) (l copies : List ℕ) → ((at : ℕ) → some (eqb at) l ≡ true → getD (g .staged) at none ≡ m → ⊥)
@@ -48,8 +36,8 @@ unfolding rehashed
 rehashed-out z g m [] copies o = refl
 rehashed-out z g m (at ∷ l) copies o =
     other-slot 32 (rehashed z g l copies) (getD (g .staged) at none) m _
-        (omega (arith, roots .root-long (part (g .bytes) (getD (g .staged) at none * z) z))) (o at (some-here at l))
-    ∙ rehashed-out z g m l copies (λ j u. o j (some-more j at l u))
+        (omega (arith, roots .root-long (part (g .bytes) (getD (g .staged) at none * z) z))) (o at (member-here at l))
+    ∙ rehashed-out z g m l copies (λ j u. o j (member-more j at l u))
 
 -- one of them has it
 pub rehashed-in : (z : ℕ) (g : Staging) (m : ℕ) (l copies : List ℕ) (j : ℕ) → some (eqb j) l ≡ true → getD (g .staged) j none ≡ m → m * 32 + 32 ≤ length copies
@@ -67,7 +55,7 @@ rehashed-in z g m (at ∷ l) copies j u k room =
     ∙ ap (λ (x : ℕ). root (part (g .bytes) (x * z) z)) q)
     (λ v. let ne = eqb-false (getD (g .staged) at none) m v in
     other-slot 32 (rehashed z g l copies) (getD (g .staged) at none) m _ (omega (arith, long)) ne
-    ∙ rehashed-in z g m l copies j (some-less j at l (λ q. ne (ap (λ (x : ℕ). getD (g .staged) x none) (sym q) ∙ k)) u) k room)
+    ∙ rehashed-in z g m l copies j (member-less j at l (λ q. ne (ap (λ (x : ℕ). getD (g .staged) x none) (sym q) ∙ k)) u) k room)
 
 -- ---- positions and slots
 
@@ -97,20 +85,7 @@ two-slots l h j k ne n e =
     (λ v. slots-differ l h k j (ltb-true k j v) (subst (λ (x : ℕ). eqb x none ≡ false) (sym e) n) (sym e))
     (λ v. ne (omega (arith, ltb-false j k u, ltb-false k j v))))
 
-pub every-all : (p : ℕ → Bool) (l : List ℕ) (d : ℕ) → ((j : ℕ) → j < length l → p (getD l j d) ≡ true) → every p l ≡ true
-unfolding every
-every-all p [] d f = refl
-every-all p (x ∷ xs) d f = both-join _ _ (f 0 (omega arith)) (every-all p xs d (λ j lt. f (suc j) (omega arith)))
-
-pub every-two : (p q r : ℕ → Bool) (l : List ℕ) → every p l ≡ true → every q l ≡ true → ((n : ℕ) → p n ≡ true → q n ≡ true → r n ≡ true) → every r l ≡ true
-unfolding every
-every-two p q r [] u v f = refl
-every-two p q r (x ∷ xs) u v f = both-join _ _ (f x (both-left _ _ u) (both-left _ _ v)) (every-two p q r xs (both-right _ _ u) (both-right _ _ v) f)
-
 -- ---- right before, right after
-
-or-second : (a b : Bool) → (a ≡ false → b ≡ true) → either a b ≡ true
-or-second a b f = by a (λ u. picks a true b u) (λ u. skips a true b u ∙ f u)
 
 pub right-at : (z : ℕ) (stage copies staged : List ℕ) (j : ℕ) → stagedRight z stage copies staged ≡ true → eqb (getD staged j none) none ≡ false
     → right z stage copies (getD staged j none) ≡ true
@@ -125,7 +100,7 @@ pub rehashed-right : (z : ℕ) (ps copies : List ℕ) (g h : Staging) (n start n
 unfolding stagedRight right slotInOrder
 rehashed-right z ps copies g h n start now w few f long before =
     every-all (λ m. either (eqb m none) (right z (h .bytes) (rehashed z h ps copies) m)) (h .staged) none (λ j lt.
-    or-second (eqb (getD (h .staged) j none) none) _ (λ has.
+    either-else (eqb (getD (h .staged) j none) none) _ (λ has.
     let m = getD (h .staged) j none in
     let below : getD (h .staged) j none < n = ltb-true _ _ (sym (skips (eqb (getD (h .staged) j none) none) true _ has)
         ∙ every-at (slotInOrder n) (h .staged) j none (f .slots) (slot-none n)) in

@@ -8,10 +8,10 @@ use native.Mathlib.Omega.{arith}
 use lib.ListN.{length, getD}
 use lib.Dec.{ltb, eqb}
 use borrow.Author.Tests.{eqb-true, eqb-false, eq-eqb, ne-eqb, ltb-true, ltb-false}
-use Rattle.area.specs.Pick.{pick, both, either}
+use Rattle.lists.specs.Pick.{pick, both, either}
+use Rattle.lists.specs.Tests.{each, firstOf}
+use Rattle.lists.proofs.Laws.Pick.{by, picks, skips, never}
 use Rattle.area.specs.Area.{same}
-use Rattle.area.proofs.Laws.Pick.{by, picks, skips, never}
-use Rattle.host.specs.Lists.{each, firstOf}
 use Rattle.host.specs.Empty.{noPlace}
 use Rattle.host.specs.Places.{committed}
 use Rattle.machine_rules.specs.View.{committedSpots}

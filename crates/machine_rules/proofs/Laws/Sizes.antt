@@ -9,19 +9,19 @@ use lib.ListN.{length, take, length-append}
 use lib.Seq.{length-take-le}
 use lib.Dec.{eqb}
 use borrow.Author.Tests.{not-true, leb-true, eqb-true}
-use Rattle.area.specs.Pick.{pick, both}
+use Rattle.lists.specs.Pick.{pick, both}
+use Rattle.lists.specs.Tests.{every, each, sum}
+use Rattle.lists.proofs.Laws.Pick.{by, picks, skips, never, both-left, both-right, both-join, second-not}
 use Rattle.area.specs.Area.{same}
-use Rattle.area.proofs.Laws.Pick.{by, picks, skips, never, both-left, both-right, both-join}
 use Rattle.area.proofs.Laws.Same.{same-eq}
 use Rattle.sia.specs.Names.{readOnly}
-use Rattle.sia.specs.Encode.{joined, every}
-use Rattle.host.specs.Lists.{each, sum}
+use Rattle.sia.specs.Encode.{joined}
 use Rattle.host.specs.Empty.{noPlace}
 use Rattle.host.specs.Places.{hasId, whose, ownSize, others, committed, taken}
 use Rattle.host.specs.Order.{placeInOrder, parentInOrder}
+use Rattle.host.proofs.Laws.Whose.{has-none, has-held}
 use Rattle.machine_rules.specs.Visit.{Shaped}
 use Rattle.machine_rules.proofs.Laws.Effects.{whole-sectors}
-use Rattle.machine_rules.proofs.Laws.Areas.{either-second as second-not}
 use Rattle.machine_rules.proofs.Laws.Spots.{whose-nobody}
 use Rattle.host.specs.declared.Place.{Place}
 
@@ -36,10 +36,6 @@ has-not id p f = under (p .held)
     under : (b : Bool) → pick b (same (p .id) id) false ≡ false
     under true = f
     under false = refl
-
-pub has-none : (id : List ℕ) (p : Place) → p .held ≡ false → hasId id p ≡ false
-unfolding hasId
-has-none id p e = skips (p .held) _ false e
 
 pub keeps-not : (a b : Bool) → b ≡ true → both a (not b) ≡ false
 unfolding pick
@@ -103,10 +99,6 @@ sizes z id (p ∷ ps) h s =
 no-place-whole : (z : ℕ) (id : List ℕ) → whose id [] .size % z ≡ 0
 unfolding whose noPlace
 no-place-whole z id = zero-mod z
-
-pub has-held : (id : List ℕ) (p : Place) → hasId id p ≡ true → p .held ≡ true
-unfolding hasId
-has-held id p e = both-left _ _ e
 
 pub has-same : (id : List ℕ) (p : Place) → hasId id p ≡ true → same (p .id) id ≡ true
 unfolding hasId

@@ -5,9 +5,9 @@ use mathlib.Core.List.{List, [], _∷_, _++_}
 use Prim.Native.Nat.{ℕ, zero, suc, _+_, _<_}
 use native.Mathlib.Omega.{arith}
 use lib.ListN.{length, getD}
-use Rattle.area.specs.Pick.{pick}
+use Rattle.lists.specs.Pick.{pick}
+use Rattle.lists.proofs.Laws.Pick.{by, picks, skips, never}
 use Rattle.area.specs.Area.{same}
-use Rattle.area.proofs.Laws.Pick.{by, picks, skips, never}
 use Rattle.area.proofs.Laws.Same.{same-eq}
 use Rattle.host.specs.Empty.{noPlace}
 use Rattle.machine_rules.specs.View.{Setting, committedSpots}

@@ -9,12 +9,14 @@ use lib.ListN.{length, take, drop, length-take, take-append-drop}
 use lib.Seq.{take-take}
 use lib.Dec.{ltb}
 use borrow.Author.Tests.{not-true, ltb-true, ltb-false}
-use Rattle.area.specs.Pick.{pick, both, either}
+use Rattle.lists.specs.Pick.{pick, both, either}
+use Rattle.lists.specs.Tests.{every, some, each, apart, sum}
+use Rattle.lists.proofs.Laws.Pick.{by, picks, skips, never, both-left, both-right, both-join, either-left, either-right}
+use Rattle.lists.proofs.Laws.Every.{every-none, every-cons}
+use Rattle.lists.proofs.Laws.Apart.{tail-apart}
 use Rattle.area.specs.Area.{same}
-use Rattle.area.proofs.Laws.Pick.{by, picks, skips, never, both-left, both-right, both-join, either-left, either-right}
 use Rattle.area.proofs.Laws.Same.{same-eq, eq-same}
-use Rattle.sia.specs.Encode.{joined, every}
-use Rattle.host.specs.Lists.{some, each, apart, sum}
+use Rattle.sia.specs.Encode.{joined}
 use Rattle.host.specs.Empty.{noPlace}
 use Rattle.host.specs.With.{withSize}
 use Rattle.host.specs.Places.{hasId, whose, ownSize, others, committed, taken}
@@ -22,8 +24,8 @@ use Rattle.host.specs.Order.{placeInOrder, twins}
 use Rattle.host.specs.Calls.{replaced}
 use Rattle.machine_rules.specs.Commit.{cut}
 use Rattle.machine_rules.specs.Visit.{Shaped}
-use Rattle.machine_rules.proofs.Laws.Pigeons.{tail-apart}
-use Rattle.machine_rules.proofs.Laws.Sizes.{has-id, has-held, has-same, whose-here, whose-on, others-kept, others-left, taken-length, committed-bytes}
+use Rattle.machine_rules.proofs.Laws.Sizes.{has-id, has-same, whose-here, whose-on, others-kept, others-left, taken-length, committed-bytes}
+use Rattle.host.proofs.Laws.Whose.{has-held, committed-held}
 use Rattle.host.specs.declared.Place.{Place}
 
 are-twins : (id : List ℕ) (p q : Place) → hasId id p ≡ true → hasId id q ≡ true → twins p q ≡ true
@@ -78,14 +80,6 @@ no-held : (id : List ℕ) → whose id [] .held ≡ false
 unfolding whose noPlace
 no-held id = refl
 
-every-nothing : (p : Place → Bool) → every p [] ≡ true
-unfolding every
-every-nothing p = refl
-
-pub every-cons : (p : Place → Bool) (x : Place) (xs : List Place) → p x ≡ true → every p xs ≡ true → every p (x ∷ xs) ≡ true
-unfolding every
-every-cons p x xs h k = both-join _ _ h k
-
 pub split : (id : List ℕ) (ps : List Place) → apart twins ps ≡ true → whose id ps .held ≡ true → Split id ps
 split id [] a h = never (sym h ∙ no-held id)
 split id (p ∷ ps) a h =
@@ -97,7 +91,7 @@ split id (p ∷ ps) a h =
       behind = ps;
       is = refl;
       here = e;
-      not-before = every-nothing _;
+      not-before = every-none _;
       not-behind = none-has id p ps e (q .0);
       whose-is = whose-here id p ps e;
     })
@@ -181,10 +175,6 @@ pub cut-held : (z n : ℕ) (p : Place) → p .held ≡ true → committed z (cut
 unfolding cut committed withSize
 cut-held z n p e = picks (p .held) _ [] e
 
-held-slots : (z : ℕ) (p : Place) → p .held ≡ true → committed z p ≡ take (p .size / z) (p .slots)
-unfolding committed
-held-slots z p e = picks (p .held) _ [] e
-
 div-less : (z a b : ℕ) → 0 < z → a < suc b * z → a / z ≤ b
 div-less z a b pos h = let q : a / z < suc b = div-lt-iff-lt-mul {k = z} {x = a} {y = suc b} pos .1 h in omega arith
 
@@ -210,7 +200,7 @@ cut-rest z n p = drop (min (p .size) n / z) (take (p .size / z) (p .slots))
 pub cut-prefix : (z n : ℕ) (p : Place) → 0 < z → p .held ≡ true → committed z p ≡ committed z (cut n p) ++ cut-rest z n p
 unfolding cut-rest
 cut-prefix z n p pos e =
-    held-slots z p e
+    committed-held z p e
     ∙ sym (take-append-drop (min (p .size) n / z) (take (p .size / z) (p .slots)))
     ∙ ap (λ (l : List ℕ). l ++ drop (min (p .size) n / z) (take (p .size / z) (p .slots)))
         (take-take (min (p .size) n / z) (p .size / z) (p .slots) (cut-fewer z n p pos .0) ∙ sym (cut-held z n p e))
@@ -226,17 +216,9 @@ pub shaped-aft : (l m : List Place) → Shaped (l ++ m) → Shaped m
 shaped-aft [] m h = h
 shaped-aft (p ∷ l) m h = shaped-aft l m (h .1)
 
-pub every-first : (p : Place → Bool) (x : Place) (xs : List Place) → every p (x ∷ xs) ≡ true → p x ≡ true
-unfolding every
-every-first p x xs h = both-left _ _ h
-
-pub every-rest : (p : Place → Bool) (x : Place) (xs : List Place) → every p (x ∷ xs) ≡ true → every p xs ≡ true
-unfolding every
-every-rest p x xs h = both-right _ _ h
-
 -- nothing has the id: nothing is replaced
 pub none-of : (id : List ℕ) (ps : List Place) → whose id ps .held ≡ false → every (λ q. not (hasId id q)) ps ≡ true
-none-of id [] h = every-nothing _
+none-of id [] h = every-none _
 none-of id (p ∷ ps) h =
     by (hasId id p)
     (λ e. never (sym (has-held id p e) ∙ sym (ap (λ (x : Place). x .held) (whose-here id p ps e)) ∙ h))

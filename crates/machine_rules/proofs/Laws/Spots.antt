@@ -1,30 +1,32 @@
 -- What is seen lies in slots that there are, at most 64 sectors. Assumes nothing.
 use mathlib.Core.Path.{_≡_, refl, sym, ap, _∙_, subst}
 use mathlib.Core.Bool.{Bool, true, false, not}
-use mathlib.Core.List.{List, [], _∷_, _++_}
-use Prim.Native.Nat.{ℕ, zero, suc, _+_, _-_, _/_, _≤_, _<_}
+use mathlib.Core.List.{List, [], _∷_}
+use Prim.Native.Nat.{ℕ, suc, _+_, _-_, _/_, _≤_, _<_}
 use native.Mathlib.Nat.{zero-div}
 use native.Mathlib.Omega.{arith}
 use lib.ListN.{length, take, drop, getD, length-take, length-drop}
 use lib.Seq.{getD-take, getD-drop, length-take-le}
 use lib.Dec.{leb, ltb, eqb}
 use borrow.Author.Tests.{not-true, leb-true, ltb-true, ltb-false, lt-ltb}
-use Rattle.area.specs.Pick.{pick, both, either}
-use Rattle.area.specs.Area.{same, tab}
-use Rattle.area.proofs.Laws.Pick.{by, picks, skips, never, both-left, both-right, both-join}
-use Rattle.area.proofs.Laws.Tab.{length-tab}
-use Rattle.sia.specs.Encode.{joined, every}
-use Rattle.host.specs.Lists.{each}
+use Rattle.lists.specs.Pick.{pick}
+use Rattle.lists.specs.Tests.{every, each}
+use Rattle.lists.proofs.Laws.Pick.{by, picks, skips, never, both-left, both-right, both-join, second-not, either-second}
+use Rattle.lists.proofs.Laws.Tab.{length-tab, every-tab}
+use Rattle.lists.proofs.Laws.Every.{every-at, every-get, every-fore, every-aft, every-pick, every-append, every-none}
+use Rattle.lists.proofs.Laws.Each.{length-each}
+use Rattle.area.specs.Area.{same}
+use Rattle.sia.specs.Encode.{joined}
 use Rattle.host.specs.Empty.{none, noPlace}
 use Rattle.host.specs.Places.{hasId, whose, committed, taken}
 use Rattle.host.specs.Order.{placeInOrder, slotInOrder}
 use Rattle.host.specs.Facts.{Staged}
+use Rattle.host.proofs.Laws.Whose.{whose-order, has-held, committed-held}
 use Rattle.machine_rules.specs.View.{Setting, readOnlyMode, parent, spotOf, parentSpots, committedSpots}
 use Rattle.machine_rules.specs.Seats.{seated, committedSeats, seats, seatsOf, firstSeat}
 use Rattle.machine_rules.specs.Plan.{Source, missing, seen, spots, contractSource, soughtSource, sectorSource, sourceOf}
 use Rattle.machine_rules.specs.Facts.{Solid, startOf, valid}
 use Rattle.machine_rules.proofs.Laws.Staged.{slot-none}
-use Rattle.machine_rules.proofs.Laws.Areas.{either-second as second-not}
 use Rattle.sia.specs.declared.Op.{Op}
 use Rattle.sia.specs.declared.Op.the-variants.{Read, ReadSector, Write, Copy, Swap, Truncate, Unknown}
 use Rattle.host.specs.declared.Place.{Place}
@@ -36,43 +38,6 @@ use Rattle.machine_rules.specs.declared.Sought.{Sought}
 use Rattle.machine_rules.specs.declared.Sought.the-variants.{At, Nowhere}
 
 -- ---- spots are slots that there are
-
-pub every-at : {A : Type 0} (p : A → Bool) (l : List A) (i : ℕ) (d : A) → every p l ≡ true → p d ≡ true → p (getD l i d) ≡ true
-unfolding every
-every-at p [] i d h e = e
-every-at p (x ∷ xs) zero d h e = both-left _ _ h
-every-at p (x ∷ xs) (suc i) d h e = every-at p xs i d (both-right _ _ h) e
-
-pub every-get : {A : Type 0} (p : A → Bool) (l : List A) (i : ℕ) (d : A) → i < length l → every p l ≡ true → p (getD l i d) ≡ true
-unfolding every
-every-get p [] i d h e = absurd (omega arith)
-every-get p (x ∷ xs) zero d h e = both-left _ _ e
-every-get p (x ∷ xs) (suc i) d h e = every-get p xs i d (omega arith) (both-right _ _ e)
-
-pub either-second : (a b : Bool) → either a b ≡ true → a ≡ false → b ≡ true
-unfolding pick
-either-second true b e f = never f
-either-second false b e f = e
-
-pub every-fore : {A : Type 0} (p : A → Bool) (l m : List A) → every p (l ++ m) ≡ true → every p l ≡ true
-unfolding every
-every-fore p [] m h = refl
-every-fore p (x ∷ xs) m h = both-join _ _ (both-left _ _ h) (every-fore p xs m (both-right _ _ h))
-
-pub every-aft : {A : Type 0} (p : A → Bool) (l m : List A) → every p (l ++ m) ≡ true → every p m ≡ true
-unfolding every
-every-aft p [] m h = h
-every-aft p (x ∷ xs) m h = every-aft p xs m (both-right _ _ h)
-
-pub every-tab : {A : Type 0} (p : A → Bool) (f : ℕ → A) (i n : ℕ) → ((j : ℕ) → i ≤ j → j < i + n → p (f j) ≡ true) → every p (tab i n f) ≡ true
-unfolding every tab
-every-tab p f i zero g = refl
-every-tab p f i (suc n) g = both-join _ _ (g i (omega arith) (omega arith)) (every-tab p f (suc i) n (λ j lo hi. g j (omega arith) (omega arith)))
-
-pub every-pick : {A : Type 0} (p : A → Bool) (b : Bool) (l m : List A) → every p l ≡ true → every p m ≡ true → every p (pick b l m) ≡ true
-unfolding pick
-every-pick p true l m u v = u
-every-pick p false l m u v = v
 
 pub disk-valid : (s : Setting) (l : List ℕ) → every (λ n. ltb n (s .sectors)) l ≡ true → every (valid s) (each OnDisk l) ≡ true
 unfolding every each valid
@@ -92,10 +57,6 @@ whose-every p z id (q ∷ ps) h =
     (λ e. ap (λ (x : Place). every p (committed z x)) (picks (hasId id q) q (whose id ps) e) ∙ every-fore _ (committed z q) _ h)
     (λ e. ap (λ (x : Place). every p (committed z x)) (skips (hasId id q) q (whose id ps) e) ∙ whose-every p z id ps (every-aft _ (committed z q) _ h))
 
-has-held : (id : List ℕ) (p : Place) → hasId id p ≡ true → p .held ≡ true
-unfolding hasId
-has-held id p e = both-left _ _ e
-
 pub whose-nobody : (id : List ℕ) (ps : List Place) → whose id ps .held ≡ false → whose id ps .size ≡ 0
 unfolding whose noPlace
 whose-nobody id [] h = refl
@@ -104,10 +65,6 @@ whose-nobody id (p ∷ ps) h =
     (λ e. never (sym (has-held id p e) ∙ sym (ap (λ (x : Place). x .held) (picks (hasId id p) p (whose id ps) e)) ∙ h))
     (λ e. ap (λ (x : Place). x .size) (skips (hasId id p) p (whose id ps) e)
         ∙ whose-nobody id ps (sym (ap (λ (x : Place). x .held) (skips (hasId id p) p (whose id ps) e)) ∙ h))
-
-committed-held : (z : ℕ) (p : Place) → p .held ≡ true → committed z p ≡ take (p .size / z) (p .slots)
-unfolding committed
-committed-held z p e = picks (p .held) _ [] e
 
 -- ---- what holds of all committed sectors holds of the one that is found
 
@@ -121,31 +78,17 @@ unfolding seated every
 seated-every P i at [] h = refl
 seated-every P i at (x ∷ xs) h = both-join _ _ (both-left _ _ h) (seated-every P i (suc at) xs (both-right _ _ h))
 
-both-both : (a b c : Bool) → both a (both b c) ≡ both (both a b) c
-unfolding pick
-both-both true b c = refl
-both-both false b c = refl
-
-every-append : {A : Type 0} (p : A → Bool) (l m : List A) → every p (l ++ m) ≡ both (every p l) (every p m)
-unfolding every pick
-every-append p [] m = refl
-every-append p (x ∷ xs) m = ap (both (p x)) (every-append p xs m) ∙ both-both (p x) (every p xs) (every p m)
-
-no-seats : (Q : Seat → Bool) → every Q [] ≡ true
-unfolding every
-no-seats Q = refl
-
 module _ (P : Spot → Bool) (z : ℕ) (mine : Place → Bool) where
   committed-every : (i : ℕ) (ps : List Place) → every (λ n. P (OnDisk n)) (taken z ps) ≡ true
       → every (λ x. P (x .spot)) (committedSeats z mine i ps) ≡ true
   unfolding committedSeats taken joined committedSpots
-  committed-every i [] h = no-seats _
+  committed-every i [] h = every-none _
   committed-every i (p ∷ ps) h =
       let l = seated i 0 (committedSpots z p) in
       let own = seated-every P i 0 (committedSpots z p) (disk-every P (committed z p) (every-fore _ (committed z p) _ h)) in
       rw (
         every-append (λ (x : Seat). P (x .spot)) (pick (mine p) [] l) (committedSeats z mine (suc i) ps),
-        every-pick (λ (x : Seat). P (x .spot)) (mine p) [] l (no-seats _) own,
+        every-pick (λ (x : Seat). P (x .spot)) (mine p) [] l (every-none _) own,
         committed-every (suc i) ps (every-aft _ (committed z p) _ h),
       ) (both-join true true refl refl)
 
@@ -246,10 +189,6 @@ module _ (z : ℕ) (s : Setting) (p : Progress) (solid : Solid z s) (f : Staged 
 
 -- ---- and there are at most 64 of them
 
-no-place-in-order : (z : ℕ) → placeInOrder z noPlace ≡ true
-unfolding placeInOrder noPlace
-no-place-in-order z = picks true true _ refl
-
 few-committed : (z : ℕ) (p : Place) → placeInOrder z p ≡ true → length (committed z p) ≤ 64
 unfolding committed placeInOrder
 few-committed z p e =
@@ -259,17 +198,7 @@ few-committed z p e =
     (λ h. omega (arith, ap length (skips (p .held) (take (p .size / z) (p .slots)) [] h)))
 
 pub few-whose : (z : ℕ) (id : List ℕ) (ps : List Place) → every (placeInOrder z) ps ≡ true → length (committed z (whose id ps)) ≤ 64
-unfolding whose every
-few-whose z id [] h = few-committed z noPlace (no-place-in-order z)
-few-whose z id (p ∷ ps) h =
-    by (hasId id p)
-    (λ e. rw (picks (hasId id p) p (whose id ps) e) (few-committed z p (both-left _ _ h)))
-    (λ e. rw (skips (hasId id p) p (whose id ps) e) (few-whose z id ps (both-right _ _ h)))
-
-pub length-each : (l : List ℕ) → length (each OnDisk l) ≡ length l
-unfolding each
-length-each [] = refl
-length-each (x ∷ xs) = ap suc (length-each xs)
+few-whose z id ps h = few-committed z (whose id ps) (whose-order z id ps h)
 
 few-sought : (r : Sought) → length (spots (soughtSource r)) ≤ 1
 unfolding soughtSource spots
@@ -290,7 +219,7 @@ few-contract z s p id h u =
     (few-pick _ [] _ (omega arith)
     (rw (pick-spots (same id (s .terms .head .contract)) (seen (parentSpots z s p)) (seen (committedSpots z (whose id (s .places)))))
     (few-pick _ _ _ (omega (arith, length-tab 0 (p .size / z) (spotOf (parent s .slots) (p .staged)), u))
-    (omega (arith, length-each (committed z (whose id (s .places))), few-whose z id (s .places) h)))))
+    (omega (arith, length-each OnDisk (committed z (whose id (s .places))), few-whose z id (s .places) h)))))
 
 pub few-spots : (z : ℕ) (s : Setting) (f : Spot → List ℕ) (p : Progress) (op : Op) (key : List ℕ) → every (placeInOrder z) (s .places) ≡ true → p .size / z ≤ 64
     → length (spots (sourceOf z s f p op key)) ≤ 64

@@ -1,20 +1,20 @@
 -- The staged positions stay in order: a copy is made, a sector is added, a sector is dropped. Assumes nothing.
-use mathlib.Core.Path.{_≡_, refl, ap, _∙_, subst}
-use mathlib.Core.Bool.{Bool, true, false, not}
+use mathlib.Core.Path.{_≡_, refl, ap, _∙_}
+use mathlib.Core.Bool.{true, false, not}
 use mathlib.Core.List.{List, [], _∷_, _++_}
-use Prim.Native.Nat.{ℕ, suc, _+_, _≤_, _<_}
+use Prim.Native.Nat.{ℕ, suc, _≤_, _<_}
 use native.Mathlib.Omega.{arith}
 use lib.ListN.{length, take, drop, set, length-append, drop-of-length-le}
-use lib.Seq.{drop-drop, take-suc-set, take-set-lt, take-set-le, drop-set-lt, drop-append-le, length-take-le}
+use lib.Seq.{take-suc-set, take-set-lt, take-set-le, drop-set-lt, drop-append-le, length-take-le}
 use lib.Dec.{leb, eqb}
 use borrow.Author.Tests.{leb-true, leb-false, lt-ltb, ne-eqb}
-use Rattle.area.proofs.Laws.Pick.{by, picks, skips, never}
-use Rattle.sia.specs.Encode.{every}
-use Rattle.host.specs.Lists.{some}
+use Rattle.lists.specs.Tests.{some}
+use Rattle.lists.proofs.Laws.Pick.{by, picks, skips, never}
+use Rattle.lists.proofs.Laws.Every.{every-set, every-front, every-one-more, every-set-first, every-set-from, every-none, every-drop-more}
 use Rattle.host.specs.Empty.{none}
 use Rattle.host.specs.Order.{slotInOrder}
 use Rattle.host.specs.Facts.{Staged}
-use Rattle.machine_rules.proofs.Laws.Lists.{every-set, every-drop, every-front, every-one-more, every-set-first, every-set-from, apart-set}
+use Rattle.machine_rules.proofs.Laws.Clash.{apart-set}
 
 -- a slot that is free: below the count of slots, and no position has it
 pub record Free (stage slot : ℕ) (staged : List ℕ) : Type 0 where
@@ -23,15 +23,6 @@ pub record Free (stage slot : ℕ) (staged : List ℕ) : Type 0 where
 
 free-not-none : (stage slot : ℕ) → stage ≤ 16 → slot < stage → eqb slot none ≡ false
 free-not-none stage slot h k = ne-eqb slot none (λ e. omega arith)
-
-every-none : (p : ℕ → Bool) → every p [] ≡ true
-unfolding every
-every-none p = refl
-
-every-drop-more : (p : ℕ → Bool) (n : ℕ) (l : List ℕ) → every p (drop n l) ≡ true → every p (drop (suc n) l) ≡ true
-every-drop-more p n l h =
-    let e : n + 1 ≡ suc n = omega arith in
-    subst (λ (x : ℕ). every p (drop x l) ≡ true) e (subst (λ (x : List ℕ). every p x ≡ true) (drop-drop 1 n l) (every-drop p 1 (drop n l) h))
 
 pub slot-below : (stage slot : ℕ) → slot < stage → slotInOrder stage slot ≡ true
 unfolding slotInOrder

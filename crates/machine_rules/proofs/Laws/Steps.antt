@@ -6,15 +6,16 @@ use Prim.Native.Nat.{ℕ, zero, suc, _+_, _-_, _≤_, _<_}
 use native.Mathlib.Nat.{le-trans}
 use native.Mathlib.Omega.{arith}
 use lib.ListN.{take, drop}
-use lib.Seq.{take-nil, take-take}
+use lib.Seq.{take-take}
 use lib.Dec.{eqb, eqb·suc-zero}
 use borrow.Author.Tests.{not-true, leb-true, ltb-true, eqb-true, le-leb}
-use Rattle.area.specs.Pick.{pick}
+use Rattle.lists.specs.Pick.{pick}
+use Rattle.lists.specs.Tests.{each}
+use Rattle.lists.proofs.Laws.Pick.{by, picks, skips, both-left, both-right, both-join}
+use Rattle.lists.proofs.Laws.Entries.{drop-take}
 use Rattle.area.specs.Area.{part}
-use Rattle.area.proofs.Laws.Pick.{by, picks, skips, both-left, both-right, both-join}
 use Rattle.sia.specs.Names.{opOf}
 use Rattle.sia.specs.Encode.{operandsIn}
-use Rattle.host.specs.Lists.{each}
 use Rattle.machine_rules.specs.View.{Setting, Turn}
 use Rattle.machine_rules.specs.Inputs.{dataIn, illFormed, pastEnd, largest, need, inputsOf, argsOf}
 use Rattle.machine_rules.specs.declared.Args.{Args}
@@ -30,17 +31,12 @@ use Rattle.machine_rules.specs.declared.Plan.{Plan}
 
 -- ---- inputs lie below the need
 
-drop-take : (m i : ℕ) (l : List ℕ) → drop i (take (i + m) l) ≡ take m (drop i l)
-drop-take m zero l = let q : 0 + m ≡ m = omega arith in rw q
-drop-take m (suc i) [] = rw (take-nil (suc i + m), take-nil m)
-drop-take m (suc i) (x ∷ xs) = let q : suc i + m ≡ suc (i + m) = omega arith in rw q (drop-take m i xs)
-
 part-cut : (l : List ℕ) (at n k : ℕ) → at + n ≤ k → part (take k l) at n ≡ part l at n
 unfolding part
 part-cut l at n k h =
     let q : k ≡ at + (k - at) = omega arith in
     let le : n ≤ k - at = omega arith in
-    ap (λ (x : ℕ). take n (drop at (take x l))) q ∙ ap (λ (x : List ℕ). take n x) (drop-take (k - at) at l) ∙ take-take n (k - at) (drop at l) le
+    ap (λ (x : ℕ). take n (drop at (take x l))) q ∙ ap (λ (x : List ℕ). take n x) (drop-take at (k - at) l) ∙ take-take n (k - at) (drop at l) le
 
 part-below : (a b : List ℕ) (at n k : ℕ) → at + n ≤ k → take k a ≡ take k b → part a at n ≡ part b at n
 part-below a b at n k h e = sym (part-cut a at n k h) ∙ ap (λ (x : List ℕ). part x at n) e ∙ part-cut b at n k h

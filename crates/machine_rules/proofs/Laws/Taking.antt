@@ -1,26 +1,26 @@
 -- A host in order takes every piece up to the declared length, and is in order after it. Assumes nothing.
 use mathlib.Core.Path.{_≡_, refl, sym, ap, _∙_, subst}
-use mathlib.Core.Bool.{Bool, true, false, not}
+use mathlib.Core.Bool.{true, not}
 use mathlib.Core.List.{List, [], _∷_}
 use Prim.Native.Nat.{ℕ, _+_, _*_, _≤_}
 use native.Mathlib.Omega.{arith}
 use lib.ListN.{length, length-append, length-replicate}
 use lib.Dec.{ltb, eqb}
 use borrow.Author.Tests.{le-leb, le-ltb, eq-eqb, eqb-true}
-use Rattle.area.specs.Pick.{pick, both}
+use Rattle.lists.specs.Pick.{both}
+use Rattle.lists.proofs.Laws.Pick.{skips, both-left, both-right, both-join, or-right, second-not, both-not-right}
 use Rattle.area.specs.Area.{put, zeros}
-use Rattle.area.proofs.Laws.Pick.{skips, both-left, both-right, both-join}
 use Rattle.area.proofs.Laws.Puts.{length-put}
 use Rattle.host.specs.With.{withProgram, withCame, withProgress, withStageRoots}
 use Rattle.host.specs.Order.{programInOrder, inOrder}
-use Rattle.host.proofs.Laws.Order.{order-facts}
+use Rattle.host.proofs.Laws.Order.{order-facts, progress-facts, facts-progress}
 use Rattle.machine_rules.specs.View.{settingBy, settingOf, turnOf, withRun, diskRight, areasRight}
 use Rattle.machine_rules.specs.Run.{run}
 use Rattle.machine_rules.specs.Calls.{Pieced, accepted, inputRight, outputRight, piece, acceptedBy, pieceBy}
 use Rattle.machine_rules.specs.Trace.{together, AllAccepted}
 use Rattle.machine_rules.specs.Facts.{Good, Lent, Solid}
-use Rattle.machine_rules.proofs.Laws.Areas.{or-right, either-second, runs-alike}
-use Rattle.machine_rules.proofs.Laws.Kept.{progress-facts, facts-progress, runs-good}
+use Rattle.machine_rules.proofs.Laws.Areas.{runs-alike}
+use Rattle.machine_rules.proofs.Laws.Kept.{runs-good}
 use Rattle.host.specs.declared.Progress.{Progress}
 use Rattle.host.specs.declared.Host.{Host}
 
@@ -67,14 +67,14 @@ areas-stage h disk stage e = eqb-true _ _ (both-right _ _ e)
 
 pub order-program : (h : Host) → inOrder h ≡ true → h .program .active ≡ true → programInOrder (h .sector) (h .disk) (h .stage) (h .places) (h .program) ≡ true
 unfolding inOrder
-order-program h e live = either-second (h .program .active) _ (both-right _ _ (both-right _ _ (both-right _ _ (both-right _ _ e)))) live
+order-program h e live = second-not (h .program .active) _ (both-right _ _ (both-right _ _ (both-right _ _ (both-right _ _ e)))) live
 
 pub order-good : (h : Host) (disk : List ℕ) → inOrder h ≡ true → h .program .active ≡ true → length (h .program .progress .staged) ≡ 64
     → Good (h .sector) (settingOf h disk) (h .program .progress)
 unfolding settingBy programInOrder
 order-good h disk e live len =
     let q = order-program h e live in
-    record { orderly = progress-facts (h .sector) (settingOf h disk) (h .program .progress) (both-right _ _ (both-right _ _ q));
+    record { orderly = progress-facts (h .sector) _ _ _ _ (h .program .progress) (both-right _ _ (both-right _ _ q));
         terms = both-left _ _ q; entries = len }
 
 pub good-order : (h : Host) (disk : List ℕ) (k : ℕ) (p : Progress) (roots : List ℕ) → inOrder h ≡ true → k ≤ h .program .terms .head .length
@@ -84,15 +84,7 @@ good-order h disk k p roots e le g =
     let b = both-right _ _ e in
     let c = both-right _ _ b in
     both-join _ _ (both-left _ _ e) (both-join _ _ (both-left _ _ b) (both-join _ _ (both-left _ _ c) (both-join _ _ (both-left _ _ (both-right _ _ c))
-    (or-right _ _ (both-join _ _ (g .terms) (both-join _ _ (le-leb _ _ le) (facts-progress (h .sector) (settingOf h disk) p (g .orderly))))))))
-
-not-no : (b : Bool) → b ≡ true → not b ≡ false
-not-no b e = rw e
-
-both-no : (a b : Bool) → b ≡ false → both a b ≡ false
-unfolding pick
-both-no true b e = e
-both-no false b e = refl
+    (or-right _ _ (both-join _ _ (g .terms) (both-join _ _ (le-leb _ _ le) (facts-progress (h .sector) _ _ _ _ p (g .orderly))))))))
 
 areas-again : (h : Host) (disk stage new : List ℕ) (k : ℕ) (p : Progress) (roots : List ℕ) → length new ≡ length stage → areasRight h disk stage ≡ true
     → areasRight (withRun h k p roots) disk new ≡ true
@@ -107,12 +99,12 @@ module _ (disk : List ℕ) (w : Pieced) (t : Taking disk w) (b : List ℕ) (fit 
       let h = w .host in
       let input : both (eqb (length (w .input)) (h .program .terms .head .length)) (eqb (length (w .output)) (h .program .terms .room)) ≡ true =
           both-join _ _ (eq-eqb _ _ (t .input)) (eq-eqb _ _ (t .output)) in
-      skips (not (inOrder h)) _ _ (not-no _ (t .order))
-      ∙ skips (not (areasRight h disk (w .stage))) _ _ (not-no _ (t .areas))
+      skips (not (inOrder h)) _ _ (ap not (t .order))
+      ∙ skips (not (areasRight h disk (w .stage))) _ _ (ap not (t .areas))
       ∙ skips (both (h .program .active)
           (not (both (eqb (length (w .input)) (h .program .terms .head .length)) (eqb (length (w .output)) (h .program .terms .room))))) _ _
-          (both-no _ _ (not-no _ input))
-      ∙ skips (not (h .program .active)) _ _ (not-no _ (t .live))
+          (both-not-right _ _ (ap not input))
+      ∙ skips (not (h .program .active)) _ _ (ap not (t .live))
       ∙ skips (ltb (h .program .terms .head .length) (h .program .came + length b)) _ _ (le-ltb _ _ fit)
 
   -- and leaves a host that takes pieces

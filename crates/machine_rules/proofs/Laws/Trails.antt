@@ -1,6 +1,6 @@
 -- The records of a run: with k bytes come they are the first m of the whole run's, m counted by the needs. Assumes nothing.
 use mathlib.Core.Path.{_≡_, refl, sym, ap, ap₂, _∙_}
-use mathlib.Core.Bool.{Bool, true, false}
+use mathlib.Core.Bool.{Bool, true, false, not}
 use mathlib.Core.Logic.{_⊎_, inl, inr, ⊎-elim}
 use mathlib.Core.List.{List, [], _∷_, _++_}
 use Prim.Native.Nat.{ℕ, zero, suc, _+_, _≤_, min}
@@ -9,18 +9,18 @@ use lib.ListN.{length, take}
 use lib.Seq.{take-append-seam}
 use lib.Dec.{leb, ltb, eqb}
 use borrow.Author.Tests.{leb-true, ltb-false, le-leb}
-use Rattle.area.specs.Pick.{pick, both}
+use Rattle.lists.specs.Pick.{pick}
+use Rattle.lists.specs.Tests.{some}
+use Rattle.lists.proofs.Laws.Pick.{by, picks, skips, both-join, both-not-left, both-not-right}
 use Rattle.area.specs.Area.{put}
-use Rattle.area.proofs.Laws.Pick.{by, picks, skips, both-join}
 use Rattle.sia.specs.Names.{opOf}
 use Rattle.sia.specs.Encode.{operandsIn}
-use Rattle.host.specs.Lists.{some}
 use Rattle.machine_rules.specs.View.{Setting, Turn}
 use Rattle.machine_rules.specs.Inputs.{dataIn, illFormed, pastEnd, largest, need, inputsOf, argsOf}
 use Rattle.machine_rules.specs.Plan.{judged}
 use Rattle.machine_rules.specs.Run.{failedProgress, failing, ranProgress, succeeding, stepped, current, step, going, ready, runs}
 use Rattle.machine_rules.specs.Trace.{recordOf, recorded, trail, ripe}
-use Rattle.machine_rules.proofs.Laws.Steps.{runs-go, runs-stop, ready-going, left, left-most, not-failed, step-left, none-left, ready-more}
+use Rattle.machine_rules.proofs.Laws.Steps.{runs-go, runs-stop, left, left-most, step-left, none-left, ready-more}
 use Rattle.sia.specs.declared.Operand.{Operand}
 use Rattle.sia.specs.declared.Instruction.{Instruction}
 use Rattle.machine_rules.specs.Roots.{rootAt}
@@ -125,9 +125,9 @@ stepped-next z s i l t = under (eqb (judged z s (rootAt z s t) (t .progress) i l
     under true = inl refl
     under false = inr refl
 
-failed-stops : (s : Setting) (k : ℕ) (t : Turn) → t .progress .failed ≡ true → ready s k t ≡ false
-failed-stops s k t e = by (ready s k t) (λ h. absurd (let q : true ≡ false = sym e ∙ not-failed s t (ready-going s k t h) in
-    let r : _≡_ {A = ℕ} 0 1 = cc in omega arith)) (λ h. h)
+pub failed-stops : (s : Setting) (k : ℕ) (t : Turn) → t .progress .failed ≡ true → ready s k t ≡ false
+unfolding ready going
+failed-stops s k t e = both-not-left _ _ (both-not-left _ _ (ap not e))
 
 ready-if : (s : Setting) (k : ℕ) (t : Turn) → going (s .terms) (t .progress) ≡ true → need (s .terms .head .length) (current s t) ≤ k → ready s k t ≡ true
 unfolding ready
@@ -135,18 +135,11 @@ ready-if s k t g h = both-join _ _ g (le-leb _ _ h)
 
 going-stops : (s : Setting) (k : ℕ) (t : Turn) → going (s .terms) (t .progress) ≡ false → ready s k t ≡ false
 unfolding ready
-going-stops s k t e = picks-no (going (s .terms) (t .progress)) _ e
-  where
-    picks-no : (b c : Bool) → b ≡ false → both b c ≡ false
-    picks-no b c e = skips b c false e
+going-stops s k t e = both-not-left (going (s .terms) (t .progress)) _ e
 
 need-stops : (s : Setting) (k : ℕ) (t : Turn) → leb (need (s .terms .head .length) (current s t)) k ≡ false → ready s k t ≡ false
-unfolding ready pick
-need-stops s k t e = both-no (going (s .terms) (t .progress)) _ e
-  where
-    both-no : (b c : Bool) → c ≡ false → both b c ≡ false
-    both-no true c e = e
-    both-no false c e = refl
+unfolding ready
+need-stops s k t e = both-not-right (going (s .terms) (t .progress)) _ e
 
 module _ (z : ℕ) (s : Setting) (a : List ℕ) where
   -- m: as many records as instructions in a row whose need has come, but no more than the whole run writes

@@ -3,21 +3,23 @@
 use mathlib.Core.Path.{_≡_, refl, sym, ap, ap₂, _∙_}
 use mathlib.Core.Bool.{Bool, true}
 use mathlib.Core.List.{List, [], _∷_}
-use Prim.Native.Nat.{ℕ, zero, suc, _+_, _*_, _/_, _%_, _^_, _≤_, _<_}
+use Prim.Native.Nat.{ℕ, _+_, _*_, _/_, _%_, _^_, _≤_, _<_}
 use native.Mathlib.Nat.{div-add-mod', mul-left-comm, mul-comm}
 use native.Mathlib.Omega.{arith}
 use lib.ListN.{length, getD}
+use Rattle.lists.specs.Tests.{every}
+use Rattle.lists.proofs.Laws.Entries.{any-default}
+use Rattle.lists.proofs.Laws.Every.{every-get}
 use Rattle.area.specs.Area.{part}
 use Rattle.tree.specs.Tree.{root, join}
 use Rattle.tree.specs.Walk.{count, proof, proofIn}
 use Rattle.tree.specs.Promise.{Parted}
 use Rattle.tree.proofs.Promise.{roots, proofs}
-use Rattle.sia.specs.Encode.{joined, every}
+use Rattle.sia.specs.Encode.{joined}
 use Rattle.machine_rules.specs.View.{sector, whole}
 use Rattle.machine_rules.specs.Roots.{sectorRoot, contractRoot, rangeProof, rangeCount}
 use Rattle.machine_rules.specs.Facts.{Within}
 use Rattle.machine_rules.proofs.Laws.Pieces.{length-pieces, part-pieces}
-use Rattle.machine_rules.proofs.Laws.Spots.{every-get}
 use Rattle.machine_rules.specs.declared.Spot.{Spot}
 use Rattle.machine_rules.specs.declared.Spot.the-variants.{OnDisk}
 
@@ -52,18 +54,13 @@ same-whole : (z : ℕ) (disk stage : List ℕ) (l : List Spot) (at n : ℕ) → 
 unfolding whole
 same-whole z disk stage l at n = refl
 
-get-default : (l : List Spot) (i : ℕ) (d e : Spot) → i < length l → getD l i d ≡ getD l i e
-get-default [] i d e lt = absurd (omega arith)
-get-default (x ∷ xs) zero d e lt = refl
-get-default (x ∷ xs) (suc i) d e lt = get-default xs i d e (omega arith)
-
 range-is : (z : ℕ) (f : Spot → List ℕ) (disk stage : List ℕ) (l : List Spot) (at n : ℕ) → at / z < length l
     → rangeProof z f disk stage l at n ≡ proofIn (joined f l) (at / z) (sector z disk stage (getD l (at / z) (OnDisk 0))) (at % z / 64) (at % z / 64 + n / 64)
 unfolding rangeProof
 range-is z f disk stage [] at n lt = absurd (omega arith)
 range-is z f disk stage (x ∷ xs) at n lt =
     ap (λ (y : Spot). proofIn (joined f (x ∷ xs)) (at / z) (sector z disk stage y) (at % z / 64) (at % z / 64 + n / 64))
-        (get-default (x ∷ xs) (at / z) x (OnDisk 0) lt)
+        (any-default (x ∷ xs) (at / z) x (OnDisk 0) lt)
 
 module _ (z k : ℕ) (is : z ≡ 64 * 2 ^ k) (disk stage : List ℕ) (p : Spot → Bool) (long : (x : Spot) → p x ≡ true → length (sector z disk stage x) ≡ z)
     (l : List Spot) (h : every p l ≡ true)

@@ -10,19 +10,21 @@ use lib.ListN.{length, getD, set, length-replicate}
 use lib.Seq.{getD-set-same, getD-set-other}
 use lib.Dec.{ltb, eqb}
 use borrow.Author.Tests.{ltb-true, ltb-false, eqb-true, eqb-false, eq-eqb}
-use Rattle.area.specs.Pick.{pick}
+use Rattle.lists.specs.Pick.{pick}
+use Rattle.lists.specs.Tests.{some}
+use Rattle.lists.proofs.Laws.Pick.{by, picks, skips, never, either-left, either-right, neither}
+use Rattle.lists.proofs.Laws.Some.{member-here, member-more, one-not, one-of, not-one}
 use Rattle.area.specs.Area.{part, zeros}
-use Rattle.area.proofs.Laws.Pick.{by, picks, skips, never, either-left, either-right}
-use Rattle.host.specs.Lists.{some}
 use Rattle.host.specs.Empty.{none}
 use Rattle.host.specs.Places.{freeCopy}
 use Rattle.machine_rules.specs.View.{sector}
 use Rattle.machine_rules.specs.declared.Args.{Args}
 use Rattle.machine_rules.specs.Plan.{badSpan, badSpans, touched, newSize}
 use Rattle.machine_rules.specs.Effect.{Ground, Staging, newCopy, sectorAt, copied, spanRead, laid, spanWritten, resized, effect}
-use Rattle.machine_rules.proofs.Laws.Effects.{neither, span-in, sector-below, Sized, sized, copiedMap, copied-map, written-map, copied-new}
+use Rattle.machine_rules.proofs.Laws.Effects.{span-in, sector-below, Sized, sized, copiedMap, copied-map, written-map, copied-new}
 use Rattle.machine_rules.proofs.Laws.Effects.{copied-old, length-copied}
-use Rattle.machine_rules.proofs.Laws.Filling.{other-span, other-slot, few-part}
+use Rattle.area.proofs.Laws.Slots.{other-span, other-slot}
+use Rattle.area.proofs.Laws.Parts.{few-part}
 use Rattle.sia.specs.declared.Op.{Op}
 use Rattle.sia.specs.declared.Op.the-variants.{Read, ReadSector, Write, Copy, Swap, Truncate, Unknown}
 use Rattle.machine_rules.specs.declared.Spot.{Spot}
@@ -36,16 +38,6 @@ pub record Wrote (z : ℕ) (ps : List ℕ) (g h : Staging) : Type 0 where
 
 pub wrote-nothing : (z : ℕ) (g : Staging) → Wrote z [] g g
 wrote-nothing z g = record { stay = λ j o n. refl; hold = λ m n o. refl }
-
--- ---- lists of one and two
-
-one-here : (at : ℕ) → some (eqb at) (at ∷ []) ≡ true
-unfolding some
-one-here at = picks (eqb at at) true false (eq-eqb at at refl)
-
-one-not : (j at : ℕ) → some (eqb j) (at ∷ []) ≡ false → j ≡ at → ⊥
-unfolding some
-one-not j at e = eqb-false j at (either-left (eqb j at) _ e)
 
 -- ---- a span
 
@@ -85,16 +77,12 @@ unfolding spanWritten laid
 wrote-span z e at bs g few lt = record {
   stay = λ j o n. ap (λ (l : List ℕ). getD l j none) (copied-map z e (at / z) g) ∙ copied-other (e .copies) (at / z) j (g .staged) (one-not j (at / z) o);
   hold = λ m n o.
-      let ne = o (at / z) (one-here (at / z)) in
+      let ne = o (at / z) (member-here (at / z) []) in
       other-span z (copied z e (at / z) g .bytes) (getD (copied z e (at / z) g .staged) (at / z) none) m (at % z) bs few ne
       ∙ copied-hold z e (at / z) g m lt ne;
 }
 
 -- ---- two spans
-
-some-second : (j a b : ℕ) → some (eqb j) (b ∷ []) ≡ true → some (eqb j) (a ∷ b ∷ []) ≡ true
-unfolding some
-some-second j a b e = by (eqb j a) (λ u. picks (eqb j a) true _ u) (λ u. skips (eqb j a) true _ u ∙ e)
 
 -- the positions of Swap: b where both are one, else b and a
 unfoldable pub two : ℕ → ℕ → List ℕ
@@ -104,8 +92,9 @@ two-first : (j a b : ℕ) → j ≡ a → some (eqb j) (two a b) ≡ true
 unfolding two
 two-first j a b e =
     by (eqb a b)
-    (λ u. ap (some (eqb j)) (picks (eqb a b) (b ∷ []) (b ∷ a ∷ []) u) ∙ subst (λ (x : ℕ). some (eqb j) (x ∷ []) ≡ true) (e ∙ eqb-true a b u) (one-here j))
-    (λ u. ap (some (eqb j)) (skips (eqb a b) (b ∷ []) (b ∷ a ∷ []) u) ∙ some-second j b a (subst (λ (x : ℕ). some (eqb j) (x ∷ []) ≡ true) e (one-here j)))
+    (λ u. ap (some (eqb j)) (picks (eqb a b) (b ∷ []) (b ∷ a ∷ []) u) ∙ subst (λ (x : ℕ). some (eqb j) (x ∷ []) ≡ true) (e ∙ eqb-true a b u) (member-here j []))
+    (λ u. ap (some (eqb j)) (skips (eqb a b) (b ∷ []) (b ∷ a ∷ []) u)
+        ∙ member-more j b (a ∷ []) (subst (λ (x : ℕ). some (eqb j) (x ∷ []) ≡ true) e (member-here j [])))
 
 two-second : (j a b : ℕ) → j ≡ b → some (eqb j) (two a b) ≡ true
 unfolding two some
@@ -113,13 +102,6 @@ two-second j a b e =
     by (eqb a b)
     (λ u. ap (some (eqb j)) (picks (eqb a b) (b ∷ []) (b ∷ a ∷ []) u) ∙ picks (eqb j b) true _ (eq-eqb j b e))
     (λ u. ap (some (eqb j)) (skips (eqb a b) (b ∷ []) (b ∷ a ∷ []) u) ∙ picks (eqb j b) true _ (eq-eqb j b e))
-
-one-of : (j at : ℕ) → some (eqb j) (at ∷ []) ≡ true → j ≡ at
-unfolding some
-one-of j at e = by (eqb j at) (λ u. eqb-true j at u) (λ u. never (sym e ∙ skips (eqb j at) true false u))
-
-not-one : (j at : ℕ) → (j ≡ at → ⊥) → some (eqb j) (at ∷ []) ≡ false
-not-one j at ne = by (some (eqb j) (at ∷ [])) (λ u. absurd (ne (one-of j at u))) (λ u. u)
 
 pub wrote-two : (z : ℕ) (e : Ground) (at to : ℕ) (bs cs : List ℕ) (g : Staging) → at % z + length bs ≤ z → to % z + length cs ≤ z
     → at / z < length (g .staged) → to / z < length (g .staged)
@@ -151,7 +133,7 @@ unfolding newCopy
 wrote-more z e at g lt = record {
   stay = λ j o n. getD-set-other (g .staged) at j _ none (one-not j at o);
   hold = λ m n o. other-slot z (g .bytes) (freeCopy (e .copies) (g .staged)) m (zeros z) (omega (arith, length-replicate {A = ℕ} z 0))
-      (λ k. o at (one-here at) (getD-set-same (g .staged) at _ none lt ∙ k));
+      (λ k. o at (member-here at []) (getD-set-same (g .staged) at _ none lt ∙ k));
 }
 
 pub wrote-less : (z : ℕ) (at : ℕ) (g : Staging) → at < length (g .staged) → Wrote z [] g (record { staged = set (g .staged) at none; bytes = g .bytes })
@@ -168,7 +150,7 @@ wrote-less z at g lt = record {
 -- ---- each instruction
 
 -- what is known of a span that passed
-span-few : (z size at n : ℕ) → badSpan z size at n ≡ false → at % z + n ≤ z
+pub span-few : (z size at n : ℕ) → badSpan z size at n ≡ false → at % z + n ≤ z
 unfolding badSpan
 span-few z size at n e = ltb-false z (at % z + n) (neither _ _ (neither _ _ e .1) .1)
 

@@ -8,8 +8,9 @@ use native.Mathlib.Omega.{arith}
 use lib.ListN.{length}
 use lib.IntN.{pos, _-ℤ_}
 use borrow.Author.Tests.{not-false}
-use Rattle.area.specs.Pick.{pick, either}
-use Rattle.area.proofs.Laws.Pick.{by}
+use Rattle.lists.specs.Pick.{pick, either}
+use Rattle.lists.proofs.Laws.Pick.{by}
+use Rattle.lists.proofs.Laws.Ways.{down}
 use Rattle.host.specs.Empty.{noProgram}
 use Rattle.host.specs.With.{withPlaces, withProgram, withDiskRoots, withSize, withSlots}
 use Rattle.host.specs.Places.{whose, committed, taken}
@@ -30,7 +31,6 @@ use Rattle.host.specs.declared.Terms.{Terms}
 use Rattle.host.specs.declared.Host.{Host}
 use Rattle.machine_rules.specs.declared.Spot.{Spot}
 use Rattle.machine_rules.specs.declared.Pair.{Pair}
-use Rattle.host.proofs.Laws.Ways.{down}
 use Rattle.host.proofs.Renaming.Contracts.{active-as, whose-places}
 use Rattle.machine_rules.proofs.Renaming.Programs.{terms-of, setting-as, going-as, areas-as}
 

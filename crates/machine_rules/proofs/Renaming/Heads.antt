@@ -9,7 +9,7 @@ use lib.ListN.{length, take, drop, take-append-drop, length-append, length-take,
 use lib.Seq.{take-append-seam, drop-append-seam}
 use lib.Dec.{ltb}
 use borrow.Author.Tests.{ltb-false}
-use Rattle.area.proofs.Laws.Pick.{by, picks, skips}
+use Rattle.lists.proofs.Laws.Pick.{by, picks, skips}
 use Rattle.sia.specs.Decode.{Reading, value, fault, after, bytes, limited, instructions, head, answer, told, decode}
 use Rattle.sia.proofs.Laws.Honest.{read-of}
 use Rattle.sia.specs.declared.Head.{Head}

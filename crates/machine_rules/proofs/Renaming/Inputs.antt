@@ -2,9 +2,8 @@
 use mathlib.Core.Path.{_≡_, refl, sym, ap}
 use mathlib.Core.List.{List, [], _∷_}
 use Prim.Native.Nat.{ℕ, suc}
-use native.Mathlib.Omega.{arith}
-use lib.ListN.{length}
 use lib.Dec.{eqb}
+use Rattle.lists.proofs.Laws.Entries.{empty}
 use Rattle.machine_rules.specs.View.{Setting}
 use Rattle.machine_rules.specs.Inputs.{dataIn, nth, isKey, wellFormed, readArgs, argsOf}
 use Rattle.machine_rules.specs.declared.Args.{Args}
@@ -18,10 +17,6 @@ use Rattle.sia.specs.declared.Op.the-variants.{Read, ReadSector, Write, Copy, S
 use Rattle.host.specs.declared.Progress.{Progress}
 use Rattle.machine_rules.specs.declared.Spot.{Spot}
 use Rattle.machine_rules.proofs.Renaming.Sight.{settingAs, contract-as, sector-as}
-
-empty : (l : List ℕ) → length l ≡ 0 → l ≡ []
-empty [] e = refl
-empty (x ∷ l) e = absurd (omega (arith, e))
 
 -- arguments with another key: no instruction looks at it but by what it finds
 abbrev pub withKey : Args → List ℕ → Args

@@ -6,7 +6,8 @@ use Prim.Native.Nat.{ℕ}
 use lib.ListN.{take, drop}
 use lib.Dec.{eqb}
 use borrow.Author.Tests.{not-false, eqb-true}
-use Rattle.area.specs.Pick.{pick, both}
+use Rattle.lists.specs.Pick.{pick, both}
+use Rattle.lists.proofs.Laws.Ways.{down}
 use Rattle.area.specs.Area.{same}
 use Rattle.sia.specs.Names.{readOnly}
 use Rattle.sia.specs.Decode.{decode}
@@ -24,7 +25,6 @@ use Rattle.host.specs.declared.Place.{Place}
 use Rattle.host.specs.declared.Prices.{Prices}
 use Rattle.host.specs.declared.Host.{Host}
 use Rattle.machine_rules.specs.declared.Answer.{Answer}
-use Rattle.host.proofs.Laws.Ways.{down}
 use Rattle.host.proofs.Renaming.Contracts.{active-as, whose-places}
 
 module _ (r : List ℕ → List ℕ) (new : Renaming r) where

@@ -7,9 +7,10 @@ use Prim.Native.Nat.{ℕ, _+_}
 use lib.ListN.{length}
 use lib.Dec.{ltb, eqb}
 use borrow.Author.Tests.{not-false}
-use Rattle.area.specs.Pick.{pick, both}
+use Rattle.lists.specs.Pick.{pick, both}
+use Rattle.lists.proofs.Laws.Pick.{by, picks, skips}
+use Rattle.lists.proofs.Laws.Ways.{down, downs}
 use Rattle.area.specs.Area.{put}
-use Rattle.area.proofs.Laws.Pick.{by, picks, skips}
 use Rattle.host.specs.With.{withProgram, withCame, withProgress, withStageRoots}
 use Rattle.machine_rules.specs.View.{Setting, setting, Turn, settingOf, turnOf, withRun, diskRight, areasRight, settingBy}
 use Rattle.machine_rules.specs.Roots.{keptRoot, rootBy, rootOf}
@@ -28,7 +29,6 @@ use Rattle.host.specs.declared.Terms.{Terms}
 use Rattle.host.specs.declared.Host.{Host}
 use Rattle.machine_rules.specs.declared.Seat.{Seat}
 use Rattle.machine_rules.specs.declared.Reached.{Reached}
-use Rattle.host.proofs.Laws.Ways.{down, downs}
 use Rattle.host.proofs.Renaming.Contracts.{active-as}
 
 -- the same answer

@@ -3,8 +3,8 @@ use mathlib.Core.Path.{_≡_, refl, ap₂}
 use mathlib.Core.Bool.{Bool}
 use mathlib.Core.List.{List, [], _∷_, _++_}
 use Prim.Native.Nat.{ℕ, suc}
-use Rattle.area.specs.Pick.{pick}
-use Rattle.host.specs.Lists.{each, firstOf}
+use Rattle.lists.specs.Pick.{pick}
+use Rattle.lists.specs.Tests.{each, firstOf}
 use Rattle.host.specs.Places.{hasId, whose, committed}
 use Rattle.machine_rules.specs.View.{Setting, parent, readOnlyMode, parentSpots, committedSpots}
 use Rattle.machine_rules.specs.Seats.{seated, committedSeats, seats, nobody, allSeats, seatsOf}

@@ -3,18 +3,19 @@ use mathlib.Core.Path.{_≡_, refl, ap, _∙_}
 use mathlib.Core.Bool.{Bool, true, false, not}
 use mathlib.Core.List.{List, [], _∷_, _++_}
 use Prim.Native.Nat.{ℕ, zero, suc}
-use native.Mathlib.Nat.{zero-div}
-use lib.ListN.{take, replicate}
+use lib.ListN.{replicate}
 use lib.Dec.{eqb}
-use Rattle.area.specs.Pick.{pick}
-use Rattle.area.specs.Area.{zeros}
+use Rattle.lists.specs.Pick.{pick}
+use Rattle.lists.specs.Tests.{every, each}
+use Rattle.lists.proofs.Laws.Pick.{by, picks, skips, both-right, both-join, or-right}
+use Rattle.lists.proofs.Laws.Ways.{either-way}
+use Rattle.lists.proofs.Laws.Every.{every-and, every-fore, every-aft}
 use Rattle.area.specs.Little.{Bytes}
-use Rattle.area.proofs.Laws.Pick.{by, picks, skips, both-right, both-join}
-use Rattle.sia.specs.Encode.{joined, every}
+use Rattle.sia.specs.Encode.{joined}
 use Rattle.sia.specs.Decode.{decode}
+use Rattle.host.proofs.Laws.Whose.{none-bare, new-bare}
 use Rattle.host.specs.Empty.{none, noPlace, newPlace, noProgram, bare, started}
 use Rattle.host.specs.With.{withPlaces, withProgram}
-use Rattle.host.specs.Lists.{each}
 use Rattle.host.specs.Places.{hasId, committed, taken}
 use Rattle.host.specs.Calls.{freshed, formedAt, formed, replaced, dropped}
 use Rattle.host.specs.Calls as Contracts
@@ -23,9 +24,6 @@ use Rattle.machine_rules.specs.Sound.{right, stagedRight, rootsRight, so
 use Rattle.machine_rules.specs.Calls.{answered, begun, openedHead, opened}
 use Rattle.machine_rules.specs.Visit.{Declared}
 use Rattle.machine_rules.proofs.Forming.{making, forming, dropping}
-use Rattle.machine_rules.proofs.Laws.Slots.{every-and, every-fore, every-aft}
-use Rattle.machine_rules.proofs.Laws.Areas.{or-right}
-use Rattle.machine_rules.proofs.Laws.Ways.{either-way}
 use Rattle.machine_rules.proofs.Ordering.{opening as opening-order}
 use Rattle.machine_rules.proofs.Sound.Programs.{sound-order, sound-disk}
 use Rattle.host.specs.declared.Host.{Host}
@@ -38,14 +36,6 @@ use Rattle.machine_rules.specs.declared.Answer.{Answer}
 -- ---- the calls that look at no root
 
 module _ (z : ℕ) (p : ℕ → Bool) where
-  none-bare : committed z noPlace ≡ []
-  unfolding committed noPlace pick
-  none-bare = refl
-
-  new-bare : (id : List ℕ) → committed z (newPlace id) ≡ []
-  unfolding committed newPlace pick
-  new-bare id = ap (λ (n : ℕ). take n (zeros 64)) (zero-div z)
-
   every-formed : (id : List ℕ) (ps : List Place) → every p (taken z ps) ≡ true → every p (taken z (formedAt id ps)) ≡ true
   unfolding formedAt taken joined
   every-formed id [] h = h
@@ -54,7 +44,7 @@ module _ (z : ℕ) (p : ℕ → Bool) where
       (λ e. ap (λ (l : List Place). every p (joined (committed z) l)) (picks (q .held) (q ∷ formedAt id ps) (newPlace id ∷ ps) e)
       ∙ every-and p (committed z q) _ (every-fore p (committed z q) _ h) (every-formed id ps (every-aft p (committed z q) _ h)))
       (λ e. ap (λ (l : List Place). every p (joined (committed z) l)) (skips (q .held) (q ∷ formedAt id ps) (newPlace id ∷ ps) e)
-      ∙ ap (λ (l : List ℕ). every p (l ++ joined (committed z) ps)) (new-bare id) ∙ every-aft p (committed z q) _ h)
+      ∙ ap (λ (l : List ℕ). every p (l ++ joined (committed z) ps)) (new-bare z id) ∙ every-aft p (committed z q) _ h)
 
   every-dropped : (id : List ℕ) (ps : List Place) → every p (taken z ps) ≡ true → every p (taken z (replaced id noPlace ps)) ≡ true
   unfolding replaced each taken joined
@@ -62,7 +52,7 @@ module _ (z : ℕ) (p : ℕ → Bool) where
   every-dropped id (q ∷ ps) h =
       by (hasId id q)
       (λ e. ap (λ (x : Place). every p (committed z x ++ taken z (replaced id noPlace ps))) (picks (hasId id q) noPlace q e)
-      ∙ ap (λ (l : List ℕ). every p (l ++ taken z (replaced id noPlace ps))) none-bare ∙ every-dropped id ps (every-aft p (committed z q) _ h))
+      ∙ ap (λ (l : List ℕ). every p (l ++ taken z (replaced id noPlace ps))) (none-bare z) ∙ every-dropped id ps (every-aft p (committed z q) _ h))
       (λ e. ap (λ (x : Place). every p (committed z x ++ taken z (replaced id noPlace ps))) (skips (hasId id q) noPlace q e)
       ∙ every-and p (committed z q) _ (every-fore p (committed z q) _ h) (every-dropped id ps (every-aft p (committed z q) _ h)))
 

@@ -3,12 +3,13 @@ use mathlib.Core.Path.{_≡_, sym, ap, _∙_}
 use mathlib.Core.Bool.{true, not}
 use mathlib.Core.List.{List, [], _∷_}
 use Prim.Native.Nat.{ℕ, _*_}
-use Rattle.area.specs.Pick.{pick}
+use Rattle.lists.specs.Pick.{pick}
+use Rattle.lists.specs.Tests.{every}
+use Rattle.lists.proofs.Laws.Pick.{by, picks, skips, both-left}
+use Rattle.lists.proofs.Laws.Every.{every-none}
 use Rattle.area.specs.Area.{zeros}
-use Rattle.area.proofs.Laws.Pick.{by, picks, skips, both-left}
 use Rattle.area.proofs.Laws.Same.{same-eq}
 use Rattle.tree.specs.Tree as Tree
-use Rattle.sia.specs.Encode.{every}
 use Rattle.host.specs.Places.{taken}
 use Rattle.host.specs.Order.{inOrder}
 use Rattle.machine_rules.specs.View.{Way, kept, worked, settingBy, settingOf, readOnlyMode, sector, parent, parentSpots}
@@ -18,9 +19,9 @@ use Rattle.machine_rules.specs.Plan.{Source, seen, spots, sectorSource}
 use Rattle.machine_rules.specs.Visit.{Sound}
 use Rattle.machine_rules.proofs.Laws.Sought.{source-root}
 use Rattle.machine_rules.proofs.Laws.Spots.{seats-every, program-every, sought-every}
-use Rattle.machine_rules.proofs.Laws.Readers.{agree, every-none, first-agree, all-parent, withWay, known-disk, known-stage}
+use Rattle.machine_rules.proofs.Laws.Readers.{agree, first-agree, all-parent, withWay, known-disk, known-stage}
 use Rattle.machine_rules.proofs.Laws.Taking.{blank-right, order-solid, order-good}
-use Rattle.machine_rules.proofs.Sound.Steps.{few-sectors}
+use Rattle.machine_rules.proofs.Laws.Effects.{few-sectors}
 use Rattle.machine_rules.proofs.Sound.Programs.{sound-order, sound-disk, sound-stage}
 use Rattle.host.specs.declared.Host.{Host}
 use Rattle.machine_rules.specs.declared.Spot.{Spot}

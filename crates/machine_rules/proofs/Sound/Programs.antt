@@ -6,10 +6,11 @@ use Prim.Native.Nat.{ℕ, _+_}
 use lib.ListN.{length}
 use lib.IntN.{pos}
 use borrow.Author.Tests.{not-false, ltb-false}
-use Rattle.area.specs.Pick.{pick}
+use Rattle.lists.specs.Pick.{pick}
+use Rattle.lists.specs.Tests.{every}
+use Rattle.lists.proofs.Laws.Pick.{by, picks, never, both-left, both-right, both-join, second-not, or-right}
+use Rattle.lists.proofs.Laws.Ways.{either-way, behind, ahead}
 use Rattle.area.specs.Area.{put}
-use Rattle.area.proofs.Laws.Pick.{by, picks, skips, never, both-left, both-right, both-join}
-use Rattle.sia.specs.Encode.{every}
 use Rattle.host.specs.Empty.{noProgram}
 use Rattle.host.specs.With.{withPlaces, withProgram, withDiskRoots, withStageRoots, withCame, withProgress}
 use Rattle.host.specs.Places.{taken}
@@ -24,25 +25,17 @@ use Rattle.machine_rules.specs.Sound.{right, stagedRight, rootsRight, so
 use Rattle.machine_rules.specs.Visit.{Areas, Declared}
 use Rattle.machine_rules.specs.Trace.{wholeRunBy}
 use Rattle.machine_rules.proofs.Laws.Taking.{order-solid, order-good}
-use Rattle.machine_rules.proofs.Laws.Areas.{either-second, or-right}
-use Rattle.machine_rules.proofs.Laws.Ways.{either-way}
 use Rattle.machine_rules.proofs.Ordering.{accepted-order, stopped-order, given-up}
 use Rattle.machine_rules.proofs.Committing.{commit-order}
 use Rattle.machine_rules.proofs.Commits.{commit-right}
+use Rattle.machine_rules.proofs.Laws.Readers.{agree, root-agree, all-start, all-parent, withWay, Known, known-disk, known-stage}
+use Rattle.machine_rules.proofs.Laws.Effects.{few-sectors}
 use Rattle.host.specs.Order.{inOrder}
 use Rattle.host.specs.declared.Host.{Host}
-use Rattle.machine_rules.proofs.Laws.Readers.{agree, root-agree, all-start, all-parent, withWay, Known, known-disk, known-stage}
-use Rattle.machine_rules.proofs.Sound.Steps.{few-sectors, failing-alike, runs-alike, trail-alike, runs-known}
+use Rattle.machine_rules.proofs.Sound.Steps.{failing-alike, runs-alike, trail-alike, runs-known}
 use Rattle.machine_rules.specs.declared.Pair.{Pair}
 
 -- ---- the calls
-
--- where the tests are the same, only what stands behind them matters
-behind : {R : Type 0} (b : Bool) (x y w : R) → (b ≡ false → y ≡ w) → pick b x y ≡ pick b x w
-behind b x y w f = by b (λ u. picks b x y u ∙ sym (picks b x w u)) (λ u. skips b x y u ∙ f u ∙ sym (skips b x w u))
-
-ahead : {R : Type 0} (b : Bool) (x y w : R) → (b ≡ true → x ≡ y) → pick b x w ≡ pick b y w
-ahead b x y w f = by b (λ u. picks b x w u ∙ f u ∙ sym (picks b y w u)) (λ u. skips b x w u ∙ sym (skips b y w u))
 
 pub sound-order : (disk : List ℕ) (h : Host) (stage : List ℕ) → sound disk h stage ≡ true → inOrder h ≡ true
 unfolding sound
@@ -56,7 +49,7 @@ sound-disk disk h stage e = both-left _ _ (both-right _ _ e)
 pub sound-stage : (disk : List ℕ) (h : Host) (stage : List ℕ) → sound disk h stage ≡ true → h .program .active ≡ true
     → stagedRight (h .sector) stage (h .stageroots) (h .program .progress .staged) ≡ true
 unfolding sound rootsRight
-sound-stage disk h stage e live = either-second (h .program .active) _ (both-right _ _ (both-right _ _ e)) live
+sound-stage disk h stage e live = second-not (h .program .active) _ (both-right _ _ (both-right _ _ e)) live
 
 is-sound : (disk : List ℕ) (h : Host) (stage : List ℕ) → inOrder h ≡ true → every (right (h .sector) disk (h .diskroots)) (taken (h .sector) (h .places)) ≡ true
     → (h .program .active ≡ true → stagedRight (h .sector) stage (h .stageroots) (h .program .progress .staged) ≡ true) → sound disk h stage ≡ true

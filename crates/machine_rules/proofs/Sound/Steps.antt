@@ -2,18 +2,19 @@
 use mathlib.Core.Path.{_≡_, refl, sym, ap, ap₂, _∙_, subst}
 use mathlib.Core.Bool.{Bool, true}
 use mathlib.Core.List.{List, [], _∷_}
-use Prim.Native.Nat.{ℕ, zero, suc, _*_, _/_, _≤_}
-use native.Mathlib.Nat.{mul-le-mul-right, le-of-mul-le-mul-right, le-trans}
+use Prim.Native.Nat.{ℕ, zero, suc, _*_, _≤_}
+use native.Mathlib.Nat.{mul-le-mul-right, le-trans}
 use native.Mathlib.Omega.{arith}
 use lib.ListN.{length, length-drop}
 use lib.Dec.{eqb}
 use borrow.Author.Tests.{eqb-true}
-use Rattle.area.specs.Pick.{pick}
+use Rattle.lists.specs.Pick.{pick}
+use Rattle.lists.specs.Tests.{every}
+use Rattle.lists.proofs.Laws.Pick.{by, picks, skips}
+use Rattle.lists.proofs.Laws.Every.{every-none}
 use Rattle.area.specs.Area.{put}
 use Rattle.area.proofs.Laws.Slots as Slots
-use Rattle.area.proofs.Laws.Pick.{by, picks, skips}
 use Rattle.sia.specs.Names.{opOf}
-use Rattle.sia.specs.Encode.{every}
 use Rattle.host.specs.With.{withRunning, withStaged}
 use Rattle.host.specs.Places.{taken}
 use Rattle.machine_rules.specs.View.{Way, kept, worked, Setting, Turn, readOnlyMode, parent, parentSpots, committedSpots}
@@ -25,17 +26,17 @@ use Rattle.machine_rules.specs.Plan.{Source, spots, sourceOf, cost, touc
 use Rattle.machine_rules.specs.Effect.{groundOf, Staging, effect, rehashed}
 use Rattle.machine_rules.specs.Record.{pairOf, startingPair, runningPair, recordBytes, failureBytes, outputOf, successBytes}
 use Rattle.machine_rules.specs.Run.{failedProgress, failing, ranProgress, succeeding, stepped, current, step, going, ready, runs, run}
-use Rattle.machine_rules.specs.Facts.{Good, Lent, Solid}
+use Rattle.machine_rules.specs.Facts.{Good, Solid}
 use Rattle.machine_rules.specs.Sound.{right, stagedRight}
 use Rattle.machine_rules.specs.Trace.{recordOf, recorded, trail}
 use Rattle.machine_rules.proofs.Laws.Steps.{not-failed, left-going, ready-going, runs-go, runs-stop}
-use Rattle.machine_rules.proofs.Laws.Effects.{Passed, passed, whole-sectors}
+use Rattle.machine_rules.proofs.Laws.Effects.{Passed, passed, few-sectors}
 use Rattle.machine_rules.proofs.Laws.Kept.{ran-good, stepped-good}
 use Rattle.machine_rules.proofs.Laws.Trails.{trail-zero, trail-go, trail-stop}
 use Rattle.machine_rules.proofs.Laws.Wrote.{Wrote, wrote-effect}
 use Rattle.machine_rules.proofs.Laws.Rehashed.{rehashed-right}
 use Rattle.machine_rules.proofs.Laws.Areas.{rehashed-length}
-use Rattle.machine_rules.proofs.Laws.Readers.{agree, every-none, root-agree, proof-agree, all-start, all-seats, all-parent, all-source}
+use Rattle.machine_rules.proofs.Laws.Readers.{agree, root-agree, proof-agree, all-start, all-seats, all-parent, all-source}
 use Rattle.machine_rules.proofs.Laws.Readers.{withWay, Known, known-disk, known-stage, source-alike, judged-alike}
 use Rattle.sia.specs.declared.Op.{Op}
 use Rattle.sia.specs.declared.Op.the-variants.{Read, ReadSector, Write, Copy, Swap, Truncate, Unknown}
@@ -49,12 +50,6 @@ write-full l = length-drop 8 (nth l 1)
 
 args-full : (op : Op) (l : List (List ℕ)) → op ≡ Write → length (dataIn l) ≡ argsOf op l .len
 args-full op l e = subst (λ (o : Op). length (dataIn l) ≡ argsOf o l .len) (sym e) (write-full l)
-
-pub few-sectors : (z : ℕ) (s : Setting) (p : Progress) → Lent z s → Good z s p → p .size / z ≤ 64
-few-sectors z s p L g =
-    let c : s .sectors * z ≤ 64 * z = mul-le-mul-right {m = s .sectors} {n = 64} z (L .most) in
-    le-of-mul-le-mul-right {m = p .size / z} {n = 64} {k = z} (omega (arith, whole-sectors z (p .size) (g .orderly .whole), g .orderly .within, c))
-        (Slots.some z (L .size))
 
 -- ---- a failure
 

@@ -1,23 +1,17 @@
 -- An array that a loop fills with pieces of one length: those of the first i stand at its front. Assumes nothing.
 use mathlib.Core.Path.{_≡_, refl, sym, ap, _∙_}
-use mathlib.Core.List.{List, [], _∷_, _++_, append-assoc, append-nil}
+use mathlib.Core.List.{List, [], _∷_, _++_, append-nil}
 use Prim.Native.Nat.{ℕ, _+_, _*_, _≤_}
 use native.Mathlib.Numerals.{add-one}
 use native.Mathlib.Omega.{arith}
-use lib.ListN.{length, take, drop, length-append}
-use lib.Seq.{take-at, length-take-le}
-use Rattle.area.specs.Area.{part, put, tab}
+use lib.ListN.{length, take}
+use Rattle.lists.specs.Tab.{tab}
+use Rattle.lists.proofs.Laws.Tab.{tab-snoc}
+use Rattle.area.specs.Area.{part, put}
 use Rattle.area.proofs.Laws.Parts.{part-whole}
-use Rattle.area.proofs.Laws.Puts.{put-is}
-use Rattle.area.proofs.Laws.Tab.{tab-snoc}
+use Rattle.area.proofs.Laws.Puts.{take-put}
 use Rattle.sia.specs.Encode.{joined}
 use Rattle.sia.proofs.Laws.Joined.{joined-append}
-
--- what stands up to the end of a piece that was laid
-take-put : (a : List ℕ) (at : ℕ) (bs : List ℕ) (k : ℕ) → k ≡ at + length bs → k ≤ length a → take k (put a at bs) ≡ take at a ++ bs
-take-put a at bs k e h =
-    let n : length (take at a ++ bs) ≡ k = omega (arith, length-append (take at a) bs, length-take-le at a (omega arith)) in
-    ap (take k) (put-is a at bs k e h ∙ sym (append-assoc (take at a) bs (drop k a))) ∙ take-at (take at a ++ bs) (drop k a) k n
 
 module _ {A : Type 0} (f : A → List ℕ) (g : ℕ → A) where
   one-more : (i : ℕ) → joined f (tab 0 (i + 1) g) ≡ joined f (tab 0 i g) ++ f (g i)

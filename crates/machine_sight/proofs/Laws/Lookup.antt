@@ -9,21 +9,23 @@ use native.Mathlib.Nat.{zero-div}
 use native.Mathlib.Omega.{arith}
 use lib.ListN.{length, getD}
 use lib.Seq.{slice}
-use Rattle.area.specs.Pick.{pick}
-use Rattle.area.specs.Area.{same, tab}
-use Rattle.area.proofs.Laws.Pick.{never}
+use Rattle.lists.specs.Pick.{pick}
+use Rattle.lists.specs.Tests.{every, firstOf}
+use Rattle.lists.specs.Tab.{tab}
+use Rattle.lists.proofs.Laws.Pick.{never}
+use Rattle.lists.proofs.Laws.Every.{every-get, every-fore, every-aft}
+use Rattle.lists.proofs.Laws.Slices.{slice-one, slice-none}
+use Rattle.area.specs.Area.{same}
 use Rattle.sia.specs.Names.{readOnly}
-use Rattle.sia.specs.Encode.{every, joined}
-use Rattle.host.specs.Lists.{firstOf}
+use Rattle.sia.specs.Encode.{joined}
 use Rattle.host.specs.Places.{hasId, whose, committed, taken}
 use Rattle.host.specs.Order.{placeInOrder}
-use Rattle.host.proofs.Laws.Slices.{slice-one, slice-none}
 use Rattle.host.proofs.Laws.Places.{blank}
 use Rattle.machine_rules.specs.View.{spotOf, committedSpots}
 use Rattle.machine_rules.specs.Seats.{seated, committedSeats, seats, allSeats, firstSeat}
 use Rattle.machine_rules.proofs.Laws.Sought.{first-here, first-further, first-none, first-both, orElse}
 use Rattle.machine_rules.proofs.Laws.Homes.{seats-of-all}
-use Rattle.machine_rules.proofs.Laws.Spots.{every-get, every-fore, every-aft, disk-every}
+use Rattle.machine_rules.proofs.Laws.Spots.{disk-every}
 use Rattle.machine_sight.specs.Seen.{spotsOf, holds, lies, Known}
 use Rattle.host.specs.declared.Place.{Place}
 use Rattle.machine_rules.specs.declared.Spot.{Spot}

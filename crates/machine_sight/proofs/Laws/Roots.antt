@@ -6,9 +6,10 @@ use Prim.Native.Nat.{ℕ, _+_, _*_, _/_, _%_, _^_, _≤_, _<_}
 use native.Mathlib.Nat.{mul-comm}
 use native.Mathlib.Omega.{arith}
 use lib.ListN.{length, getD}
-use Rattle.area.specs.Area.{tab, zeros}
+use Rattle.lists.specs.Tab.{tab}
+use Rattle.lists.proofs.Laws.Tab.{length-tab, getD-tab}
+use Rattle.area.specs.Area.{zeros}
 use Rattle.area.specs.Slots.{Size}
-use Rattle.area.proofs.Laws.Tab.{length-tab, getD-tab}
 use Rattle.sia.specs.Encode.{joined}
 use Rattle.tree.specs.Tree.{root, join}
 use Rattle.tree.specs.Walk.{proof, proofIn}

@@ -1,15 +1,17 @@
 -- Where sectors are and their bytes, as code reads them. z is the sector size. Assumes nothing.
 use mathlib.Core.Path.{_≡_, refl, sym, ap, _∙_}
-use mathlib.Core.Bool.{Bool, true}
-use mathlib.Core.List.{List, [], _∷_}
-use Prim.Native.Nat.{ℕ, zero, suc, _+_, _-_, _*_, _≤_, _<_}
+use mathlib.Core.Bool.{true}
+use mathlib.Core.List.{List}
+use Prim.Native.Nat.{ℕ, _+_, _-_, _*_, _≤_, _<_}
 use native.Mathlib.Omega.{arith}
 use lib.ListN.{length, take, drop, getD}
 use borrow.Author.Tests.{leb-true, eq-eqb, ne-eqb}
-use Rattle.area.specs.Area.{part, tab}
-use Rattle.area.proofs.Laws.Pick.{yes, no, both-left, both-right}
+use Rattle.lists.specs.Tests.{every}
+use Rattle.lists.proofs.Laws.Pick.{yes, no}
+use Rattle.lists.proofs.Laws.Entries.{any-default}
+use Rattle.lists.proofs.Laws.Tab.{tab-at}
+use Rattle.area.specs.Area.{part}
 use Rattle.area.proofs.Laws.Parts.{part-is, length-part}
-use Rattle.sia.specs.Encode.{every}
 use Rattle.host.specs.Empty.{none}
 use Rattle.machine_rules.specs.View.{sector, spotOf}
 use Rattle.machine_rules.specs.declared.Spot.{Spot}
@@ -19,15 +21,9 @@ use Rattle.machine_sight.specs.declared.Seen.{Seen}
 
 -- ---- where a position is
 
--- an entry that is there, whatever is read past the end
-same-entry : (l : List ℕ) (i : ℕ) (d e : ℕ) → i < length l → getD l i d ≡ getD l i e
-same-entry [] i d e h = absurd (omega arith)
-same-entry (x ∷ xs) zero d e h = refl
-same-entry (x ∷ xs) (suc i) d e h = same-entry xs i d e (omega arith)
-
 module _ (slots staged : List ℕ) (at n : ℕ) (long : length staged ≡ n) (h : at < n) where
   entry : getD staged at none ≡ getD staged at 0
-  entry = same-entry staged at none 0 (omega arith)
+  entry = any-default staged at none 0 (omega arith)
 
   pub spot-disk : getD staged at 0 ≡ none → OnDisk (getD slots at 0) ≡ spotOf slots staged at
   unfolding spotOf
@@ -76,20 +72,13 @@ sector-long z disk stage (InStage n) h = length-part stage (n * z) z (leb-true _
 
 -- ---- what is seen
 
-every-tab : {A : Type 0} (p : A → Bool) (f : ℕ → A) (i n k : ℕ) → k < n → every p (tab i n f) ≡ true → p (f (i + k)) ≡ true
-unfolding every tab
-every-tab p f i zero k h e = absurd (omega arith)
-every-tab p f i (suc n) zero h e = ap (λ (j : ℕ). p (f j)) (let q : i + 0 ≡ i = omega arith in q) ∙ both-left _ _ e
-every-tab p f i (suc n) (suc k) h e =
-    ap (λ (j : ℕ). p (f j)) (let q : i + suc k ≡ suc i + k = omega arith in q) ∙ every-tab p f (suc i) n k (omega arith) (both-right _ _ e)
-
 -- a position that is seen lies within its area
 pub seen-lies : (z : ℕ) (disk stage : List ℕ) (v : Seen) (i : ℕ) {x : Spot} → every (lies z disk stage) (spotsOf v) ≡ true → i < v .count
     → x ≡ spotOf (v .slots) (v .staged) i → lies z disk stage x ≡ true
 unfolding spotsOf
 seen-lies z disk stage v i l h e =
     ap (lies z disk stage) (e ∙ ap (spotOf (v .slots) (v .staged)) (let q : i ≡ 0 + i = omega arith in q))
-    ∙ every-tab (lies z disk stage) (spotOf (v .slots) (v .staged)) 0 (v .count) i h l
+    ∙ tab-at (lies z disk stage) (spotOf (v .slots) (v .staged)) 0 (v .count) i h l
 
 -- the n bytes from `at` on of a sector
 pub sector-span : (b : List ℕ) {s : List ℕ} (at n : ℕ) → s ≡ b → at + n ≤ length s

@@ -7,10 +7,10 @@ use native.Mathlib.Omega.{arith}
 use lib.ListN.{length, take, drop, getD, replicate}
 use lib.Seq.{drop-cons}
 use borrow.Author.Tests.{eq-eqb, ne-eqb}
-use Rattle.area.specs.Pick.{pick}
-use Rattle.area.specs.Area.{tab}
-use Rattle.area.proofs.Laws.Pick.{picks, skips, yes, no}
-use Rattle.host.specs.Lists.{each}
+use Rattle.lists.specs.Pick.{pick}
+use Rattle.lists.specs.Tests.{each}
+use Rattle.lists.specs.Tab.{tab}
+use Rattle.lists.proofs.Laws.Pick.{picks, skips, yes, no}
 use Rattle.host.specs.Empty.{none}
 use Rattle.host.specs.Places.{committed}
 use Rattle.host.specs.declared.Place.{Place}

@@ -1,19 +1,17 @@
 -- What a host in order gives the functions that read its parent. Assumes nothing.
-use mathlib.Core.Path.{_≡_, refl, sym, ap, _∙_, subst}
+use mathlib.Core.Path.{_≡_, refl, sym, subst}
 use mathlib.Core.Bool.{true}
-use mathlib.Core.List.{List, [], _∷_}
+use mathlib.Core.List.{List, []}
 use Prim.Native.Nat.{ℕ, _*_}
 use native.Mathlib.Omega.{arith}
 use lib.ListN.{length}
 use borrow.Author.Tests.{eqb-true}
-use Rattle.area.specs.Pick.{pick}
+use Rattle.lists.proofs.Laws.Pick.{both-left}
 use Rattle.area.specs.Area.{zeros}
-use Rattle.area.proofs.Laws.Pick.{by, picks, skips, both-left, both-right}
-use Rattle.sia.specs.Encode.{every}
-use Rattle.host.specs.Empty.{noPlace}
-use Rattle.host.specs.Places.{hasId, whose, taken}
-use Rattle.host.specs.Order.{placeInOrder, inOrder}
+use Rattle.host.specs.Places.{whose, taken}
+use Rattle.host.specs.Order.{inOrder}
 use Rattle.host.proofs.Laws.Order.{order-facts}
+use Rattle.host.proofs.Laws.Whose.{whose-order}
 use Rattle.machine_rules.specs.View.{settingBy, settingOf, turnOf, diskRight, areasRight, parent, parentSpots}
 use Rattle.machine_rules.specs.Roots.{keptRoot, rootBy, rootOf}
 use Rattle.machine_rules.specs.Record.{startingPair, runningPair}
@@ -28,19 +26,6 @@ use Rattle.machine_step.proofs.Laws.Planned.{reads-good}
 use Rattle.machine_step.specs.Turns.{Ready, Runs}
 use Rattle.host.specs.declared.Place.{Place}
 use Rattle.host.specs.declared.Host.{Host}
-
-none-order : (z : ℕ) → placeInOrder z noPlace ≡ true
-unfolding placeInOrder noPlace pick
-none-order z = refl
-
--- a contract of an id is in order, where all are
-whose-order : (z : ℕ) (id : List ℕ) (ps : List Place) → every (placeInOrder z) ps ≡ true → placeInOrder z (whose id ps) ≡ true
-unfolding whose every
-whose-order z id [] h = none-order z
-whose-order z id (p ∷ ps) h =
-    by (hasId id p)
-    (λ e. ap (placeInOrder z) (picks (hasId id p) p (whose id ps) e) ∙ both-left _ _ h)
-    (λ e. ap (placeInOrder z) (skips (hasId id p) p (whose id ps) e) ∙ whose-order z id ps (both-right _ _ h))
 
 pub disk-long : (h : Host) (disk : List ℕ) → diskRight h disk ≡ true → length disk ≡ h .disk * h .sector
 unfolding diskRight

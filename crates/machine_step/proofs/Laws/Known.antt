@@ -1,10 +1,9 @@
 -- What a function is told of the terms of a program that it is given: the budget's bits, and how many entries its instructions have.
 -- Assumes nothing.
-use mathlib.Core.Path.{_≡_, refl}
-use mathlib.Core.List.{List, [], _∷_}
-use Prim.Native.Nat.{ℕ, zero, suc, _<_, _^_}
-use native.Mathlib.Omega.{arith}
-use lib.ListN.{length, getD}
+use mathlib.Core.Path.{_≡_}
+use mathlib.Core.List.{List}
+use Prim.Native.Nat.{_<_, _^_}
+use lib.ListN.{length}
 use mir.Val.{Val}
 use denote.Laws.{Is}
 use denote.Struct.Declared.{row}
@@ -14,9 +13,3 @@ use Rattle.host.specs.declared.Terms.{Terms}
 
 pub known-terms : (t : Terms) (vs : List Val) → Is (row terms.the-type) t vs → (t .budget < 2 ^ 64) × (length (t .head .instructions) ≡ 32)
 known-terms t vs g = (g .1 .1 .1 .1 .0 .1, known-head (t .head) _ (g .1 .1 .0) .1)
-
--- an entry that is there, by any default
-pub entry : {A : Type 0} (l : List A) (i : ℕ) (d e : A) → i < length l → getD l i d ≡ getD l i e
-entry [] i d e h = absurd (omega arith)
-entry (x ∷ xs) zero d e h = refl
-entry (x ∷ xs) (suc i) d e h = entry xs i d e (omega arith)

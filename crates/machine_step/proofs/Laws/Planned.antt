@@ -8,11 +8,12 @@ use native.Mathlib.Omega.{arith}
 use lib.ListN.{length, drop, length-take, length-drop}
 use lib.Dec.{eqb}
 use borrow.Author.Tests.{leb-true, eqb-false, eq-eqb, ne-eqb}
-use Rattle.area.specs.Pick.{pick}
-use Rattle.area.specs.Area.{part, put, tab}
-use Rattle.area.proofs.Laws.Pick.{by, picks, skips, both-left, both-right, either-left}
+use Rattle.lists.specs.Pick.{pick}
+use Rattle.lists.specs.Tab.{tab}
+use Rattle.lists.proofs.Laws.Pick.{by, picks, skips, both-left, both-right, either-left}
+use Rattle.area.specs.Area.{part, put}
 use Rattle.sia.specs.Names.{opOf}
-use Rattle.sia.specs.Encode.{every, within}
+use Rattle.sia.specs.Encode.{within}
 use Rattle.host.specs.Order.{termsInOrder}
 use Rattle.host.specs.With.{withRunning, withStaged}
 use Rattle.machine_rules.specs.View.{Setting, Turn, turn, parent, spotOf, parentSpots}
@@ -25,7 +26,7 @@ use Rattle.machine_rules.specs.Effect.{Staging, groundOf, effect, rehashed}
 use Rattle.machine_rules.specs.Record.{pairing, runningPair, recordBytes, successBytes, outputOf}
 use Rattle.machine_rules.specs.Run.{ranProgress, succeeding}
 use Rattle.machine_rules.specs.Facts.{Solid, Good, Within, valid}
-use Rattle.machine_rules.proofs.Laws.Effects.{planned-fine, Passed, passed}
+use Rattle.machine_rules.proofs.Laws.Effects.{planned-fine, Passed, passed, few-sectors}
 use Rattle.machine_rules.proofs.Laws.Areas.{effect-bytes, rehashed-length}
 use Rattle.machine_rules.proofs.Laws.Kept.{ran-good}
 use Rattle.machine_rules.proofs.Laws.Lengths.{length-proof, read-span, asked-reads, asked-right, well-formed, count-read, count-change}
@@ -42,7 +43,6 @@ use Rattle.machine_effect.proofs.Callers.{touched-args, rehashes}
 use Rattle.machine_effect.proofs.Laws.Passed.{stands-with, effect-with}
 use Rattle.machine_inputs.specs.Given.{fromOf}
 use Rattle.machine_plan.specs.Planned.{says, Said, said, failed, planOf}
-use Rattle.machine_plan.proofs.Laws.Planned.{size-few}
 use Rattle.machine_step.specs.Shown.{shownProof, shownBytes, Shows}
 use Rattle.machine_step.specs.Ran.{stageAfter, progressAfter, rootsAfter, recordAfter, ran}
 use Rattle.machine_step.specs.Asks.{Reads, Steps, Runs}
@@ -238,12 +238,12 @@ module _ (z : ℕ) (s : Setting) (t : Turn) (input : List ℕ) (i : Instruction)
 
     few-read : length (spots from) ≤ 64
     unfolding from
-    few-read = few-spots z s (rootAt z s t) (t .progress) op (a .key) (x .solid .small) (size-few z s (t .progress) (x .solid .lent) (x .good))
+    few-read = few-spots z s (rootAt z s t) (t .progress) op (a .key) (x .solid .small) (few-sectors z s (t .progress) (x .solid .lent) (x .good))
 
     read-valid : every (valid s) (spots from) ≡ true
     unfolding from
     read-valid =
-        let few = size-few z s (t .progress) (x .solid .lent) (x .good) in
+        let few = few-sectors z s (t .progress) (x .solid .lent) (x .good) in
         source-valid z s (t .progress) (x .solid) (x .good .orderly .staged) (omega (arith, x .good .entries, few)) (rootAt z s t) op (a .key)
 
     seen-lies : Lies z (s .disk) (after .bytes) (r .seen)

@@ -6,8 +6,9 @@ use mathlib.Core.Bool.{Bool}
 use mathlib.Core.List.{List}
 use Prim.Native.Nat.{ℕ, _-_, _/_}
 use lib.ListN.{length, take, drop}
-use Rattle.area.specs.Pick.{pick}
-use Rattle.area.specs.Area.{put, tab}
+use Rattle.lists.specs.Pick.{pick}
+use Rattle.lists.specs.Tab.{tab}
+use Rattle.area.specs.Area.{put}
 use Rattle.area.proofs.Laws.Lent.{rest-take}
 use Rattle.machine_rules.specs.View.{Turn, turn, spotOf}
 use Rattle.machine_rules.specs.Roots.{keptRoot, contractRoot}

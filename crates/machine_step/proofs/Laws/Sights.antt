@@ -3,8 +3,8 @@ use mathlib.Core.Path.{_≡_, ap, _∙_}
 use mathlib.Core.List.{List}
 use Prim.Native.Nat.{ℕ, _/_}
 use native.Mathlib.Omega.{arith}
-use Rattle.area.specs.Area.{tab}
-use Rattle.sia.specs.Encode.{every}
+use Rattle.lists.specs.Tests.{every}
+use Rattle.lists.specs.Tab.{tab}
 use Rattle.machine_rules.specs.View.{spotOf}
 use Rattle.machine_sight.specs.Seen.{lies, spotsOf, Known}
 use Rattle.machine_step.specs.Asks.{Reads}

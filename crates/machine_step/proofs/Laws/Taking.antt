@@ -7,8 +7,8 @@ use native.Mathlib.Omega.{arith}
 use lib.ListN.{length}
 use lib.Dec.{eqb}
 use borrow.Author.Tests.{eq-eqb, ne-eqb}
+use Rattle.lists.proofs.Laws.Pick.{picks, skips}
 use Rattle.area.specs.Area.{put}
-use Rattle.area.proofs.Laws.Pick.{picks, skips}
 use Rattle.sia.specs.Names.{opOf}
 use Rattle.host.specs.Places.{whose}
 use Rattle.machine_rules.specs.View.{kept, Setting, setting, Turn, turn, parent}
@@ -24,7 +24,7 @@ use Rattle.machine_sight.specs.Seen.{holds}
 use Rattle.machine_sight.specs.Lookup.{Stands, Seeks}
 use Rattle.machine_sight.proofs.Looks.{program-seeks}
 use Rattle.machine_plan.specs.Planned.{Plans}
-use Rattle.machine_plan.proofs.Laws.Lookup.{whose-in-order}
+use Rattle.host.proofs.Laws.Whose.{whose-order}
 use Rattle.machine_step.specs.Asks.{Steps}
 use Rattle.machine_step.proofs.Laws.Planned.{within-count}
 use Rattle.machine_step.proofs.Laws.Readers.{reads-kept}
@@ -57,7 +57,7 @@ module _ (z : ℕ) (s : Setting) (t : Turn) (input : List ℕ) (x : Steps z s t 
   parent-stands own =
       subst (Stands z (s .roots)) (sym own) (record {
         size = x .solid .lent .size;
-        order = whose-in-order z (s .terms .head .contract) (s .places) (x .solid .small);
+        order = whose-order z (s .terms .head .contract) (s .places) (x .solid .small);
         slots = whose-every (holds 32 (s .roots)) z (s .terms .head .contract) (s .places) (seeks .stand .slots);
       })
 

@@ -7,7 +7,8 @@ use native.Mathlib.Omega.{arith}
 use lib.ListN.{length, getD}
 use lib.Dec.{leb}
 use borrow.Author.Tests.{leb-true, ltb-true}
-use Rattle.area.proofs.Laws.Pick.{both-join, both-left, both-right, both-not-left, both-not-right, never}
+use Rattle.lists.proofs.Laws.Pick.{both-join, both-left, both-right, both-not-left, both-not-right, never}
+use Rattle.lists.proofs.Laws.Entries.{any-default}
 use Rattle.sia.specs.Encode.{within}
 use Rattle.sia.specs.Empty.{noInstruction}
 use Rattle.host.specs.Order.{termsInOrder}
@@ -18,7 +19,6 @@ use Rattle.machine_rules.proofs.Laws.Areas.{stepped-alike}
 use Rattle.machine_rules.proofs.Laws.Kept.{stepped-good}
 use Rattle.machine_rules.proofs.Laws.Steps.{runs-go, runs-stop, left, ready-going, step-left, none-left, runs-enough, left-most}
 use Rattle.machine_step.specs.Asks.{Steps}
-use Rattle.machine_step.proofs.Laws.Known.{entry}
 use Rattle.machine_step.specs.Turns.{Runs}
 use Rattle.sia.specs.declared.Instruction.{Instruction}
 
@@ -26,7 +26,7 @@ use Rattle.sia.specs.declared.Instruction.{Instruction}
 pub turn-is : (s : Setting) (t : Turn) (d : Instruction) → t .progress .ran < length (s .terms .head .instructions)
     → getD (s .terms .head .instructions) (t .progress .ran) d ≡ current s t
 unfolding current
-turn-is s t d h = entry (s .terms .head .instructions) (t .progress .ran) d noInstruction h
+turn-is s t d h = any-default (s .terms .head .instructions) (t .progress .ran) d noInstruction h
 
 -- and one step of the run
 pub steps-turn : (z : ℕ) (s : Setting) (a : List ℕ) (t : Turn) {i : Instruction} {u : Turn} → i ≡ current s t

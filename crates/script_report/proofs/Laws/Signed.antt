@@ -10,7 +10,7 @@ use borrow.Author.Tests.{le-ltb, ltb-true}
 use mir.Syntax.{w64}
 use mir.Val.{Fits, SFits, toZ, ofZ}
 use mir.Facts.{toZ-pos}
-use Rattle.area.proofs.Laws.Pick.{never}
+use Rattle.lists.proofs.Laws.Pick.{never}
 
 minus-one : (k : ℕ) → negsuc 0 -ℤ negsuc k ≡ pos k
 minus-one k = let e : suc k - 1 ≡ k = omega arith in simp (le-ltb (suc k) 1 (omega arith)) (ap pos e)

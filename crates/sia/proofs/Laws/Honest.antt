@@ -4,7 +4,7 @@ use mathlib.Core.Bool.{Bool, true, false}
 use mathlib.Core.List.{List, [], _∷_}
 use Prim.Native.Nat.{ℕ, zero, suc}
 use native.Mathlib.Omega.{arith}
-use Rattle.area.specs.Pick.{pick}
+use Rattle.lists.specs.Pick.{pick}
 use Rattle.sia.specs.declared.Head.{Head}
 use Rattle.sia.specs.declared.Told.{Told}
 use Rattle.sia.specs.Decode.{Reading, value, fault, after, bytes, number, limited, flag, several, entries, operand, instruction, head}

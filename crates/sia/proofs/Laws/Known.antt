@@ -13,7 +13,8 @@ use Rattle.sia.proofs.Head as head
 use Rattle.sia.specs.declared.Instruction.{Instruction}
 use Rattle.sia.specs.declared.Head.{Head}
 
-long : (F : Field) (l : List (F .Value)) {n : ℕ} → length (map (F .into) l) ≡ n → length l ≡ n
+-- an array of values is as long as what it is read from
+pub long : (F : Field) (l : List (F .Value)) {n : ℕ} → length (map (F .into) l) ≡ n → length l ≡ n
 long F l e = sym (length-map l (F .into)) ∙ e
 
 pub known-instruction : (x : Instruction) (vs : List Val) → Is (row instruction.the-type) x vs → (length (x .name) ≡ 16) × (length (x .operands) ≡ 4)

@@ -3,9 +3,10 @@ use mathlib.Core.Path.{_≡_}
 use mathlib.Core.Bool.{true}
 use Prim.Native.Nat.{_≤_}
 use borrow.Author.Tests.{leb-true, le-leb}
-use Rattle.area.proofs.Laws.Pick.{both-join, both-left, both-right}
+use Rattle.lists.specs.Tests.{every}
+use Rattle.lists.proofs.Laws.Pick.{both-join, both-left, both-right}
 use Rattle.sia.specs.declared.Head.{Head}
-use Rattle.sia.specs.Encode.{every, fewOperands, instructionsIn, within}
+use Rattle.sia.specs.Encode.{fewOperands, instructionsIn, within}
 
 pub record Within (h : Head) : Type 0 where
   pub count : h .count ≤ 32

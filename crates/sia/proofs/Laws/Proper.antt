@@ -8,13 +8,14 @@ use native.Mathlib.Omega.{arith}
 use lib.ListN.{length, take, replicate, length-append, length-replicate}
 use lib.Seq.{take-at}
 use borrow.Author.Tests.{le-leb}
+use Rattle.lists.specs.Tests.{every}
+use Rattle.lists.proofs.Laws.Pick.{both-join}
 use Rattle.area.specs.Little.{valueOf, le8, Bytes}
-use Rattle.area.proofs.Laws.Pick.{both-join}
 use Rattle.sia.specs.declared.Operand.{Operand}
 use Rattle.sia.specs.declared.Instruction.{Instruction}
 use Rattle.sia.specs.declared.Head.{Head}
 use Rattle.sia.specs.Empty.{noOperand, noInstruction, filled}
-use Rattle.sia.specs.Encode.{operandBytes, instructionBytes, every, fewOperands, within}
+use Rattle.sia.specs.Encode.{operandBytes, instructionBytes, fewOperands, within}
 use Rattle.sia.specs.Decode.{Reading, value, bytes, number, limited, flag, several, entries, operand, instruction, head}
 use Rattle.sia.specs.Trim.{Each, ProperOperand, ProperInstruction, Proper}
 use Rattle.sia.proofs.Laws.Inverse.{split, same-value, as-read, limited-within}

@@ -7,9 +7,9 @@ use native.Mathlib.Omega.{arith}
 use lib.ListN.{length, take, drop, length-drop, drop-of-length-le}
 use lib.Seq.{drop-drop, drop-cons}
 use borrow.Author.Tests.{eq-eqb, ne-eqb, lt-ltb, le-ltb}
-use Rattle.area.specs.Pick.{pick}
+use Rattle.lists.specs.Pick.{pick}
+use Rattle.lists.proofs.Laws.Pick.{picks, skips}
 use Rattle.area.specs.Area.{part}
-use Rattle.area.proofs.Laws.Pick.{picks, skips}
 use Rattle.sia.specs.Decode.{Reading, value, after, bytes, told, answer, reading, Reads}
 use Rattle.sia.specs.Empty.{noHead}
 use Rattle.sia.specs.declared.Head.{Head}

@@ -2,20 +2,21 @@
 use mathlib.Core.Path.{_≡_, refl, sym, ap, _∙_}
 use mathlib.Core.Bool.{Bool, true, false}
 use mathlib.Core.List.{List, [], _∷_, _++_, append-assoc, append-nil, map}
-use Prim.Native.Nat.{ℕ, zero, suc, _+_, _^_, _≤_, _<_}
+use Prim.Native.Nat.{ℕ, zero, suc, _^_, _≤_, _<_}
 use native.Mathlib.Omega.{arith}
 use lib.ListN.{length, take, length-append}
 use lib.Seq.{take-at, drop-at, length-take-le}
 use borrow.Author.Tests.{le-ltb, leb-true}
-use Rattle.area.specs.Pick.{pick}
+use Rattle.lists.specs.Pick.{pick}
+use Rattle.lists.specs.Tests.{every}
+use Rattle.lists.proofs.Laws.Pick.{skips, both-left, both-right}
 use Rattle.area.specs.Little.{valueOf, le8}
-use Rattle.area.proofs.Laws.Pick.{skips, both-left, both-right}
 use Rattle.area.proofs.Laws.Little.{length-bytes, value-bytes}
 use Rattle.sia.specs.declared.Operand.{Operand}
 use Rattle.sia.specs.declared.Instruction.{Instruction}
 use Rattle.sia.specs.declared.Head.{Head}
 use Rattle.sia.specs.Empty.{noOperand, noInstruction, filled}
-use Rattle.sia.specs.Encode.{joined, operandBytes, flagByte, operandsIn, instructionsIn, instructionBytes, encode, every, fewOperands}
+use Rattle.sia.specs.Encode.{joined, operandBytes, flagByte, operandsIn, instructionsIn, instructionBytes, encode, fewOperands}
 use Rattle.sia.specs.Decode.{Reading, value, after, bytes, number, limited, flag, several, entries, operand, instruction, head, decode, answer, told}
 use Rattle.sia.specs.Trim.{trimmedInstruction, trimmed, Each, ProperOperand, ProperInstruction, Proper}
 use Rattle.sia.proofs.Laws.Joined.{append-four}

@@ -2,8 +2,8 @@
 use mathlib.Core.Path.{refl, sym, ap, _∙_}
 use borrow.Author.Needs.{needs}
 use borrow.Author.Tests.{eq-eqb, ne-eqb}
+use Rattle.lists.proofs.Laws.Pick.{yes, no}
 use Rattle.area.specs.Little.{valueOf}
-use Rattle.area.proofs.Laws.Pick.{yes, no}
 use Rattle.area.proofs.Laws.Parts.{part-whole}
 use Rattle.sia.specs.Number.{decoded, number}
 use Rattle.sia.proofs.number_of.Statement.{statement}

@@ -3,12 +3,12 @@ use mathlib.Core.Path.{_≡_, refl, sym, _∙_}
 use mathlib.Core.List.{List}
 use Prim.Native.Nat.{ℕ}
 use borrow.Author.Needs.{needs}
-use Rattle.area.specs.Pick.{pick}
+use Rattle.lists.specs.Pick.{pick}
 use Rattle.area.specs.Area.{same}
-use Rattle.area.proofs.Laws.Pick.{yes, no}
 use Rattle.sia.specs.Names.{opOf, nameOf}
 use Rattle.sia.specs.declared.Op.{Op}
 use Rattle.sia.specs.declared.Op.the-variants.{Read, ReadSector, Write, Copy}
+use Rattle.lists.proofs.Laws.Pick.{yes, no}
 use Rattle.sia.proofs.op_of.Statement.{statement}
 use Rattle.sia.proofs.op_of.Tie as tie
 

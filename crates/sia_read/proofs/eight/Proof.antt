@@ -3,7 +3,7 @@ use mathlib.Core.Path.{ap}
 use Prim.Native.Nat.{ℕ, _+_}
 use native.Mathlib.Omega.{arith}
 use lib.ListN.{drop}
-use Rattle.area.specs.Pick.{pick}
+use Rattle.lists.specs.Pick.{pick}
 use Rattle.sia.specs.Decode.{value, number, reading}
 use Rattle.sia.proofs.Laws.Reading.{short, long}
 use borrow.Author.Needs.{needs}

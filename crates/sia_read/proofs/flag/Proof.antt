@@ -5,10 +5,10 @@ use native.Mathlib.Omega.{arith}
 use lib.ListN.{drop}
 use lib.Dec.{eqb}
 use borrow.Author.Tests.{lt-ltb, le-ltb}
-use Rattle.area.specs.Pick.{pick}
+use Rattle.lists.specs.Pick.{pick}
+use Rattle.lists.proofs.Laws.Pick.{yes, no}
 use Rattle.area.specs.Area.{part}
 use Rattle.area.specs.Little.{valueOf}
-use Rattle.area.proofs.Laws.Pick.{yes, no}
 use Rattle.area.proofs.Laws.Little.{value-one}
 use Rattle.sia.specs.Decode.{value, flag, reading}
 use Rattle.sia.proofs.Laws.Reading.{short, long}

@@ -5,7 +5,7 @@ use mathlib.Core.List.{List}
 use Prim.Native.Nat.{ℕ, _≤_}
 use native.Mathlib.Omega.{arith}
 use lib.ListN.{length, drop}
-use Rattle.area.specs.Pick.{pick}
+use Rattle.lists.specs.Pick.{pick}
 use Rattle.area.specs.Area.{part}
 use Rattle.sia.specs.declared.Head.{Head}
 use Rattle.sia.specs.Decode.{Reading, value, after, bytes, head, reading}

@@ -1,8 +1,8 @@
 -- `sia_read::limited` meets its contract: a number, and then the limit. Assumes nothing.
 use mathlib.Core.Path.{refl}
 use borrow.Author.Tests.{lt-ltb, le-ltb}
-use Rattle.area.specs.Pick.{pick}
-use Rattle.area.proofs.Laws.Pick.{yes, no}
+use Rattle.lists.specs.Pick.{pick}
+use Rattle.lists.proofs.Laws.Pick.{yes, no}
 use Rattle.sia.specs.Decode.{limited, reading}
 use Rattle.sia.proofs.Laws.Reading.{fine, stops, goes}
 use borrow.Author.Needs.{needs}

@@ -1,6 +1,6 @@
 -- `sia_read::operand` meets its contract: two numbers, the offset first. Assumes nothing.
 use mathlib.Core.Path.{refl}
-use Rattle.area.specs.Pick.{pick}
+use Rattle.lists.specs.Pick.{pick}
 use Rattle.sia.specs.Decode.{operand, reading}
 use Rattle.sia.proofs.Laws.Reading.{stops, goes}
 use borrow.Author.Needs.{needs}

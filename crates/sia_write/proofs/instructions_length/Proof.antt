@@ -5,8 +5,8 @@ use Prim.Native.Nat.{ℕ, _+_, _-_, _*_, _≤_}
 use native.Mathlib.Omega.{arith}
 use lib.ListN.{length, take}
 use borrow.Author.Tests.{leb-true}
+use Rattle.lists.proofs.Laws.Every.{every-taken, every-taken}
 use Rattle.sia.specs.Encode.{joined, instructionBytes, fewOperands}
-use Rattle.sia.proofs.Laws.Every.{every-at}
 use Rattle.sia.proofs.Laws.Joined.{length-more}
 use borrow.Author.Needs.{needs}
 use Rattle.sia_write.proofs.instructions_length.Statement.{statement}
@@ -39,5 +39,5 @@ unfolding joined
 instructions-length-spec = tie.close (tie.spec
     Inv-loop μ-loop (λ c. (omega arith, refl, omega arith)) (λ c. search needs) (λ c. omega arith)
     (λ c κs. let s = c .before .before .before in
-        leb-true _ _ (every-at fewOperands _ _ (c .before .before .loop .i) _ (s .pre .1) (c .before .loop-test .taken) (omega (arith, s .good .0 .1 .0 .1))))
+        leb-true _ _ (every-taken fewOperands _ _ (c .before .before .loop .i) _ (s .pre .1) (c .before .loop-test .taken) (omega (arith, s .good .0 .1 .0 .1))))
     (λ c. omega arith) (λ c. search needs) (λ c. omega arith) loop-again returns)

@@ -7,11 +7,11 @@ use Prim.Native.Nat.{ℕ, _+_, _-_, _≤_, _<_}
 use native.Mathlib.Omega.{arith}
 use lib.ListN.{length, take}
 use borrow.Author.Tests.{leb-true}
+use Rattle.lists.proofs.Laws.Every.{every-taken, every-taken}
 use Rattle.area.specs.Area.{put}
 use Rattle.area.proofs.Laws.Puts.{put-nil}
 use Rattle.sia.specs.declared.Instruction.{Instruction}
 use Rattle.sia.specs.Encode.{joined, instructionBytes, fewOperands}
-use Rattle.sia.proofs.Laws.Every.{every-at}
 use Rattle.sia.proofs.Laws.Joined.{length-more, room-next, lay-more}
 use borrow.Author.Needs.{needs}
 use Rattle.sia_write.proofs.put_instructions.Statement.{statement}
@@ -39,7 +39,7 @@ put-instruction-requires c κs =
     let t = c .before .before .loop-test .taken in
     let long : s .args .n ≤ length (s .args .t1) = omega (arith, s .good .0 .1 .0 .1) in
     let room : s .args .at + length (joined instructionBytes (take (s .args .n) (s .args .t1))) ≤ length (l .out) = omega (arith, s .pre .1 .1) in (
-      leb-true _ _ (every-at fewOperands _ _ (l .i) _ (s .pre .1 .0) t (omega arith)),
+      leb-true _ _ (every-taken fewOperands _ _ (l .i) _ (s .pre .1 .0) t (omega arith)),
       room-next instructionBytes (s .args .t1) (l .i) (s .args .n) (s .args .at) _ t long room (l .inv .2),
     )
 
@@ -78,6 +78,6 @@ put-instructions-spec = tie.close (tie.spec
     Inv-loop μ-loop (λ c. (omega arith, refl, omega arith, sym (put-nil _ _))) (λ c. search needs) (λ c. omega arith)
     put-instruction-requires
     (λ c κs. let s = c .before .before .before .before .before .before .before .before in
-        leb-true _ _ (every-at fewOperands _ _ (c .before .before .before .before .before .before .loop .i) _ (s .pre .1 .0)
+        leb-true _ _ (every-taken fewOperands _ _ (c .before .before .before .before .before .before .loop .i) _ (s .pre .1 .0)
         (c .before .before .before .before .before .loop-test .taken) (omega (arith, s .good .0 .1 .0 .1))))
     add-place (λ c. search needs) (λ c. omega arith) loop-again (λ c. search needs) returns)

@@ -5,7 +5,7 @@ use Prim.Native.Nat.{_≤_, _<_}
 use native.Mathlib.Omega.{arith}
 use lib.ListN.{length}
 use borrow.Author.Tests.{not-false, lt-ltb, le-ltb}
-use Rattle.area.proofs.Laws.Pick.{yes, no}
+use Rattle.lists.proofs.Laws.Pick.{yes, no}
 use Rattle.sia.specs.Encode.{left, write, encode}
 use borrow.Author.Needs.{needs}
 use Rattle.sia_write.proofs.write_head.Statement.{statement}

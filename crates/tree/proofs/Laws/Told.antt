@@ -7,9 +7,9 @@ use native.Mathlib.Omega.{arith}
 use lib.ListN.{length}
 use lib.Dec.{leb}
 use borrow.Author.Tests.{eq-eqb, lt-ltb, le-leb}
-use Rattle.area.specs.Pick.{both}
+use Rattle.lists.specs.Pick.{both}
+use Rattle.lists.proofs.Laws.Pick.{by, picks, skips, both-join}
 use Rattle.area.specs.Area.{put}
-use Rattle.area.proofs.Laws.Pick.{by, picks, skips, both-join}
 use Rattle.tree.specs.Tree.{root, join}
 use Rattle.tree.specs.Walk.{count, proof, proofIn}
 use Rattle.tree.specs.Checker.{ranged}

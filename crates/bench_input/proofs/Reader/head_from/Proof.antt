@@ -3,7 +3,7 @@ use mathlib.Core.Path.{ap}
 use Prim.Native.Nat.{ℕ}
 use borrow.Author.Tests.{eq-eqb, ne-eqb}
 use borrow.Author.Needs.{needs}
-use Rattle.area.proofs.Laws.Pick.{yes, no}
+use Rattle.lists.proofs.Laws.Pick.{yes, no}
 use Rattle.bench_input.specs.Reader.{reader, headFrom}
 use Rattle.bench_input.specs.declared.Section.the-variants.{Head}
 use Rattle.bench_input.proofs.Reader.head_from.Statement.{statement}

@@ -2,7 +2,7 @@
 use mathlib.Core.Path.{refl}
 use borrow.Author.Tests.{eq-eqb, ne-eqb}
 use borrow.Author.Needs.{needs}
-use Rattle.area.proofs.Laws.Pick.{yes, no}
+use Rattle.lists.proofs.Laws.Pick.{yes, no}
 use Rattle.bench_input.specs.Reader.{idsFrom}
 use Rattle.bench_input.proofs.Reader.ids_from.Statement.{statement}
 use Rattle.bench_input.proofs.Reader.ids_from.Tie as tie

@@ -5,7 +5,8 @@ use Prim.Native.Nat.{ℕ, _-_, _*_, _/_}
 use native.Mathlib.Nat.{div-add-mod'}
 use native.Mathlib.Omega.{arith}
 use lib.ListN.{length}
-use Rattle.area.specs.Area.{part, tab}
+use Rattle.lists.specs.Tab.{tab}
+use Rattle.area.specs.Area.{part}
 use Rattle.host.specs.Calls.{formed}
 use Rattle.bench_program.specs.Single.{idsIn, formedInTurn}
 use Rattle.bench_program.proofs.Laws.Turns.{turn-refused, turn-formed, turn-none}

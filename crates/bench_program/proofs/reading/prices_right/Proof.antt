@@ -5,10 +5,10 @@ use Prim.Native.Nat.{_+_, _-_, _*_}
 use native.Mathlib.Omega.{arith}
 use lib.Dec.{leb}
 use borrow.Author.Tests.{le-leb, lt-leb}
-use Rattle.area.specs.Area.{tab}
-use Rattle.sia.specs.Encode.{every}
+use Rattle.lists.specs.Tests.{every}
+use Rattle.lists.specs.Tab.{tab}
+use Rattle.lists.proofs.Laws.Tab.{tab-stops, tab-further, tab-done}
 use Rattle.bench_program.specs.Input.{numberAt, pricesRight}
-use Rattle.bench_program.proofs.Laws.Input.{tab-stops, tab-further, tab-done}
 use Rattle.bench_program.proofs.reading.prices_right.Statement.{statement}
 use Rattle.bench_program.proofs.reading.prices_right.Tie as tie
 

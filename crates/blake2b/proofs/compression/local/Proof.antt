@@ -3,7 +3,7 @@ use mathlib.Core.Path.{ap}
 use mathlib.Core.List.{List}
 use Prim.Native.Nat.{ℕ}
 use borrow.Author.Needs.{needs}
-use Rattle.area.proofs.Laws.Pick.{yes, no}
+use Rattle.lists.proofs.Laws.Pick.{yes, no}
 use Rattle.blake2b.specs.Compression.{local, xorAt}
 use Rattle.blake2b.proofs.Laws.Steps.{vector}
 use Rattle.blake2b.proofs.compression.local.Statement.{statement}

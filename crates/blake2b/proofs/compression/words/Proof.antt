@@ -4,9 +4,10 @@ use Prim.Native.Nat.{_*_, _≤_, _-_}
 use native.Mathlib.Omega.{arith}
 use borrow.Author.Needs.{needs}
 use lib.ListN.{length, take}
-use Rattle.area.specs.Area.{part, zeros, tab}
+use Rattle.lists.specs.Tab.{tab}
+use Rattle.lists.proofs.Laws.Tab.{fill-none, fill-one, fill-all}
+use Rattle.area.specs.Area.{part, zeros}
 use Rattle.area.specs.Little.{valueOf}
-use Rattle.area.proofs.Laws.Tab.{fill-none, fill-one, fill-all}
 use Rattle.blake2b.specs.Compression.{words}
 use Rattle.blake2b.proofs.compression.words.Statement.{statement}
 use Rattle.blake2b.proofs.compression.words.Tie as tie

@@ -3,9 +3,9 @@ use mathlib.Core.Path.{_≡_, sym, ap, _∙_}
 use Prim.Native.Nat.{_+_, _-_}
 use native.Mathlib.Omega.{arith}
 use lib.Seq.{slice}
-use Rattle.host.specs.Lists.{firstOf}
+use Rattle.lists.specs.Tests.{firstOf}
+use Rattle.lists.proofs.Laws.Slices.{slice-all, first-here, first-further, first-done}
 use Rattle.host.specs.Places.{hasId}
-use Rattle.host.proofs.Laws.Slices.{slice-all, first-here, first-further, first-done}
 use Rattle.host.proofs.Laws.Places.{blank}
 use borrow.Author.Needs.{needs}
 use Rattle.host.proofs.places.place_number.Statement.{statement}

@@ -4,8 +4,8 @@ use mathlib.Core.Path.{_≡_, sym, ap, _∙_}
 use Prim.Native.Nat.{_-_}
 use native.Mathlib.Omega.{arith}
 use lib.Seq.{slice}
+use Rattle.lists.proofs.Laws.Slices.{slice-all}
 use Rattle.host.specs.Places.{whose}
-use Rattle.host.proofs.Laws.Slices.{slice-all}
 use Rattle.host.proofs.Laws.Places.{whose-here, whose-further, whose-done}
 use borrow.Author.Needs.{needs}
 use Rattle.host.proofs.places.place_of.Statement.{statement}

@@ -5,12 +5,12 @@ use mathlib.Core.List.{_++_}
 use Prim.Native.Nat.{_-_}
 use native.Mathlib.Omega.{arith}
 use lib.ListN.{length, take, drop, set, length-set}
-use Rattle.area.specs.Pick.{pick}
-use Rattle.host.specs.Lists.{each}
+use Rattle.lists.specs.Pick.{pick}
+use Rattle.lists.specs.Tests.{each}
+use Rattle.lists.proofs.Laws.Each.{each-none, each-one, each-all}
 use Rattle.host.specs.Places.{hasId}
 use Rattle.host.specs.Calls.{replaced}
 use Rattle.host.proofs.Laws.Places.{blank}
-use Rattle.host.proofs.Laws.Forming.{each-none, each-one, each-all}
 use borrow.Author.Needs.{needs}
 use Rattle.host.proofs.places.replaced_in.Statement.{statement}
 use Rattle.host.proofs.places.replaced_in.Tie as tie

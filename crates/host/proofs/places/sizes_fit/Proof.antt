@@ -5,9 +5,10 @@ use Prim.Native.Nat.{_+_, _-_}
 use native.Mathlib.Omega.{arith}
 use lib.Seq.{slice}
 use lib.Dec.{leb}
+use Rattle.lists.proofs.Laws.Sums.{above-first}
 use Rattle.host.specs.Places.{others}
 use Rattle.host.proofs.Laws.Places.{blank}
-use Rattle.host.proofs.Laws.Sums.{above-first, fits-first, fits-none, fits-further, fits-done}
+use Rattle.host.proofs.Laws.Sums.{fits-first, fits-none, fits-further, fits-done}
 use borrow.Author.Needs.{needs}
 use Rattle.host.proofs.places.sizes_fit.Statement.{statement}
 use Rattle.host.proofs.places.sizes_fit.Tie as tie

@@ -7,8 +7,8 @@ use lib.ListN.{take}
 use lib.Seq.{slice}
 use lib.Dec.{ltb}
 use borrow.Author.Tests.{lt-ltb, le-ltb}
-use Rattle.sia.specs.Encode.{every}
-use Rattle.host.proofs.Laws.Slices.{every-stops, every-further, every-done}
+use Rattle.lists.specs.Tests.{every}
+use Rattle.lists.proofs.Laws.Slices.{every-stops, every-further, every-done}
 use borrow.Author.Needs.{needs}
 use Rattle.host.proofs.slots.below.Statement.{statement}
 use Rattle.host.proofs.slots.below.Tie as tie

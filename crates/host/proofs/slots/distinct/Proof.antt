@@ -6,8 +6,8 @@ use native.Mathlib.Omega.{arith}
 use lib.ListN.{take}
 use lib.Seq.{slice}
 use lib.Dec.{eqb}
-use Rattle.host.specs.Lists.{some, apart}
-use Rattle.host.proofs.Laws.Slices.{apart-stops, apart-further, apart-done}
+use Rattle.lists.specs.Tests.{some, apart}
+use Rattle.lists.proofs.Laws.Slices.{apart-stops, apart-further, apart-done}
 use borrow.Author.Needs.{needs}
 use Rattle.host.proofs.slots.distinct.Statement.{statement}
 use Rattle.host.proofs.slots.distinct.Tie as tie

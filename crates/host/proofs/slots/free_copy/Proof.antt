@@ -4,9 +4,9 @@ use mathlib.Core.Bool.{not}
 use Prim.Native.Nat.{_-_, _≤_}
 use native.Mathlib.Nat.{sub-zero}
 use native.Mathlib.Omega.{arith}
-use Rattle.area.specs.Lowest.{lowest}
-use Rattle.area.proofs.Laws.Lowest.{lowest-here, lowest-further, lowest-none}
-use Rattle.host.specs.Lists.{unused}
+use Rattle.lists.specs.Tests.{unused}
+use Rattle.lists.specs.Lowest.{lowest}
+use Rattle.lists.proofs.Laws.Lowest.{lowest-here, lowest-further, lowest-none}
 use Rattle.host.specs.Places.{freeCopy}
 use borrow.Author.Needs.{needs}
 use Rattle.host.proofs.slots.free_copy.Statement.{statement}

@@ -6,8 +6,8 @@ use native.Mathlib.Omega.{arith}
 use lib.Seq.{slice}
 use lib.Dec.{eqb}
 use borrow.Author.Tests.{eq-eqb, ne-eqb}
-use Rattle.host.specs.Lists.{some}
-use Rattle.host.proofs.Laws.Slices.{slice-all, some-here, some-further, some-done}
+use Rattle.lists.specs.Tests.{some}
+use Rattle.lists.proofs.Laws.Slices.{slice-all, some-here, some-further, some-done}
 use borrow.Author.Needs.{needs}
 use Rattle.host.proofs.slots.staged_in.Statement.{statement}
 use Rattle.host.proofs.slots.staged_in.Tie as tie

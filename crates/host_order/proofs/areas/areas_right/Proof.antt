@@ -1,7 +1,7 @@
 -- `host_order::areas::areas_right` meets its contract. Assumes nothing.
 use mathlib.Core.Path.{refl, sym, _∙_}
 use borrow.Author.Tests.{not-true, not-false}
-use Rattle.area.proofs.Laws.Pick.{yes, no}
+use Rattle.lists.proofs.Laws.Pick.{yes, no}
 use borrow.Author.Needs.{needs}
 use Rattle.host_order.proofs.areas.areas_right.Statement.{statement}
 use Rattle.host_order.proofs.areas.areas_right.Tie as tie

@@ -7,9 +7,9 @@ use native.Mathlib.Omega.{arith}
 use lib.Seq.{slice}
 use lib.Dec.{eqb}
 use borrow.Author.Tests.{eq-eqb, ne-eqb}
-use Rattle.sia.specs.Encode.{every}
+use Rattle.lists.specs.Tests.{every}
+use Rattle.lists.proofs.Laws.Slices.{every-stops, every-further, every-done}
 use Rattle.host.specs.Empty.{none}
-use Rattle.host.proofs.Laws.Slices.{every-stops, every-further, every-done}
 use borrow.Author.Needs.{needs}
 use Rattle.host_order.proofs.staged.all_staged.Statement.{statement}
 use Rattle.host_order.proofs.staged.all_staged.Tie as tie

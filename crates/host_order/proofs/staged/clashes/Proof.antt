@@ -2,7 +2,7 @@
 use mathlib.Core.Path.{refl, ap}
 use mathlib.Core.Bool.{not}
 use borrow.Author.Tests.{eq-eqb, ne-eqb}
-use Rattle.area.proofs.Laws.Pick.{yes, no}
+use Rattle.lists.proofs.Laws.Pick.{yes, no}
 use Rattle.host.specs.Empty.{none}
 use Rattle.host.specs.Order.{clash}
 use Rattle.host_order.proofs.staged.clashes.Statement.{statement}

@@ -4,9 +4,9 @@ use mathlib.Core.Path.{_≡_, sym, ap, _∙_}
 use Prim.Native.Nat.{_-_}
 use native.Mathlib.Omega.{arith}
 use lib.Seq.{slice}
-use Rattle.host.specs.Lists.{apart}
+use Rattle.lists.specs.Tests.{apart}
+use Rattle.lists.proofs.Laws.Slices.{slice-all, apart-stops, apart-further, apart-done}
 use Rattle.host.specs.Order.{clash}
-use Rattle.host.proofs.Laws.Slices.{slice-all, apart-stops, apart-further, apart-done}
 use borrow.Author.Needs.{needs}
 use Rattle.host_order.proofs.staged.no_clash.Statement.{statement}
 use Rattle.host_order.proofs.staged.no_clash.Tie as tie

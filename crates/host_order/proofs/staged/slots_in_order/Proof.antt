@@ -5,9 +5,9 @@ use Prim.Native.Nat.{_-_}
 use native.Mathlib.Omega.{arith}
 use lib.Seq.{slice}
 use borrow.Author.Tests.{not-true, not-false}
-use Rattle.sia.specs.Encode.{every}
+use Rattle.lists.specs.Tests.{every}
+use Rattle.lists.proofs.Laws.Slices.{slice-all, every-stops, every-further, every-done}
 use Rattle.host.specs.Order.{slotInOrder}
-use Rattle.host.proofs.Laws.Slices.{slice-all, every-stops, every-further, every-done}
 use borrow.Author.Needs.{needs}
 use Rattle.host_order.proofs.staged.slots_in_order.Statement.{statement}
 use Rattle.host_order.proofs.staged.slots_in_order.Tie as tie

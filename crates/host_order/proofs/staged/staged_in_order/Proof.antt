@@ -1,8 +1,8 @@
 -- `host_order::staged::staged_in_order` meets its contract: a walk down the definition. Assumes nothing.
 use mathlib.Core.Path.{_∙_}
 use Rattle.host.specs.Order.{stagedInOrder}
-use Rattle.host.proofs.Laws.Slices.{every-behind, every-between}
 use borrow.Author.Needs.{needs}
+use Rattle.lists.proofs.Laws.Slices.{every-behind, every-between}
 use Rattle.host_order.proofs.Laws.Tests.{on, off}
 use Rattle.host_order.proofs.staged.staged_in_order.Statement.{statement}
 use Rattle.host_order.proofs.staged.staged_in_order.Tie as tie

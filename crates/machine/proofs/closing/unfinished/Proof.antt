@@ -1,6 +1,6 @@
 -- `machine::closing::unfinished` meets its contract. Assumes nothing.
 use mathlib.Core.Path.{refl}
-use Rattle.area.proofs.Laws.Pick.{yes, no}
+use Rattle.lists.proofs.Laws.Pick.{yes, no}
 use Rattle.machine_rules.specs.Commit.{unfinished}
 use borrow.Author.Needs.{needs}
 use Rattle.machine.proofs.closing.unfinished.Statement.{statement}

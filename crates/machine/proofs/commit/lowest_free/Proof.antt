@@ -4,8 +4,8 @@ use Prim.Native.Nat.{_-_, _≤_}
 use native.Mathlib.Nat.{sub-zero}
 use native.Mathlib.Omega.{arith}
 use borrow.Author.Tests.{eq-eqb, ne-eqb}
-use Rattle.area.specs.Lowest.{lowest}
-use Rattle.area.proofs.Laws.Lowest.{lowest-here, lowest-further, lowest-none}
+use Rattle.lists.specs.Lowest.{lowest}
+use Rattle.lists.proofs.Laws.Lowest.{lowest-here, lowest-further, lowest-none}
 use Rattle.machine.specs.Marks.{unmarked}
 use Rattle.machine.proofs.commit.lowest_free.Statement.{statement}
 use Rattle.machine.proofs.commit.lowest_free.Tie as tie

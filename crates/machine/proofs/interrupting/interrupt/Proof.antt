@@ -2,7 +2,7 @@
 use mathlib.Core.Path.{refl, sym, ap, _∙_}
 use mathlib.Core.Bool.{not}
 use borrow.Author.Tests.{not-false}
-use Rattle.area.proofs.Laws.Pick.{yes, no}
+use Rattle.lists.proofs.Laws.Pick.{yes, no}
 use Rattle.host.proofs.Laws.Order.{order-facts}
 use Rattle.machine_rules.specs.View.{diskRight}
 use Rattle.machine_rules.specs.Calls.{outputRight, interruptBy}

@@ -3,7 +3,7 @@ use mathlib.Core.Path.{_≡_, sym, ap, _∙_}
 use mathlib.Core.Bool.{true, not}
 use borrow.Author.Needs.{needs}
 use borrow.Author.Tests.{not-false}
-use Rattle.area.proofs.Laws.Pick.{yes, no}
+use Rattle.lists.proofs.Laws.Pick.{yes, no}
 use Rattle.host.specs.Order.{inOrder}
 use Rattle.machine_rules.specs.View.{settingBy}
 use Rattle.machine_rules.specs.Roots.{rootBy, rootOf}

@@ -1,7 +1,7 @@
 -- `machine::opening::absent` meets its contract: no contract is absent in read-only mode. Assumes nothing.
 use mathlib.Core.Path.{refl, sym, ap, _∙_}
 use mathlib.Core.Bool.{not}
-use Rattle.area.proofs.Laws.Pick.{yes, no}
+use Rattle.lists.proofs.Laws.Pick.{yes, no}
 use Rattle.host.specs.declared.Place.{Place}
 use borrow.Author.Needs.{needs}
 use Rattle.machine.proofs.opening.absent.Statement.{statement}

@@ -1,7 +1,7 @@
 -- `machine::opening::room_right` meets its contract. Assumes nothing.
 use mathlib.Core.Path.{refl}
 use borrow.Author.Tests.{le-leb, lt-leb}
-use Rattle.area.proofs.Laws.Pick.{yes, no}
+use Rattle.lists.proofs.Laws.Pick.{yes, no}
 use Rattle.machine_rules.specs.Calls.{roomRight}
 use Rattle.machine.proofs.opening.room_right.Statement.{statement}
 use Rattle.machine.proofs.opening.room_right.Tie as tie

@@ -3,12 +3,12 @@ use mathlib.Core.Path.{sym, ap, _∙_}
 use mathlib.Core.Bool.{not}
 use native.Mathlib.Omega.{arith}
 use borrow.Author.Tests.{not-false, ltb-false}
-use Rattle.area.proofs.Laws.Pick.{yes, no, both-left, both-right}
-use Rattle.host.proofs.Laws.Order.{order-facts}
+use Rattle.lists.proofs.Laws.Pick.{yes, no, both-left, both-right}
+use Rattle.host.proofs.Laws.Order.{order-facts, came-within}
 use Rattle.machine_rules.specs.View.{diskRight, areasRight}
 use Rattle.machine_rules.specs.Calls.{inputRight, outputRight, pieceBy}
 use Rattle.machine.specs.Asks.{pieceLeaves}
-use Rattle.machine.proofs.Laws.Hosts.{right-if, came-within}
+use Rattle.machine.proofs.Laws.Hosts.{right-if}
 use Rattle.machine_rules.specs.declared.Answer.{Answer}
 use borrow.Author.Needs.{needs}
 use Rattle.machine.proofs.piecing.piece.Statement.{statement}

@@ -8,10 +8,10 @@ use lib.ListN.{length}
 use lib.Seq.{slice}
 use lib.Dec.{eqb}
 use borrow.Author.Tests.{not-true, not-false}
-use Rattle.area.specs.Pick.{either}
-use Rattle.sia.specs.Encode.{every}
+use Rattle.lists.specs.Pick.{either}
+use Rattle.lists.specs.Tests.{every}
+use Rattle.lists.proofs.Laws.Slices.{slice-all, every-stops, every-further, every-done}
 use Rattle.host.specs.Empty.{none}
-use Rattle.host.proofs.Laws.Slices.{slice-all, every-stops, every-further, every-done}
 use Rattle.machine_rules.specs.Sound.{right, stagedRight}
 use Rattle.machine.proofs.Laws.Beside.{one-beside}
 use Rattle.machine.proofs.sounding.all_right.Statement.{statement}

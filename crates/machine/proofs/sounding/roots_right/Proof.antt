@@ -1,9 +1,9 @@
 -- `roots_right` meets its contract: the slots that contracts take, then those of an open program's staged positions. Assumes nothing.
 use mathlib.Core.Path.{_≡_, refl, sym, ap, subst, _∙_}
 use borrow.Author.Tests.{not-true, not-false}
-use Rattle.area.proofs.Laws.Pick.{yes, no}
+use Rattle.lists.specs.Tests.{every}
+use Rattle.lists.proofs.Laws.Pick.{yes, no}
 use Rattle.area.proofs.Laws.Slots.{some}
-use Rattle.sia.specs.Encode.{every}
 use Rattle.host.specs.Places.{taken}
 use Rattle.host.proofs.Laws.Lengths.{hosted, disk-rooted, stage-rooted}
 use Rattle.host.proofs.Laws.Order.{order-facts}

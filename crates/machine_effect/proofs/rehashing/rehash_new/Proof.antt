@@ -4,7 +4,7 @@ use native.Mathlib.Omega.{arith}
 use borrow.Author.Needs.{needs}
 use borrow.Author.Tests.{lt-ltb, le-ltb}
 use lib.ListN.{length}
-use Rattle.area.proofs.Laws.Pick.{yes, no}
+use Rattle.lists.proofs.Laws.Pick.{yes, no}
 use Rattle.tree.proofs.Promise.{roots}
 use Rattle.machine_effect.proofs.Laws.KeptRoots.{root-laid}
 use Rattle.machine_effect.proofs.rehashing.rehash_new.Statement.{statement}

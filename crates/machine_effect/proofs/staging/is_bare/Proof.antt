@@ -4,7 +4,7 @@ use Prim.Native.Nat.{ℕ}
 use native.Mathlib.Omega.{arith}
 use lib.Dec.{eqb}
 use borrow.Author.Needs.{needs}
-use Rattle.machine_effect.proofs.Laws.Slots.{any-default}
+use Rattle.lists.proofs.Laws.Entries.{any-default}
 use Rattle.machine_effect.proofs.staging.is_bare.Statement.{statement}
 use Rattle.machine_effect.proofs.staging.is_bare.Tie as tie
 

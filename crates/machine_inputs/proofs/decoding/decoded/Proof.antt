@@ -2,7 +2,7 @@
 use mathlib.Core.Path.{sym, ap, _∙_}
 use mathlib.Core.List.{List}
 use Prim.Native.Nat.{ℕ}
-use Rattle.area.proofs.Laws.Pick.{never}
+use Rattle.lists.proofs.Laws.Pick.{never}
 use Rattle.machine_rules.specs.Inputs.{inputsOf}
 use Rattle.machine_rules.specs.Kinds.{known, operandsOf, kind}
 use Rattle.machine_inputs.specs.Given.{given, fromOf, dataFrom}

@@ -5,7 +5,7 @@ use mathlib.Core.List.{List}
 use Prim.Native.Nat.{ℕ}
 use native.Mathlib.Omega.{arith}
 use borrow.Author.Tests.{eq-eqb, ne-eqb}
-use Rattle.area.proofs.Laws.Pick.{yes, no}
+use Rattle.lists.proofs.Laws.Pick.{yes, no}
 use Rattle.area.proofs.Laws.Puts.{put-part}
 use Rattle.area.proofs.Laws.Parts.{part-whole}
 use Rattle.machine_rules.specs.Inputs.{told, isKey}

@@ -2,7 +2,7 @@
 use mathlib.Core.Path.{sym, ap, _∙_}
 use native.Mathlib.Omega.{arith}
 use borrow.Author.Tests.{not-true, not-false}
-use Rattle.area.proofs.Laws.Pick.{both-not-left, both-not-right}
+use Rattle.lists.proofs.Laws.Pick.{both-not-left, both-not-right}
 use Rattle.sia.specs.Number.{numberGiven}
 use Rattle.machine_rules.specs.Inputs.{wellFormed}
 use Rattle.machine_inputs.specs.Given.{inputAt, three}

@@ -1,7 +1,7 @@
 -- `machine_inputs::decoding::span_args` meets its contract: the three inputs in turn. Assumes nothing.
 use mathlib.Core.Path.{sym, ap, _∙_}
 use native.Mathlib.Omega.{arith}
-use Rattle.area.proofs.Laws.Pick.{both-not-left, both-not-right}
+use Rattle.lists.proofs.Laws.Pick.{both-not-left, both-not-right}
 use Rattle.sia.specs.Number.{numberGiven}
 use Rattle.machine_rules.specs.Inputs.{wellFormed}
 use Rattle.machine_inputs.specs.Given.{inputAt, three}

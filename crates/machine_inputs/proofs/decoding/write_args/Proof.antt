@@ -2,7 +2,7 @@
 use mathlib.Core.Path.{sym, ap, _∙_}
 use native.Mathlib.Omega.{arith}
 use lib.ListN.{getD}
-use Rattle.area.proofs.Laws.Pick.{both-not-left, both-not-right}
+use Rattle.lists.proofs.Laws.Pick.{both-not-left, both-not-right}
 use Rattle.area.proofs.Laws.Parts.{length-part}
 use Rattle.sia.specs.Empty.{noOperand}
 use Rattle.sia.specs.Number.{numberGiven}

@@ -1,7 +1,7 @@
 -- `machine_inputs::operands::end_of` meets its contract. Assumes nothing.
 use mathlib.Core.Path.{refl}
 use borrow.Author.Tests.{eq-eqb, ne-eqb}
-use Rattle.area.proofs.Laws.Pick.{yes, no}
+use Rattle.lists.proofs.Laws.Pick.{yes, no}
 use borrow.Author.Needs.{needs}
 use Rattle.machine_inputs.proofs.operands.end_of.Statement.{statement}
 use Rattle.machine_inputs.proofs.operands.end_of.Tie as tie

@@ -2,7 +2,7 @@
 use mathlib.Core.Path.{_≡_, refl, sym, ap, _∙_}
 use mathlib.Core.Bool.{not}
 use lib.Dec.{eqb}
-use Rattle.area.proofs.Laws.Pick.{yes, no}
+use Rattle.lists.proofs.Laws.Pick.{yes, no}
 use Rattle.sia.specs.Names.{opOf}
 use Rattle.machine_rules.specs.Inputs.{illFormed}
 use Rattle.machine_rules.specs.Kinds.{kind}

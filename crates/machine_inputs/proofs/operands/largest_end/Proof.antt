@@ -6,7 +6,7 @@ use Prim.Native.Nat.{ℕ, _+_, _-_, _≤_, max}
 use native.Mathlib.Omega.{arith}
 use lib.ListN.{take}
 use lib.Seq.{slice}
-use Rattle.host.specs.Lists.{some}
+use Rattle.lists.specs.Tests.{some}
 use Rattle.machine_rules.specs.Inputs.{largest}
 use Rattle.machine_inputs.specs.Ends.{endsPast}
 use Rattle.machine_inputs.proofs.Laws.Ends.{largest-first, largest-further, largest-done, past-further, past-not}

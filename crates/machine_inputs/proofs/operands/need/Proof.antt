@@ -1,7 +1,7 @@
 -- `machine_inputs::operands::need` meets its contract: a walk down the definition. Assumes nothing.
 use mathlib.Core.Path.{refl, sym, ap, _∙_}
-use Rattle.area.proofs.Laws.Pick.{yes, no}
-use Rattle.host.specs.Lists.{some}
+use Rattle.lists.specs.Tests.{some}
+use Rattle.lists.proofs.Laws.Pick.{yes, no}
 use Rattle.machine_rules.specs.Inputs.{pastEnd, largest, need}
 use Rattle.sia.proofs.Laws.Known.{known-instruction}
 use Rattle.machine_inputs.specs.Ends.{endsPast}

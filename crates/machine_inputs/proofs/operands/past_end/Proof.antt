@@ -1,6 +1,6 @@
 -- `machine_inputs::operands::past_end` meets its contract. Assumes nothing.
 use mathlib.Core.Path.{ap, _∙_}
-use Rattle.host.specs.Lists.{some}
+use Rattle.lists.specs.Tests.{some}
 use Rattle.machine_rules.specs.Inputs.{pastEnd}
 use Rattle.sia.proofs.Laws.Known.{known-instruction}
 use Rattle.machine_inputs.specs.Ends.{endsPast}

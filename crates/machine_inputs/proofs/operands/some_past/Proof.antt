@@ -4,9 +4,9 @@ use Prim.Native.Nat.{_-_, _≤_}
 use native.Mathlib.Omega.{arith}
 use lib.ListN.{take}
 use lib.Seq.{slice}
+use Rattle.lists.specs.Tests.{some}
+use Rattle.lists.proofs.Laws.Slices.{some-here, some-further, some-done}
 use Rattle.sia.specs.Empty.{noOperand}
-use Rattle.host.specs.Lists.{some}
-use Rattle.host.proofs.Laws.Slices.{some-here, some-further, some-done}
 use Rattle.machine_inputs.specs.Ends.{endsPast}
 use borrow.Author.Needs.{needs}
 use Rattle.machine_inputs.proofs.operands.some_past.Statement.{statement}

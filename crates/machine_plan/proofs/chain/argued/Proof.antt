@@ -6,8 +6,8 @@ use Prim.Native.Nat.{ℕ}
 use native.Mathlib.Omega.{arith}
 use lib.ListN.{length}
 use borrow.Author.Tests.{not-true, not-false}
-use Rattle.area.specs.Pick.{both}
-use Rattle.area.proofs.Laws.Pick.{yes, no}
+use Rattle.lists.specs.Pick.{both}
+use Rattle.lists.proofs.Laws.Pick.{yes, no}
 use Rattle.machine_rules.specs.View.{Setting, setting, readOnlyMode}
 use Rattle.machine_rules.specs.Roots.{keptRoot}
 use Rattle.machine_rules.specs.Plan.{plannedArgs, weighed, Source, isThere, spots, sourceOf}
@@ -17,7 +17,8 @@ use Rattle.machine_sight.proofs.Laws.Roots.{seen-count}
 use Rattle.machine_rules.specs.declared.Spot.{Spot}
 use Rattle.machine_plan.specs.Source.{Shows}
 use Rattle.machine_plan.specs.Planned.{says, failed, argued}
-use Rattle.machine_plan.proofs.Laws.Planned.{fails, says-can, says-failed, source-same, size-few, length-most, room-most}
+use Rattle.machine_plan.proofs.Laws.Planned.{fails, says-can, says-failed, source-same, length-most, room-most}
+use Rattle.machine_rules.proofs.Laws.Effects.{few-sectors}
 use Rattle.machine_plan.proofs.Laws.Lookup.{shows-as}
 use borrow.Author.Needs.{needs}
 use Rattle.machine_plan.proofs.chain.argued.Statement.{statement}
@@ -107,7 +108,7 @@ weighed-requires c κs =
     let plans = s .pre .0 in
     let good = s .pre .1 in
     let few = few-spots (s .args .z) (the-set s) (the-roots s) (s .args .p) (s .args .op) (s .args .args .key) (plans .sources .seeks .stand .order)
-    (size-few (s .args .z) (the-set s) (s .args .p) (plans .lent) good) in
+    (few-sectors (s .args .z) (the-set s) (s .args .p) (plans .lent) good) in
     let many = sym (ap (λ (l : List Spot). length l) (shown at-source-of .sectors)) ∙ seen-count (at-source-of .source-of .result .seen) in (
       plans .lent .size,
       (

@@ -4,6 +4,7 @@ use mathlib.Core.Bool.{not, true, false}
 use mathlib.Core.List.{List, []}
 use Prim.Native.Nat.{suc, ℕ}
 use borrow.Author.Tests.{not-true, not-false}
+use Rattle.lists.proofs.Laws.Pick.{yes, no}
 use Rattle.sia.specs.Names.{opOf}
 use Rattle.machine_rules.specs.View.{Setting, setting}
 use Rattle.machine_rules.specs.Roots.{keptRoot}
@@ -17,7 +18,6 @@ use Rattle.machine_plan.proofs.Laws.Planned.{fails, argued-is}
 use Rattle.machine_rules.specs.Plan.{refused, planned, plannedInputs}
 use borrow.Author.Needs.{needs}
 use Rattle.machine_plan.proofs.chain.planned.Statement.{statement}
-use Rattle.area.proofs.Laws.Pick.{yes, no}
 use Rattle.machine_rules.specs.declared.Plan.{Plan}
 use Rattle.machine_plan.proofs.chain.planned.Tie as tie
 

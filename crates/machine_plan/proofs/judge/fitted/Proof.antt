@@ -7,7 +7,7 @@ use native.Mathlib.Nat.{mul-le-mul}
 use native.Mathlib.Omega.{arith}
 use lib.Dec.{ltb}
 use borrow.Author.Tests.{ltb-false}
-use Rattle.area.proofs.Laws.Pick.{yes, no}
+use Rattle.lists.proofs.Laws.Pick.{yes, no}
 use Rattle.host.specs.Places.{others}
 use Rattle.machine_rules.specs.View.{freeCopies, setting}
 use Rattle.machine_rules.specs.Plan.{fitted, wanted, newSize, recordCount}

@@ -4,14 +4,14 @@ use mathlib.Core.Path.{_≡_, sym, ap, _∙_}
 use mathlib.Core.Bool.{false}
 use Prim.Native.Nat.{ℕ, _+_}
 use lib.Dec.{ltb}
-use Rattle.area.specs.Pick.{both}
+use Rattle.lists.specs.Pick.{both}
+use Rattle.lists.proofs.Laws.Pick.{yes, no}
 use Rattle.machine_rules.specs.Plan.{fitted, weighed, badSpans, badProof, cost}
 use Rattle.machine_plan.proofs.Laws.Numbers.{charged}
 use Rattle.machine_plan.proofs.Laws.Weighed.{provable}
 use borrow.Author.Needs.{needs}
 use Rattle.machine_plan.proofs.judge.weighed.Statement.{statement}
 use Rattle.machine_rules.specs.View.{setting}
-use Rattle.area.proofs.Laws.Pick.{yes, no}
 use Rattle.machine_plan.proofs.judge.weighed.Tie as tie
 
 -- ---- what the calls gave, in the definitions' words

@@ -4,7 +4,8 @@ use borrow.Author.Tests.{not-true, not-false}
 use Rattle.area.specs.Area.{same}
 use Rattle.machine_plan.specs.Source.{looking}
 use Rattle.machine_sight.proofs.Callers.{parent-spots}
-use Rattle.machine_plan.proofs.Laws.Lookup.{shows-as, shows-seen, whose-in-order, not-found, own-found, other-found, parent-whose}
+use Rattle.machine_plan.proofs.Laws.Lookup.{shows-as, shows-seen, not-found, own-found, other-found, parent-whose}
+use Rattle.host.proofs.Laws.Whose.{whose-order}
 use Rattle.machine_rules.specs.View.{committedSpots}
 use Rattle.host.specs.declared.Place.{Place}
 use Rattle.host.specs.Order.{placeInOrder}
@@ -39,7 +40,7 @@ committed-seen-requires c κs =
     let at-place-of = at-if1 .before .before in
     let s = at-place-of .before in (
       s .pre .0,
-      ap (placeInOrder (s .args .z)) (at-place-of .place-of .ensures) ∙ whose-in-order (s .args .z) (s .args .key) (s .args .places) (s .pre .1),
+      ap (placeInOrder (s .args .z)) (at-place-of .place-of .ensures) ∙ whose-order (s .args .z) (s .args .key) (s .args .places) (s .pre .1),
     )
 
 returns-3 : tie.Need-returns-3

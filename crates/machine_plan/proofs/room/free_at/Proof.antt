@@ -2,7 +2,7 @@
 use mathlib.Core.Path.{refl, sym, ap, _∙_}
 use mathlib.Core.Bool.{not}
 use native.Mathlib.Omega.{arith}
-use Rattle.area.proofs.Laws.Pick.{yes, no}
+use Rattle.lists.proofs.Laws.Pick.{yes, no}
 use borrow.Author.Needs.{needs}
 use Rattle.machine_plan.proofs.room.free_at.Statement.{statement}
 use Rattle.machine_plan.proofs.room.free_at.Tie as tie

@@ -3,7 +3,7 @@
 use mathlib.Core.Path.{_≡_}
 use Prim.Native.Nat.{_+_, _-_, _≤_}
 use native.Mathlib.Omega.{arith}
-use Rattle.host.specs.Lists.{count, unused}
+use Rattle.lists.specs.Tests.{count, unused}
 use Rattle.machine_plan.proofs.Laws.Room.{count-first, count-one, count-done}
 use borrow.Author.Needs.{needs}
 use Rattle.machine_plan.proofs.room.free_copies.Statement.{statement}

@@ -1,6 +1,6 @@
 -- `machine_plan::room::output_count` meets its contract. Assumes nothing.
 use mathlib.Core.Path.{refl, sym, _∙_, ap}
-use Rattle.area.proofs.Laws.Pick.{yes, no}
+use Rattle.lists.proofs.Laws.Pick.{yes, no}
 use Rattle.machine_rules.specs.Plan.{outputCount}
 use Rattle.machine_rules.specs.declared.Kind.{Kind}
 use borrow.Author.Needs.{needs}

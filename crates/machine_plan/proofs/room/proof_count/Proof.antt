@@ -1,7 +1,7 @@
 -- `machine_plan::room::proof_count` meets its contract. Assumes nothing.
 use mathlib.Core.Path.{refl, _∙_}
 use borrow.Author.Tests.{not-true, not-false}
-use Rattle.area.proofs.Laws.Pick.{yes, no}
+use Rattle.lists.proofs.Laws.Pick.{yes, no}
 use Rattle.machine_rules.specs.Plan.{proofCount}
 use Rattle.machine_sight.proofs.Callers.{count-range}
 use Rattle.machine_plan.proofs.room.proof_count.Statement.{statement}

@@ -4,7 +4,7 @@ use native.Mathlib.Omega.{arith}
 use lib.Dec.{ltb}
 use borrow.Author.Tests.{le-ltb}
 use borrow.Author.Needs.{needs}
-use Rattle.host.specs.Lists.{count, unused}
+use Rattle.lists.specs.Tests.{count, unused}
 use Rattle.machine_plan.proofs.room.too_few.Statement.{statement}
 use Rattle.machine_plan.proofs.room.too_few.Tie as tie
 

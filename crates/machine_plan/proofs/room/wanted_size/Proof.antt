@@ -5,8 +5,8 @@ use Prim.Native.Nat.{ℕ}
 use lib.ListN.{length, getD}
 use lib.Dec.{eqb}
 use borrow.Author.Tests.{lt-ltb, le-ltb}
-use Rattle.area.proofs.Laws.Pick.{yes, no}
-use Rattle.host.specs.Lists.{those}
+use Rattle.lists.specs.Tests.{those}
+use Rattle.lists.proofs.Laws.Pick.{yes, no}
 use Rattle.host.specs.Empty.{none}
 use Rattle.machine_rules.specs.Plan.{touched, wanted}
 use Rattle.machine_plan.proofs.Laws.Room.{none-those, one-those}

@@ -6,8 +6,8 @@ use native.Mathlib.Omega.{arith}
 use lib.ListN.{length, getD}
 use lib.Dec.{eqb}
 use borrow.Author.Tests.{eq-eqb, ne-eqb}
-use Rattle.area.proofs.Laws.Pick.{yes, no}
-use Rattle.host.specs.Lists.{those}
+use Rattle.lists.specs.Tests.{those}
+use Rattle.lists.proofs.Laws.Pick.{yes, no}
 use Rattle.host.specs.Empty.{none}
 use Rattle.machine_rules.specs.Plan.{touched, wanted}
 use Rattle.machine_plan.proofs.Laws.Room.{one-those, two-those}

@@ -2,7 +2,7 @@
 use mathlib.Core.Path.{refl, sym, ap, _∙_}
 use mathlib.Core.Bool.{not}
 use borrow.Author.Tests.{eq-eqb, ne-eqb}
-use Rattle.area.proofs.Laws.Pick.{yes, no}
+use Rattle.lists.proofs.Laws.Pick.{yes, no}
 use Rattle.machine_rules.specs.Plan.{badProof}
 use Rattle.machine_rules.specs.declared.Kind.{Kind}
 use borrow.Author.Needs.{needs}

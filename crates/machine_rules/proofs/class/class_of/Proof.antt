@@ -4,7 +4,7 @@ use mathlib.Core.Path.{refl}
 use native.Mathlib.Nat.{lt-of-lt-of-le}
 use borrow.Author.Tests.{eq-eqb, ne-eqb}
 use lib.Dec.{lit≤}
-use Rattle.area.proofs.Laws.Pick.{yes, no}
+use Rattle.lists.proofs.Laws.Pick.{yes, no}
 use Rattle.machine_rules.specs.Class.{classOf}
 use Rattle.machine_rules.proofs.Laws.Classes.{below, above, failed, is-invalid, is-host}
 use Rattle.machine_rules.proofs.class.class_of.Statement.{statement}

@@ -3,7 +3,7 @@ use mathlib.Core.Path.{_≡_, refl, sym, ap, _∙_}
 use Prim.Native.Nat.{ℕ, _-_, _*_, _≤_}
 use native.Mathlib.Omega.{arith}
 use lib.ListN.{length, take}
-use Rattle.area.specs.Area.{tab}
+use Rattle.lists.specs.Tab.{tab}
 use Rattle.sia.specs.Encode.{joined}
 use Rattle.machine_rules.specs.View.{spotOf}
 use Rattle.machine_rules.specs.Roots.{keptRoot}

@@ -4,9 +4,8 @@ use mathlib.Core.List.{List}
 use Prim.Native.Nat.{ℕ, _/_}
 use native.Mathlib.Omega.{arith}
 use borrow.Author.Needs.{needs}
-use Rattle.area.specs.Area.{tab}
-use Rattle.sia.specs.Encode.{every}
-use Rattle.host.specs.Lists.{firstOf}
+use Rattle.lists.specs.Tests.{every, firstOf}
+use Rattle.lists.specs.Tab.{tab}
 use Rattle.host.specs.Places.{hasId}
 use Rattle.machine_rules.specs.View.{spotOf}
 use Rattle.machine_rules.specs.Roots.{keptRoot}

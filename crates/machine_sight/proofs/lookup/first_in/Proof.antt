@@ -3,7 +3,8 @@
 use mathlib.Core.Path.{_≡_, sym, ap, _∙_}
 use Prim.Native.Nat.{_-_}
 use native.Mathlib.Omega.{arith}
-use Rattle.area.specs.Area.{same, tab}
+use Rattle.lists.specs.Tab.{tab}
+use Rattle.area.specs.Area.{same}
 use Rattle.machine_rules.specs.View.{spotOf}
 use Rattle.machine_rules.specs.Roots.{keptRoot}
 use Rattle.machine_rules.specs.Seats.{seated, firstSeat}

@@ -6,8 +6,8 @@ use native.Mathlib.Omega.{arith}
 use lib.ListN.{length}
 use lib.Seq.{slice}
 use borrow.Author.Needs.{needs}
+use Rattle.lists.proofs.Laws.Slices.{slice-all}
 use Rattle.host.specs.Places.{hasId}
-use Rattle.host.proofs.Laws.Slices.{slice-all}
 use Rattle.host.proofs.Laws.Places.{blank}
 use Rattle.machine_rules.specs.Roots.{keptRoot}
 use Rattle.machine_rules.specs.Seats.{committedSeats, firstSeat}

@@ -2,7 +2,7 @@
 use mathlib.Core.Path.{sym, ap, _∙_}
 use mathlib.Core.List.{List}
 use borrow.Author.Needs.{needs}
-use Rattle.area.proofs.Laws.Pick.{picks, skips}
+use Rattle.lists.proofs.Laws.Pick.{picks, skips}
 use Rattle.machine_rules.specs.Roots.{keptRoot}
 use Rattle.machine_rules.specs.Seats.{seated, firstSeat}
 use Rattle.machine_rules.proofs.Laws.Sought.{first-none}

@@ -1,7 +1,7 @@
 -- `nothing` meets its contract. Assumes nothing.
 use mathlib.Core.Path.{refl}
 use native.Mathlib.Omega.{arith}
-use Rattle.area.specs.Area.{tab}
+use Rattle.lists.specs.Tab.{tab}
 use Rattle.machine_sight.specs.Seen.{spotsOf}
 use Rattle.machine_sight.proofs.sights.nothing.Statement.{statement}
 use Rattle.machine_sight.proofs.sights.nothing.Tie as tie

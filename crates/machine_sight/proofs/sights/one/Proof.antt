@@ -3,7 +3,7 @@ use mathlib.Core.Path.{sym, ap, subst, _∙_}
 use mathlib.Core.List.{[], _∷_}
 use native.Mathlib.Omega.{arith}
 use borrow.Author.Needs.{needs}
-use Rattle.area.specs.Area.{tab}
+use Rattle.lists.specs.Tab.{tab}
 use Rattle.machine_sight.specs.Seen.{spotsOf}
 use Rattle.machine_rules.specs.declared.Spot.{Spot}
 use Rattle.machine_rules.specs.declared.Spot.the-variants.{OnDisk, InStage}

@@ -2,7 +2,7 @@
 use mathlib.Core.Path.{ap, _∙_}
 use mathlib.Core.List.{List}
 use Prim.Native.Nat.{ℕ, _/_}
-use Rattle.area.specs.Area.{tab}
+use Rattle.lists.specs.Tab.{tab}
 use Rattle.host.proofs.Laws.Lengths.{hosted, disk-rooted, stage-rooted}
 use Rattle.machine_rules.specs.View.{settingBy, parent, spotOf, parentSpots}
 use Rattle.machine_rules.specs.Roots.{keptRoot, contractRoot}

@@ -1,6 +1,6 @@
 -- `machine_step::records::count_of` meets its contract. Assumes nothing.
 use mathlib.Core.Path.{refl}
-use Rattle.area.proofs.Laws.Pick.{yes, no}
+use Rattle.lists.proofs.Laws.Pick.{yes, no}
 use Rattle.machine_step.proofs.records.count_of.Statement.{statement}
 use Rattle.machine_step.proofs.records.count_of.Tie as tie
 

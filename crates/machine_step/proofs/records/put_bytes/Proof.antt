@@ -4,8 +4,8 @@ use mathlib.Core.List.{[]}
 use Prim.Native.Nat.{ℕ, _≤_}
 use native.Mathlib.Omega.{arith}
 use lib.ListN.{length}
+use Rattle.lists.proofs.Laws.Pick.{picks, skips}
 use Rattle.area.specs.Area.{put}
-use Rattle.area.proofs.Laws.Pick.{picks, skips}
 use Rattle.area.proofs.Laws.Parts.{part-whole}
 use Rattle.area.proofs.Laws.Puts.{put-nil}
 use Rattle.sia.proofs.Laws.Joined.{lay-same}

@@ -3,8 +3,8 @@ use mathlib.Core.Path.{sym, ap, subst, _∙_}
 use mathlib.Core.List.{List, []}
 use Prim.Native.Nat.{ℕ, _≤_}
 use lib.ListN.{length}
+use Rattle.lists.proofs.Laws.Pick.{picks, skips}
 use Rattle.area.specs.Area.{put}
-use Rattle.area.proofs.Laws.Pick.{picks, skips}
 use Rattle.area.proofs.Laws.Puts.{put-nil}
 use Rattle.sia.proofs.Laws.Joined.{lay-same}
 use Rattle.machine_step.specs.Shown.{shownProof}

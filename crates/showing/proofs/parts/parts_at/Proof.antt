@@ -7,7 +7,7 @@ use native.Mathlib.Omega.{arith}
 use lib.ListN.{length}
 use borrow.Author.Needs.{needs}
 use borrow.Author.Tests.{lt-ltb, le-ltb}
-use Rattle.area.proofs.Laws.Pick.{yes, no}
+use Rattle.lists.proofs.Laws.Pick.{yes, no}
 use Rattle.showing.specs.Whole.{numberAt, lacking, standing, outputAt, partsAt}
 use Rattle.showing.specs.declared.parts.Parts.{Parts}
 use Rattle.showing.proofs.parts.parts_at.Statement.{statement}

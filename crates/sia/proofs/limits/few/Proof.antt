@@ -5,9 +5,10 @@ use Prim.Native.Nat.{_-_, _≤_}
 use native.Mathlib.Omega.{arith}
 use lib.ListN.{take, drop}
 use borrow.Author.Tests.{le-leb, lt-leb}
+use Rattle.lists.specs.Tests.{every}
+use Rattle.lists.proofs.Laws.Every.{every-not, every-next, every-end}
 use Rattle.sia.specs.Empty.{noInstruction}
-use Rattle.sia.specs.Encode.{every, fewOperands}
-use Rattle.sia.proofs.Laws.Every.{every-not, every-further, every-end}
+use Rattle.sia.specs.Encode.{fewOperands}
 use borrow.Author.Needs.{needs}
 use Rattle.sia.proofs.limits.few.Statement.{statement}
 use Rattle.sia.proofs.limits.few.Tie as tie
@@ -29,7 +30,7 @@ loop-again : tie.Need-loop-again Inv-loop μ-loop
 loop-again c =
     let l = c .before .before .before .before .loop in
     let s = c .before .before .before .before .before in
-    (omega arith, l .inv .1 ∙ every-further fewOperands _ _ (l .i) _ (c .before .before .before .loop-test .taken)
+    (omega arith, l .inv .1 ∙ every-next fewOperands _ _ (l .i) _ (c .before .before .before .loop-test .taken)
         (omega (arith, s .good .0 .1 .0 .1)) (le-leb _ _ (c .if1 .left)))
 
 pub few-spec : {M : Type 1} → statement M

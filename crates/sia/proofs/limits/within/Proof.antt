@@ -1,7 +1,7 @@
 -- `sia::limits::within` meets its contract: the three limits in the definition's order. Assumes nothing.
 use mathlib.Core.Path.{refl}
 use borrow.Author.Tests.{le-leb, lt-leb}
-use Rattle.area.proofs.Laws.Pick.{yes, no}
+use Rattle.lists.proofs.Laws.Pick.{yes, no}
 use Rattle.sia.specs.Encode.{within}
 use borrow.Author.Needs.{needs}
 use Rattle.sia.proofs.limits.within.Statement.{statement}

@@ -1,7 +1,7 @@
 -- `asked::provable_in` meets its contract, test by test. Assumes nothing.
 use mathlib.Core.Path.{refl, sym, _∙_}
 use borrow.Author.Tests.{eq-eqb, ne-eqb, lt-ltb, le-ltb}
-use Rattle.area.proofs.Laws.Pick.{yes, no}
+use Rattle.lists.proofs.Laws.Pick.{yes, no}
 use Rattle.tree.specs.Answers.{provableIn, wholes}
 use borrow.Author.Needs.{needs}
 use Rattle.tree.proofs.asked.provable_in.Statement.{statement}

@@ -8,9 +8,9 @@ use lib.ListN.{length}
 use lib.Dec.{leb}
 use borrow.Author.Needs.{needs}
 use borrow.Author.Tests.{not-true, not-false, le-leb, lt-leb, eq-eqb, ne-eqb}
-use Rattle.area.specs.Pick.{both}
+use Rattle.lists.specs.Pick.{both}
+use Rattle.lists.proofs.Laws.Pick.{yes, no, both-join, both-not-left, both-not-right}
 use Rattle.area.specs.Area.{same}
-use Rattle.area.proofs.Laws.Pick.{yes, no, both-join, both-not-left, both-not-right}
 use Rattle.tree.specs.Walk.{hashes, count}
 use Rattle.tree.specs.Checker.{limit, rebuild, verdict}
 use Rattle.tree.proofs.Laws.Counts.{hashes-few}

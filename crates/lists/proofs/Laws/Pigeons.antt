@@ -6,11 +6,11 @@ use Prim.Native.Nat.{ℕ, zero, suc, _+_, _≤_}
 use native.Mathlib.Omega.{arith}
 use lib.ListN.{length}
 use lib.Dec.{ltb, eqb}
-use borrow.Author.Tests.{not-true, ltb-true, lt-ltb, eqb-true, eqb-false}
-use Rattle.area.proofs.Laws.Pick.{by, picks, skips, both-left, both-right, both-join, either-left, either-right, either-join}
-use Rattle.sia.specs.Encode.{every}
-use Rattle.host.specs.Lists.{some, those, apart}
-use Rattle.machine_rules.proofs.Laws.Lists.{eqb-swap}
+use borrow.Author.Tests.{ltb-true, lt-ltb, eqb-true, eqb-false}
+use Rattle.lists.specs.Tests.{every, some, those, apart}
+use Rattle.lists.proofs.Laws.Pick.{by, picks, skips, both-left, both-right, both-join, either-left, either-right, either-join}
+use Rattle.lists.proofs.Laws.Some.{eqb-swap}
+use Rattle.lists.proofs.Laws.Apart.{tail-apart}
 
 module _ (q : ℕ → Bool) where
   -- what `those` keeps of one more
@@ -33,10 +33,6 @@ module _ (q : ℕ → Bool) where
       by (q x)
       (λ e. ap (λ (l : List ℕ). apart eqb l) (picks (q x) (x ∷ those q xs) (those q xs) e) ∙ both-join _ _ (ap not (f e)) h)
       (λ e. ap (λ (l : List ℕ). apart eqb l) (skips (q x) (x ∷ those q xs) (those q xs) e) ∙ h)
-
-pub tail-apart : {A : Type 0} (e : A → A → Bool) (x : A) (xs : List A) → apart e (x ∷ xs) ≡ true → (some (e x) xs ≡ false) × (apart e xs ≡ true)
-unfolding apart
-tail-apart e x xs h = (not-true _ (both-left _ _ h), both-right _ _ h)
 
 apart-those : (q : ℕ → Bool) (l : List ℕ) → apart eqb l ≡ true → apart eqb (those q l) ≡ true
 unfolding those

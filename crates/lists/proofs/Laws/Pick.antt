@@ -1,9 +1,9 @@
 -- Walking down a chain of cases: `yes` where the code's test held, `no` where it did not. Assumes nothing.
-use mathlib.Core.Path.{_≡_, refl, sym, _∙_}
-use mathlib.Core.Bool.{Bool, true, false}
+use mathlib.Core.Path.{_≡_, refl, sym, ap, _∙_}
+use mathlib.Core.Bool.{Bool, true, false, not}
 use Prim.Native.Nat.{ℕ}
 use native.Mathlib.Omega.{arith}
-use Rattle.area.specs.Pick.{pick, both, either}
+use Rattle.lists.specs.Pick.{pick, both, either}
 
 pub picks : {A : Type 0} (b : Bool) (x y : A) → b ≡ true → pick b x y ≡ x
 unfolding pick
@@ -68,3 +68,33 @@ pub either-right : (a b : Bool) → either a b ≡ false → b ≡ false
 unfolding pick
 either-right true b e = never e
 either-right false b e = e
+
+pub neither : (a b : Bool) → either a b ≡ false → (a ≡ false) × (b ≡ false)
+neither a b e = (either-left a b e, either-right a b e)
+
+-- the second, wherever the first does not hold
+pub either-else : (a b : Bool) → (a ≡ false → b ≡ true) → either a b ≡ true
+either-else a b f = by a (λ u. picks a true b u) (λ u. skips a true b u ∙ f u)
+
+pub or-right : (a b : Bool) → b ≡ true → either a b ≡ true
+or-right a b e = either-else a b (λ u. e)
+
+pub either-second : (a b : Bool) → either a b ≡ true → a ≡ false → b ≡ true
+either-second a b e f = sym (skips a true b f) ∙ e
+
+pub second-not : (a b : Bool) → either (not a) b ≡ true → a ≡ true → b ≡ true
+second-not a b e f = either-second (not a) b e (ap not f)
+
+pub not-both : (a : Bool) {b : Bool} → both a b ≡ false → b ≡ true → a ≡ false
+not-both a e h = by a (λ u. never (sym (both-join a _ u h) ∙ e)) (λ u. u)
+
+pub both-both : (a b c : Bool) → both a (both b c) ≡ both (both a b) c
+unfolding pick
+both-both true b c = refl
+both-both false b c = refl
+
+pub either-swap : (a b c : Bool) → either a (either b c) ≡ either b (either a c)
+unfolding pick
+either-swap true true c = refl
+either-swap true false c = refl
+either-swap false b c = refl

@@ -6,8 +6,9 @@ use native.Mathlib.Numerals.{add-one}
 use native.Mathlib.Omega.{arith}
 use lib.Dec.{eqb}
 use borrow.Author.Tests.{eqb-true, eqb-false}
-use Rattle.area.specs.Lowest.{lowest}
-use Rattle.area.proofs.Laws.Pick.{yes, no, by, picks, skips}
+use Rattle.lists.specs.Pick.{pick}
+use Rattle.lists.specs.Lowest.{lowest}
+use Rattle.lists.proofs.Laws.Pick.{yes, no, by, picks, skips}
 
 module _ (p : ℕ → Bool) where
   -- ---- the loop: of n in all, those below i were passed
@@ -45,3 +46,11 @@ module _ (p : ℕ → Bool) where
       (λ e. lowest-first (suc i) n j (omega arith) (omega (arith, skips (p i) i (lowest p (suc i) n) e)))) where
         here : i ≡ j → p i ≡ false → p j ≡ false
         here q e = sym (ap p q) ∙ e
+
+-- two tests that say the same of each
+pub lowest-alike : (p q : ℕ → Bool) (i n : ℕ) → ((j : ℕ) → i ≤ j → j < i + n → p j ≡ q j) → lowest p i n ≡ lowest q i n
+unfolding lowest
+lowest-alike p q i zero h = refl
+lowest-alike p q i (suc n) h =
+    ap (λ (b : Bool). pick b i (lowest p (suc i) n)) (h i (omega arith) (omega arith))
+    ∙ ap (pick (q i) i) (lowest-alike p q (suc i) n (λ j lo hi. h j (omega arith) (omega arith)))

@@ -9,9 +9,8 @@ use lib.ListN.{length, take, drop, getD, drop-of-length-le, length-take}
 use lib.Seq.{slice, slice-cons, take-all}
 use lib.Dec.{leb}
 use borrow.Author.Tests.{leb-true, leb-false}
-use Rattle.area.proofs.Laws.Pick.{yes, no, by}
-use Rattle.sia.specs.Encode.{every}
-use Rattle.host.specs.Lists.{some, firstOf, apart}
+use Rattle.lists.specs.Tests.{every, some, firstOf, apart}
+use Rattle.lists.proofs.Laws.Pick.{yes, no, by}
 
 module _ {A : Type 0} (l : List A) (f t : ℕ) where
   pub slice-none : t ≤ f → slice f t l ≡ []

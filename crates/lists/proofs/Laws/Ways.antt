@@ -1,8 +1,10 @@
 -- Going down a chain of cases, and down two side by side. Assumes nothing.
 use mathlib.Core.Path.{_≡_, refl, sym, ap, subst, _∙_}
 use mathlib.Core.Bool.{Bool, true, false}
-use Prim.Native.Nat.{ℕ}
-use Rattle.area.specs.Pick.{pick}
+use Prim.Native.Nat.{ℕ, suc}
+use native.Mathlib.Omega.{arith}
+use Rattle.lists.specs.Pick.{pick}
+use Rattle.lists.proofs.Laws.Pick.{by, picks, skips}
 
 -- down a case: what holds of both ways holds of the choice
 pub either-way : {R : Type 0} (K : R → Type 0) (b : Bool) (x y : R) → (b ≡ true → K x) → (b ≡ false → K y) → K (pick b x y)
@@ -18,6 +20,13 @@ passes number true x r some e = absurd (some e)
 passes number false x r some e = (refl, e, refl)
 
 -- ---- two chains
+
+-- where the tests are the same, only what stands behind them matters, or ahead of them
+pub behind : {R : Type 0} (b : Bool) (x y w : R) → (b ≡ false → y ≡ w) → pick b x y ≡ pick b x w
+behind b x y w f = by b (λ u. picks b x y u ∙ sym (picks b x w u)) (λ u. skips b x y u ∙ f u ∙ sym (skips b x w u))
+
+pub ahead : {R : Type 0} (b : Bool) (x y w : R) → (b ≡ true → x ≡ y) → pick b x w ≡ pick b y w
+ahead b x y w f = by b (λ u. picks b x w u ∙ f u ∙ sym (picks b y w u)) (λ u. skips b x w u ∙ sym (skips b y w u))
 
 -- down a case: f is what an answer of the one becomes in the other
 pub down : {R : Type 0} (f : R → R) (b c : Bool) (x y u v : R) → b ≡ c → (c ≡ true → x ≡ f u) → (c ≡ false → y ≡ f v)

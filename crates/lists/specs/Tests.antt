@@ -1,9 +1,14 @@
--- Lists by tests, as the record of a host uses them. Nothing here knows of hosts. Assumes nothing.
+-- Lists by tests, and numbers by tests. Assumes nothing.
 use mathlib.Core.Bool.{Bool, true, false, not}
 use mathlib.Core.List.{List, [], _∷_}
 use Prim.Native.Nat.{ℕ, zero, suc, _+_}
 use lib.Dec.{eqb}
-use Rattle.area.specs.Pick.{pick, both, either}
+use Rattle.lists.specs.Pick.{pick, both, either}
+
+-- every one passes the test
+unfoldable pub every : {A : Type 0} → (A → Bool) → List A → Bool
+every p [] = true
+every p (x ∷ xs) = both (p x) (every p xs)
 
 -- one of them passes the test
 unfoldable pub some : {A : Type 0} → (A → Bool) → List A → Bool

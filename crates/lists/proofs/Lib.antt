@@ -1,0 +1,2 @@
+-- The laws of lists, stated once and cited by every layer.
+pub mod Laws
