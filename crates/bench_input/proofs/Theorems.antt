@@ -1,11 +1,6 @@
 -- What is kept of an input is enough: nine ids, of which the last is refused; a head that is read alike; data of which only that it passes
 -- the declared length matters. The reader keeps just that, however the input is cut into reads. Assumes nothing.
-use mathlib.Core.Path.{_≡_, sym, ap, ap₂, _∙_}
-use mathlib.Core.Bool.{Bool, true, false}
-use mathlib.Core.List.{List, [], _++_}
-use Prim.Native.Nat.{ℕ, _+_, _≤_}
-use native.Mathlib.Omega.{arith}
-use lib.ListN.{length}
+use Rattle.lists.proofs.Kit.{_≡_, sym, ap, ap₂, _∙_, Bool, true, false, List, [], _++_, ℕ, _+_, _≤_, arith, length}
 use Rattle.lists.specs.Pick.{pick}
 use Rattle.lists.proofs.Laws.Pick.{by, picks, skips}
 use Rattle.lists.proofs.Laws.Ways.{either-way}

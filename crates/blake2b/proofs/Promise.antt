@@ -1,10 +1,5 @@
 -- The promise to the layers above: a digest is as long as was asked for, and its elements are bytes. Assumes nothing.
-use mathlib.Core.Path.{sym, ap, _∙_, subst}
-use mathlib.Core.List.{List, [], _∷_}
-use Prim.Native.Nat.{ℕ}
-use native.Mathlib.Omega.{arith}
-use lib.ListN.{length}
-use lib.Seq.{length-take-le}
+use Rattle.lists.proofs.Kit.{sym, ap, _∙_, subst, List, [], _∷_, ℕ, arith, length, length-take-le}
 use Rattle.area.specs.Little.{Bytes, bytesOf}
 use Rattle.area.proofs.Laws.Little.{bytes-below, append-below, take-below}
 use Rattle.blake2b.specs.Blake2b.{bytes, keyed, before, start, finished, blake2b, opened}

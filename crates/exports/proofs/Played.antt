@@ -1,10 +1,5 @@
 -- One program's answer and areas as they are exported. Assumes nothing.
-use mathlib.Core.Path.{_≡_, refl, sym, ap, _∙_}
-use mathlib.Core.Bool.{not}
-use mathlib.Core.List.{List}
-use Prim.Native.Nat.{ℕ}
-use lib.ListN.{length}
-use borrow.Author.Tests.{eq-eqb, ne-eqb}
+use Rattle.lists.proofs.Kit.{_≡_, refl, sym, ap, _∙_, not, List, ℕ, length, eq-eqb, ne-eqb}
 use Rattle.lists.proofs.Laws.Pick.{yes, no}
 use Rattle.area.specs.Area.{put}
 use Rattle.area.specs.Little.{le8}

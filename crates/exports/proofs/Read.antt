@@ -1,10 +1,5 @@
 -- Reading `tree::root`'s contract by its answer. Assumes nothing.
-use mathlib.Core.Path.{_≡_, refl, sym, ap, _∙_}
-use mathlib.Core.Bool.{true, false}
-use mathlib.Core.List.{List}
-use Prim.Native.Nat.{ℕ}
-use lib.ListN.{length}
-use borrow.Author.Tests.{eq-eqb, ne-eqb}
+use Rattle.lists.proofs.Kit.{_≡_, refl, sym, ap, _∙_, true, false, List, ℕ, length, eq-eqb, ne-eqb}
 use Rattle.lists.proofs.Laws.Pick.{yes, no, both-join, both-not-left, both-not-right}
 use Rattle.area.specs.Area.{put, part}
 use Rattle.area.proofs.Laws.Parts.{part-whole}

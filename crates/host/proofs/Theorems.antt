@@ -1,8 +1,5 @@
 -- What holds of the record of a host and of its calls, besides the contracts. Assumes nothing.
-use mathlib.Core.Path.{_≡_, refl, ap}
-use mathlib.Core.Bool.{true, false, not}
-use mathlib.Core.List.{List, [], _∷_}
-use Prim.Native.Nat.{ℕ}
+use Rattle.lists.proofs.Kit.{_≡_, refl, ap, true, false, not, List, [], _∷_, ℕ}
 use Rattle.lists.specs.Pick.{pick}
 use Rattle.lists.specs.Tests.{every, some, those, apart}
 use Rattle.lists.proofs.Laws.Pick.{picks, both-join, both-right}

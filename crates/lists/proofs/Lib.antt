@@ -1,2 +1,3 @@
 -- The laws of lists, stated once and cited by every layer.
 pub mod Laws
+pub mod Kit

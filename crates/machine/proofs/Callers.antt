@@ -1,15 +1,8 @@
 -- What callers use: what a host in order with an open program gives the functions of this crate, and that what they make together is the
 -- definition's commit. z is the sector size. Assumes nothing.
-use mathlib.Core.Path.{_≡_, refl, sym, ap, _∙_}
-use mathlib.Core.Bool.{true, false}
-use mathlib.Core.List.{List, [], _∷_, _++_}
-use Prim.Native.Nat.{ℕ, zero, suc, _-_, _*_, _/_, _≤_, _<_}
-use native.Mathlib.Nat.{zero-div, mul-le-mul-right, div-le-of-le-mul}
-use native.Mathlib.Omega.{arith}
-use lib.ListN.{length, getD}
+use Rattle.lists.proofs.Kit.{_≡_, refl, sym, ap, _∙_, true, false, List, [], _∷_, _++_, ℕ, zero, suc, _-_, _*_, _/_, _≤_, _<_, zero-div, mul-le-mul-right}
+use Rattle.lists.proofs.Kit.{div-le-of-le-mul, arith, length, getD, ltb, eqb, ltb-true, eqb-true}
 use lib.IntN.{ℤ, pos, _-ℤ_}
-use lib.Dec.{ltb, eqb}
-use borrow.Author.Tests.{ltb-true, eqb-true}
 use Rattle.lists.specs.Pick.{pick}
 use Rattle.lists.specs.Tests.{every}
 use Rattle.lists.proofs.Laws.Pick.{by, picks, skips, never, both-left, both-right}

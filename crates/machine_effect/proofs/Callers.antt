@@ -1,13 +1,7 @@
 -- What callers use: an instruction that had what its effect asks has left what rehashing asks, and the positions that it touched are told
 -- by the two offsets alone. z is the sector size. Assumes nothing.
-use mathlib.Core.Path.{_≡_, refl, sym, ap, _∙_, subst}
-use mathlib.Core.Bool.{false}
-use mathlib.Core.List.{List, [], _∷_}
-use Prim.Native.Nat.{ℕ, _*_, _/_, _<_}
-use native.Mathlib.Omega.{arith}
-use lib.ListN.{length, getD, length-replicate}
-use lib.Dec.{ltb, eqb}
-use borrow.Author.Tests.{ltb-true, lt-ltb}
+use Rattle.lists.proofs.Kit.{_≡_, refl, sym, ap, _∙_, subst, false, List, [], _∷_, ℕ, _*_, _/_, _<_, arith, length, getD, length-replicate, ltb, eqb}
+use Rattle.lists.proofs.Kit.{ltb-true, lt-ltb}
 use Rattle.lists.proofs.Laws.Pick.{by, picks, skips, either-second}
 use Rattle.lists.proofs.Laws.Every.{every-at}
 use Rattle.area.specs.Area.{part, zeros}

@@ -4,14 +4,8 @@ use Rattle.lists.specs.Tests.{each}
 use Rattle.lists.proofs.Laws.Pick.{by, picks, skips}
 use Rattle.lists.proofs.Laws.Ways.{either-way}
 use Rattle.machine_rules.specs.Roots.{rootAt}
-use mathlib.Core.Path.{_≡_, refl, sym, ap, _∙_, subst}
-use mathlib.Core.Bool.{Bool, true}
-use mathlib.Core.List.{List, [], _∷_}
-use Prim.Native.Nat.{ℕ, zero, suc, _-_, _/_, _≤_}
-use native.Mathlib.Nat.{le-of-mul-le-mul-right}
-use native.Mathlib.Omega.{arith}
-use lib.ListN.{length, length-append, length-replicate}
-use lib.Dec.{eqb}
+use Rattle.lists.proofs.Kit.{_≡_, refl, sym, ap, _∙_, subst, Bool, true, List, [], _∷_, ℕ, zero, suc, _-_, _/_, _≤_, le-of-mul-le-mul-right, arith, length}
+use Rattle.lists.proofs.Kit.{length-append, length-replicate, eqb}
 use Rattle.sia.specs.Names.{opOf}
 use Rattle.sia.specs.Decode.{decode}
 use Rattle.host.specs.Empty.{noPlace, noProgram, noProgress, newPlace, bare, started}

@@ -1,13 +1,6 @@
 -- The theorem of the bench: what the definitions give is what document 01 says, in every row, by computing. Roots and proofs are shut;
 -- records' lengths are numbers, so no row waits for one. A definition for each layer opens the names of that layer. Assumes nothing.
-use mathlib.Core.Path.{_≡_, refl}
-use mathlib.Core.Bool.{true}
-use mathlib.Core.List.{List, [], _∷_, _++_}
-use Prim.Native.Nat.{ℕ, zero, suc}
-use native.Mathlib.Omega.{arith}
-use lib.ListN.{take}
-use lib.Dec.{ltb}
-use borrow.Author.Tests.{ltb-true}
+use Rattle.lists.proofs.Kit.{_≡_, refl, true, List, [], _∷_, _++_, ℕ, zero, suc, arith, take, ltb, ltb-true}
 use Rattle.lists.specs.Tests.{every, each}
 use Rattle.lists.proofs.Laws.Pick.{both-left, both-right}
 use Rattle.area.specs.Area.{zeros}

@@ -1,8 +1,5 @@
 -- Which calls change which kept roots: down the chain of each call, refusals named. Assumes nothing.
-use mathlib.Core.Path.{_≡_, refl}
-use mathlib.Core.Bool.{Bool, false}
-use mathlib.Core.List.{List}
-use Prim.Native.Nat.{ℕ}
+use Rattle.lists.proofs.Kit.{_≡_, refl, Bool, false, List, ℕ}
 use Rattle.lists.specs.Pick.{pick}
 use Rattle.lists.proofs.Laws.Ways.{either-way}
 use Rattle.sia.specs.Decode.{decode}

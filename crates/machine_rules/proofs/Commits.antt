@@ -1,15 +1,8 @@
 -- A commit gives the parent the size, root and bytes that it was read with, leaves every other contract, and changes no slot but those that
 -- staged positions go to. Assumes nothing.
-use mathlib.Core.Path.{_≡_, refl, sym, ap, ap₂, _∙_, subst}
-use mathlib.Core.Bool.{Bool, true, false}
-use mathlib.Core.List.{List, [], _++_, append-nil}
-use Prim.Native.Nat.{ℕ, _+_, _*_, _/_, _≤_, _<_}
-use native.Mathlib.Nat.{zero-div, le-of-mul-le-mul-right}
-use native.Mathlib.Omega.{arith}
-use lib.ListN.{length, getD, List·getD-append}
+use Rattle.lists.proofs.Kit.{_≡_, refl, sym, ap, ap₂, _∙_, subst, Bool, true, false, List, [], _++_, append-nil, ℕ, _+_, _*_, _/_, _≤_, _<_, zero-div}
+use Rattle.lists.proofs.Kit.{le-of-mul-le-mul-right, arith, length, getD, List·getD-append, ltb, eqb, not-true, ltb-true}
 use lib.IntN.{pos, _-ℤ_}
-use lib.Dec.{ltb, eqb}
-use borrow.Author.Tests.{not-true, ltb-true}
 use Rattle.lists.specs.Tests.{every, each, apart, unused}
 use Rattle.lists.specs.Tab.{tab}
 use Rattle.lists.proofs.Laws.Pick.{by, picks, skips, never, both-left}

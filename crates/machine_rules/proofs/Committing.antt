@@ -1,14 +1,7 @@
 -- A commit leaves the places in order: kept slots stay, new ones are free ones, and as many are free as are wanted. Assumes nothing.
-use mathlib.Core.Path.{_≡_, refl, sym, ap, _∙_, subst}
-use mathlib.Core.Bool.{true, false, not}
-use mathlib.Core.List.{List, [], _∷_, _++_, append-assoc}
-use Prim.Native.Nat.{ℕ, _+_, _-_, _*_, _/_, _%_, _≤_, _<_, min}
-use native.Mathlib.Nat.{add-mul, le-of-mul-le-mul-right}
-use native.Mathlib.Omega.{arith}
-use lib.ListN.{length, take, getD, length-take, length-append, List·getD-append}
-use lib.Seq.{take-at, getD-take}
-use lib.Dec.{ltb, eqb}
-use borrow.Author.Tests.{le-leb, eq-eqb}
+use Rattle.lists.proofs.Kit.{_≡_, refl, sym, ap, _∙_, subst, true, false, not, List, [], _∷_, _++_, append-assoc, ℕ, _+_, _-_, _*_, _/_, _%_, _≤_, _<_}
+use Rattle.lists.proofs.Kit.{min, add-mul, le-of-mul-le-mul-right, arith, length, take, getD, length-take, length-append, List·getD-append, take-at}
+use Rattle.lists.proofs.Kit.{getD-take, ltb, eqb, le-leb, eq-eqb}
 use Rattle.lists.specs.Tests.{every, apart, count, unused}
 use Rattle.lists.proofs.Laws.Pick.{by, picks, skips, both-left, both-right, both-join}
 use Rattle.lists.proofs.Laws.Every.{every-and, every-fore, every-aft, every-first, every-rest, every-cons}

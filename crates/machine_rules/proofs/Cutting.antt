@@ -1,11 +1,6 @@
 -- Pieces cut anywhere: the state after them is a function of the bytes come. By induction on the pieces, from the laws of runs. Assumes nothing.
-use mathlib.Core.Path.{_≡_, refl, sym, ap, _∙_, subst}
-use mathlib.Core.Bool.{Bool, true, false}
-use mathlib.Core.List.{List, [], _∷_, _++_, append-assoc, append-nil}
-use Prim.Native.Nat.{ℕ, suc, _+_, _≤_}
-use native.Mathlib.Omega.{arith}
-use lib.ListN.{length, take, length-append}
-use lib.Seq.{take-append-seam}
+use Rattle.lists.proofs.Kit.{_≡_, refl, sym, ap, _∙_, subst, Bool, true, false, List, [], _∷_, _++_, append-assoc, append-nil, ℕ, suc, _+_, _≤_, arith}
+use Rattle.lists.proofs.Kit.{length, take, length-append, take-append-seam}
 use Rattle.lists.specs.Pick.{pick}
 use Rattle.area.specs.Area.{put}
 use Rattle.area.proofs.Laws.Puts.{put-append, take-put}

@@ -1,13 +1,6 @@
 -- Failures and the tally: what one instruction does by its number, and a run by induction on its turns. Assumes nothing.
-use mathlib.Core.Path.{_≡_, refl, sym, ap, _∙_, subst}
-use mathlib.Core.Bool.{true, false, not}
-use mathlib.Core.List.{List}
-use Prim.Native.Nat.{ℕ, zero, suc, _+_, _*_, _≤_}
-use native.Mathlib.Nat.{add-assoc}
-use native.Mathlib.Omega.{arith}
-use lib.ListN.{length, getD}
-use lib.Dec.{eqb}
-use borrow.Author.Tests.{ltb-false, eqb-true, eqb-false, eq-eqb, ne-eqb}
+use Rattle.lists.proofs.Kit.{_≡_, refl, sym, ap, _∙_, subst, true, false, not, List, ℕ, zero, suc, _+_, _*_, _≤_, add-assoc, arith, length, getD, eqb}
+use Rattle.lists.proofs.Kit.{ltb-false, eqb-true, eqb-false, eq-eqb, ne-eqb}
 use Rattle.lists.specs.Pick.{pick}
 use Rattle.lists.specs.Tests.{some}
 use Rattle.lists.proofs.Laws.Pick.{by, picks, skips}

@@ -1,14 +1,7 @@
 -- Making a host, forming a contract and dropping one leave a host in order: a new place takes no slot and no id that is there, and a place
 -- that is left out leaves the others as they were. Assumes nothing.
-use mathlib.Core.Path.{_≡_, refl, sym, ap, _∙_, subst}
-use mathlib.Core.Bool.{Bool, true, false, not}
-use mathlib.Core.List.{List, [], _∷_, _++_}
-use Prim.Native.Nat.{ℕ, _/_}
-use native.Mathlib.Nat.{zero-div, zero-mod}
-use native.Mathlib.Omega.{arith}
-use lib.ListN.{replicate}
-use lib.Dec.{ltb, eqb}
-use borrow.Author.Tests.{not-true, not-false, eq-eqb, le-leb}
+use Rattle.lists.proofs.Kit.{_≡_, refl, sym, ap, _∙_, subst, Bool, true, false, not, List, [], _∷_, _++_, ℕ, _/_, zero-div, zero-mod, arith, replicate}
+use Rattle.lists.proofs.Kit.{ltb, eqb, not-true, not-false, eq-eqb, le-leb}
 use Rattle.lists.specs.Pick.{pick, both}
 use Rattle.lists.specs.Tests.{every, some, apart}
 use Rattle.lists.proofs.Laws.Pick.{by, picks, skips, never, both-left, both-right, both-join, both-not-left, both-not-right, either-join}

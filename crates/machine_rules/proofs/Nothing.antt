@@ -1,13 +1,7 @@
 -- What is not committed changes no contract and no byte of the disk: down the chains of opening, pieces, interrupts and closing. Assumes
 -- nothing.
-use mathlib.Core.Path.{_≡_, refl, sym, ap, _∙_}
-use mathlib.Core.Bool.{Bool, true, false, not}
-use mathlib.Core.List.{List, []}
-use Prim.Native.Nat.{ℕ, _<_}
-use native.Mathlib.Omega.{arith}
+use Rattle.lists.proofs.Kit.{_≡_, refl, sym, ap, _∙_, Bool, true, false, not, List, [], ℕ, _<_, arith, eqb, not-true, not-false}
 use lib.IntN.{pos}
-use lib.Dec.{eqb}
-use borrow.Author.Tests.{not-true, not-false}
 use Rattle.lists.specs.Pick.{pick}
 use Rattle.lists.specs.Tests.{those}
 use Rattle.lists.proofs.Laws.Pick.{picks, skips, never, either-left, either-right}

@@ -1,14 +1,7 @@
 -- Order is kept by every call: each goes down its chain of cases, where a refusal leaves the host as it was.
 -- An opening fits because slots are distinct and below the disk. Assumes nothing.
-use mathlib.Core.Path.{_≡_, refl, sym, ap, _∙_}
-use mathlib.Core.Bool.{Bool, true, false, not}
-use mathlib.Core.List.{List, []}
-use Prim.Native.Nat.{ℕ, _+_, _/_, _≤_}
-use native.Mathlib.Nat.{le-trans, mul-le-mul-right}
-use native.Mathlib.Omega.{arith}
-use lib.ListN.{length, take, replicate, length-take, drop-of-length-le}
-use lib.Dec.{eqb}
-use borrow.Author.Tests.{not-false, leb-true, le-leb, ltb-false, eqb-true, eq-eqb}
+use Rattle.lists.proofs.Kit.{_≡_, refl, sym, ap, _∙_, Bool, true, false, not, List, [], ℕ, _+_, _/_, _≤_, le-trans, mul-le-mul-right, arith, length, take}
+use Rattle.lists.proofs.Kit.{replicate, length-take, drop-of-length-le, eqb, not-false, leb-true, le-leb, ltb-false, eqb-true, eq-eqb}
 use Rattle.lists.specs.Pick.{pick, both, either}
 use Rattle.lists.specs.Tests.{every, some, apart}
 use Rattle.lists.proofs.Laws.Pick.{by, picks, skips, both-left, both-right, both-join}

@@ -1,8 +1,5 @@
 -- "No padded short ids.": forming is walked down twice, and what it puts into the places is under the id that it was given. Assumes nothing.
-use mathlib.Core.Path.{_≡_, refl, sym, ap, _∙_}
-use mathlib.Core.Bool.{true, false}
-use mathlib.Core.List.{List, [], _∷_}
-use Prim.Native.Nat.{ℕ}
+use Rattle.lists.proofs.Kit.{_≡_, refl, sym, ap, _∙_, true, false, List, [], _∷_, ℕ}
 use Rattle.lists.specs.Pick.{pick, either}
 use Rattle.lists.specs.Tests.{some, each}
 use Rattle.lists.proofs.Laws.Pick.{by, picks, skips, never, both-left, both-right, both-join}

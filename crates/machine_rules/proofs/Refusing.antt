@@ -1,7 +1,5 @@
 -- Refusals: each call is a chain of cases that ends in an answer of 0; every other case is a refusal as stated. Assumes nothing.
-use mathlib.Core.Path.{_≡_, refl, sym, ap}
-use mathlib.Core.Bool.{Bool, true, false}
-use Prim.Native.Nat.{ℕ}
+use Rattle.lists.proofs.Kit.{_≡_, refl, sym, ap, Bool, true, false, ℕ}
 use lib.IntN.{pos}
 use Rattle.lists.specs.Pick.{pick}
 use Rattle.host.specs.Calls.{formed, dropped}

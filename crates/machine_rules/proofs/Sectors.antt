@@ -1,11 +1,5 @@
 -- "Full sectors.": which sizes there are, that a host holds the one that it was made with, and that no call changes it. Assumes nothing.
-use mathlib.Core.Path.{_≡_, refl, ap, ap₂, _∙_}
-use mathlib.Core.Bool.{true, false, not}
-use mathlib.Core.List.{List}
-use Prim.Native.Nat.{ℕ, _*_, _≤_}
-use native.Mathlib.Nat.{mul-mod-left}
-use native.Mathlib.Omega.{arith}
-use borrow.Author.Tests.{eq-eqb}
+use Rattle.lists.proofs.Kit.{_≡_, refl, ap, ap₂, _∙_, true, false, not, List, ℕ, _*_, _≤_, mul-mod-left, arith, eq-eqb}
 use Rattle.lists.proofs.Laws.Pick.{picks, skips, both-join}
 use Rattle.lists.proofs.Laws.Ways.{either-way}
 use Rattle.area.specs.Slots.{Size}

@@ -3,14 +3,8 @@ use Rattle.lists.specs.Pick.{pick}
 use Rattle.lists.proofs.Laws.Pick.{by, never, skips}
 use Rattle.lists.proofs.Laws.Ways.{either-way}
 use Rattle.machine_rules.specs.Roots.{rootAt}
-use mathlib.Core.Path.{_≡_, refl, sym, ap, _∙_}
-use mathlib.Core.Bool.{Bool, true, false}
-use mathlib.Core.List.{List, [], _++_}
-use Prim.Native.Nat.{ℕ, zero, suc, _≤_, _<_}
-use native.Mathlib.Omega.{arith}
-use lib.ListN.{length, take}
-use lib.Seq.{take-append-seam}
-use lib.Dec.{eqb}
+use Rattle.lists.proofs.Kit.{_≡_, refl, sym, ap, _∙_, Bool, true, false, List, [], _++_, ℕ, zero, suc, _≤_, _<_, arith, length, take, take-append-seam}
+use Rattle.lists.proofs.Kit.{eqb}
 use Rattle.area.specs.Area.{part}
 use Rattle.area.specs.Little.{bytesOf, le8}
 use Rattle.host.specs.With.{withProgram, withCame, withProgress, withRunning, withStaged, withStageRoots}

@@ -3,13 +3,8 @@ pub mod Steps
 pub mod Programs
 pub mod Contracts
 pub mod Look
-use mathlib.Core.Path.{_≡_, refl, sym, ap, ap₂, _∙_}
-use mathlib.Core.Bool.{true, false, not}
-use mathlib.Core.List.{List, [], _∷_}
-use Prim.Native.Nat.{ℕ, _*_, _/_, _^_, _≤_}
-use native.Mathlib.Nat.{zero-mul, mul-le-mul-right}
-use native.Mathlib.Omega.{arith}
-use lib.ListN.{length}
+use Rattle.lists.proofs.Kit.{_≡_, refl, sym, ap, ap₂, _∙_, true, false, not, List, [], _∷_, ℕ, _*_, _/_, _^_, _≤_, zero-mul, mul-le-mul-right, arith}
+use Rattle.lists.proofs.Kit.{length}
 use Rattle.lists.specs.Tests.{every}
 use Rattle.lists.proofs.Laws.Pick.{picks, skips}
 use Rattle.lists.proofs.Laws.Tab.{length-tab}

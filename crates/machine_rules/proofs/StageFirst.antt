@@ -1,13 +1,7 @@
 -- "Look in the stage first.": what is proved of the look-up by root, of ReadSector and of the call `locate`. z is the sector size; f reads roots.
 -- Assumes nothing.
-use mathlib.Core.Path.{_≡_, refl, sym, ap, ap₂, _∙_, subst}
-use mathlib.Core.Bool.{true, false, not}
-use mathlib.Core.List.{List, [], _∷_, _++_}
-use Prim.Native.Nat.{ℕ, suc, _+_, _/_, _≤_, _<_}
-use native.Mathlib.Omega.{arith}
-use lib.ListN.{length, getD}
-use lib.Dec.{leb, ltb, eqb}
-use borrow.Author.Tests.{eqb-true, eq-eqb, leb-true, leb-false, lt-ltb}
+use Rattle.lists.proofs.Kit.{_≡_, refl, sym, ap, ap₂, _∙_, subst, true, false, not, List, [], _∷_, _++_, ℕ, suc, _+_, _/_, _≤_, _<_, arith, length, getD}
+use Rattle.lists.proofs.Kit.{leb, ltb, eqb, eqb-true, eq-eqb, leb-true, leb-false, lt-ltb}
 use Rattle.lists.specs.Pick.{pick}
 use Rattle.lists.specs.Tests.{each, apart, firstOf}
 use Rattle.lists.proofs.Laws.Pick.{by, picks, skips, never}

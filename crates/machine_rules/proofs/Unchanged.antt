@@ -1,7 +1,5 @@
 -- "Nothing changed, nothing to agree.": down the chain of a close to its pairs. Assumes nothing.
-use mathlib.Core.Path.{_≡_, sym, ap, _∙_, subst}
-use mathlib.Core.Bool.{true, not}
-use native.Mathlib.Omega.{arith}
+use Rattle.lists.proofs.Kit.{_≡_, sym, ap, _∙_, subst, true, not, arith}
 use lib.IntN.{pos}
 use Rattle.lists.specs.Pick.{pick}
 use Rattle.lists.proofs.Laws.Pick.{picks, skips, either-join}

@@ -1,10 +1,5 @@
 -- Visits: a program opened on a host in order takes pieces cut anywhere; records, tally and close after them. Assumes nothing.
-use mathlib.Core.Path.{_≡_, refl, sym, ap, _∙_, subst}
-use mathlib.Core.Bool.{false}
-use mathlib.Core.List.{List, [], _∷_, _++_}
-use Prim.Native.Nat.{ℕ, _+_, _≤_, _<_}
-use native.Mathlib.Omega.{arith}
-use lib.ListN.{length, length-append}
+use Rattle.lists.proofs.Kit.{_≡_, refl, sym, ap, _∙_, subst, false, List, [], _∷_, _++_, ℕ, _+_, _≤_, _<_, arith, length, length-append}
 use Rattle.area.specs.Area.{part}
 use Rattle.area.specs.Little.{le8}
 use Rattle.machine_rules.specs.View as View

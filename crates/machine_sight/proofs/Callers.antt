@@ -1,13 +1,7 @@
 -- What callers use: what is seen of a machine in order lies within its areas, and contracts of this crate in the machine's own words.
 -- z is the sector size. Assumes nothing.
-use mathlib.Core.Path.{_≡_, refl, sym, ap, _∙_}
-use mathlib.Core.Bool.{true, false}
-use mathlib.Core.List.{List, [], _∷_}
-use Prim.Native.Nat.{ℕ, _+_, _*_, _/_, _%_, _≤_, _<_}
-use native.Mathlib.Omega.{arith}
-use lib.ListN.{length, getD}
-use lib.Dec.{ltb, eqb}
-use borrow.Author.Tests.{ltb-true, ltb-false, le-leb, eqb-true, eqb-false, not-false}
+use Rattle.lists.proofs.Kit.{_≡_, refl, sym, ap, _∙_, true, false, List, [], _∷_, ℕ, _+_, _*_, _/_, _%_, _≤_, _<_, arith, length, getD, ltb, eqb, ltb-true}
+use Rattle.lists.proofs.Kit.{ltb-false, le-leb, eqb-true, eqb-false, not-false}
 use Rattle.lists.specs.Tests.{every}
 use Rattle.lists.specs.Tab.{tab}
 use Rattle.lists.proofs.Laws.Pick.{both-left, both-right, both-join, either-left, either-right}

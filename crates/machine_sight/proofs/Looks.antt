@@ -1,9 +1,5 @@
 -- What callers use: what a look-up asks, with a program in order and with none. z is the sector size. Assumes nothing.
-use mathlib.Core.Path.{_≡_}
-use mathlib.Core.List.{List}
-use Prim.Native.Nat.{ℕ}
-use native.Mathlib.Omega.{arith}
-use lib.ListN.{length}
+use Rattle.lists.proofs.Kit.{_≡_, List, ℕ, arith, length}
 use Rattle.host.specs.Places.{taken}
 use Rattle.machine_rules.specs.View.{Setting, parent, parentSpots}
 use Rattle.machine_rules.specs.Facts.{Solid, Good}

@@ -1,13 +1,6 @@
 -- What holds of every head, number, name and id. Assumes nothing.
-use mathlib.Core.Path.{_≡_, refl, sym, ap, _∙_}
-use mathlib.Core.Bool.{true, not}
-use mathlib.Core.List.{List, [], _∷_, append-nil}
-use Prim.Native.Nat.{ℕ, _+_, _*_, _^_, _≤_, _<_}
-use native.Mathlib.Omega.{arith}
-use lib.ListN.{length, getD, length-append}
-use lib.Seq.{ext-getD, length-take-le}
-use lib.Dec.{eqb, ltb}
-use borrow.Author.Tests.{eq-eqb, eqb-true, le-ltb, leb-true}
+use Rattle.lists.proofs.Kit.{_≡_, refl, sym, ap, _∙_, true, not, List, [], _∷_, append-nil, ℕ, _+_, _*_, _^_, _≤_, _<_, arith, length, getD, length-append}
+use Rattle.lists.proofs.Kit.{ext-getD, length-take-le, eqb, ltb, eq-eqb, eqb-true, le-ltb, leb-true}
 use Rattle.lists.specs.Pick.{pick}
 use Rattle.lists.specs.Tests.{every}
 use Rattle.lists.proofs.Laws.Pick.{picks, skips, by, both-left, both-right}

@@ -1,12 +1,6 @@
 -- The root of zeros by doubling: both halves of a power of two of segments are zeros, so the RFC's equation has one root twice. And the
 -- loop that doubles: as far as it has come it holds the root of n zeros, n being 64 doubled. Assumes nothing.
-use mathlib.Core.Path.{_≡_, refl, sym, ap, ap₂, _∙_}
-use mathlib.Core.Bool.{false}
-use mathlib.Core.List.{List}
-use Prim.Native.Nat.{ℕ, zero, suc, _-_, _*_, _^_, _≤_, _<_}
-use native.Mathlib.Nat.{two-pow-succ}
-use native.Mathlib.Omega.{arith}
-use lib.ListN.{length-replicate}
+use Rattle.lists.proofs.Kit.{_≡_, refl, sym, ap, ap₂, _∙_, false, List, ℕ, zero, suc, _-_, _*_, _^_, _≤_, _<_, two-pow-succ, arith, length-replicate}
 use lib.Pow.{pow-pos, pow-mono}
 use Rattle.area.specs.Area.{zeros}
 use Rattle.area.specs.Slots.{Size}

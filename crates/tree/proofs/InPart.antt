@@ -1,13 +1,8 @@
 -- The proof of a range within one part, whatever the parts' roots are. How long it is depends on counts alone, so it is as long as for
 -- zeros, whose parts are all alike; of one part alone the walks over the roots are empty. Assumes nothing.
-use mathlib.Core.Path.{_≡_, refl, sym, ap, ap₂, _∙_}
-use mathlib.Core.Bool.{true}
-use mathlib.Core.List.{List, [], _++_, append-nil}
-use Prim.Native.Nat.{ℕ, zero, suc, _+_, _*_, _/_, _^_, _≤_, _<_}
-use native.Mathlib.Nat.{mul-left-comm, one-mul, mul-le-mul-left, mul-le-mul-right}
-use native.Mathlib.Omega.{arith}
-use lib.ListN.{length, take, drop, length-append, length-replicate}
-use lib.Seq.{take-at, drop-append-add}
+use Rattle.lists.proofs.Kit.{_≡_, refl, sym, ap, ap₂, _∙_, true, List, [], _++_, append-nil, ℕ, zero, suc, _+_, _*_, _/_, _^_, _≤_, _<_, mul-left-comm}
+use Rattle.lists.proofs.Kit.{one-mul, mul-le-mul-left, mul-le-mul-right, arith, length, take, drop, length-append, length-replicate, take-at}
+use Rattle.lists.proofs.Kit.{drop-append-add}
 use lib.Pow.{pow-pos}
 use Rattle.area.specs.Area.{part, zeros}
 use Rattle.area.proofs.Laws.Parts.{length-part}

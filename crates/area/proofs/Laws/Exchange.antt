@@ -1,12 +1,7 @@
 -- Two spans of an area exchanged: piece by piece where they do not overlap; where they do, what both have is moved and the ends are
 -- exchanged. Assumes nothing.
-use mathlib.Core.Path.{_≡_, sym, ap, _∙_}
+use Rattle.lists.proofs.Kit.{_≡_, sym, ap, _∙_, List, [], _∷_, ℕ, _+_, _-_, _≤_, _<_, le-antisymm, arith, length, getD, set}
 use mathlib.Core.Logic.{_⊎_, inl, inr, ⊎-elim}
-use mathlib.Core.List.{List, [], _∷_}
-use Prim.Native.Nat.{ℕ, _+_, _-_, _≤_, _<_}
-use native.Mathlib.Nat.{le-antisymm}
-use native.Mathlib.Omega.{arith}
-use lib.ListN.{length, getD, set}
 use Rattle.area.specs.Area.{part, put, exchanged}
 use Rattle.area.proofs.Laws.Parts.{length-part, part-none, part-one, part-add}
 use Rattle.area.proofs.Laws.Puts.{put-nil, set-put, put-append, put-apart, put-cover, part-before, part-behind}

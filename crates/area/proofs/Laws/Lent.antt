@@ -1,11 +1,7 @@
 -- A part of an area lent on, as `&mut out[at..]`: what the borrower lays over the part is laid over the area. A record of any
 -- number of parts is one expression in `more`. Assumes nothing.
-use mathlib.Core.Path.{_≡_, refl, ap, _∙_}
-use mathlib.Core.List.{List, [], _∷_, _++_, append-nil}
-use Prim.Native.Nat.{ℕ, zero, suc, _+_, _-_}
-use native.Mathlib.Omega.{arith}
-use lib.ListN.{length, take, drop, length-drop, drop-of-length-le}
-use lib.Seq.{take-all}
+use Rattle.lists.proofs.Kit.{_≡_, refl, ap, _∙_, List, [], _∷_, _++_, append-nil, ℕ, zero, suc, _+_, _-_, arith, length, take, drop, length-drop}
+use Rattle.lists.proofs.Kit.{drop-of-length-le, take-all}
 use borrow.Rule.Slice.PartMut.{putMid}
 use Rattle.area.specs.Area.{put}
 use Rattle.area.proofs.Laws.Puts.{put-append}

@@ -1,12 +1,7 @@
 -- Numbers in bytes: both round trips, and bytes that are read or written in two parts. Assumes nothing.
-use mathlib.Core.Path.{_≡_, refl, sym, ap, _∙_}
-use mathlib.Core.List.{List, [], _∷_, _++_}
-use Prim.Native.Nat.{ℕ, zero, suc, _+_, _-_, _*_, _/_, _%_, _^_, _≤_, _<_}
-use native.Mathlib.Nat.{pow-succ', mul-assoc, mul-comm}
+use Rattle.lists.proofs.Kit.{_≡_, refl, sym, ap, _∙_, List, [], _∷_, _++_, ℕ, zero, suc, _+_, _-_, _*_, _/_, _%_, _^_, _≤_, _<_, pow-succ', mul-assoc}
+use Rattle.lists.proofs.Kit.{mul-comm, arith, length, take, drop, getD, drop-cons}
 use native.Mathlib.Numerals.{add-one}
-use native.Mathlib.Omega.{arith}
-use lib.ListN.{length, take, drop, getD}
-use lib.Seq.{drop-cons}
 use Rattle.area.specs.Area.{part}
 use Rattle.area.specs.Little.{valueOf, bytesOf, Bytes}
 use Rattle.area.proofs.Laws.Parts.{part-add, part-one, length-part}

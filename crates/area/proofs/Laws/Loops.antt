@@ -1,11 +1,7 @@
 -- One turn of a loop that lays bytes: ascending and descending, whatever the bytes are; and the loop's end. Assumes nothing.
-use mathlib.Core.Path.{_≡_, sym, ap, _∙_}
-use mathlib.Core.List.{List, [], _∷_}
-use Prim.Native.Nat.{ℕ, suc, _+_, _-_, _≤_, _<_}
+use Rattle.lists.proofs.Kit.{_≡_, sym, ap, _∙_, List, [], _∷_, ℕ, suc, _+_, _-_, _≤_, _<_, arith, length, take, drop, getD, set, drop-of-length-le}
+use Rattle.lists.proofs.Kit.{take-suc, take-all, drop-cons, length-take-le}
 use native.Mathlib.Numerals.{add-one}
-use native.Mathlib.Omega.{arith}
-use lib.ListN.{length, take, drop, getD, set, drop-of-length-le}
-use lib.Seq.{take-suc, take-all, drop-cons, length-take-le}
 use Rattle.area.specs.Area.{put}
 use Rattle.area.proofs.Laws.Puts.{set-put, put-append, put-apart, put-nil}
 

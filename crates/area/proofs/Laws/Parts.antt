@@ -1,11 +1,6 @@
 -- Parts of areas. Assumes nothing.
-use mathlib.Core.Path.{_≡_, refl, ap, _∙_}
-use mathlib.Core.List.{List, [], _∷_, _++_}
-use Prim.Native.Nat.{ℕ, _+_, _-_, _≤_, _<_}
-use native.Mathlib.Nat.{add-sub-cancel-left}
-use native.Mathlib.Omega.{arith}
-use lib.ListN.{length, take, drop, getD, length-take, length-drop}
-use lib.Seq.{take-add, take-all, take-take, drop-drop, length-take-le, getD-take, getD-drop, drop-cons}
+use Rattle.lists.proofs.Kit.{_≡_, refl, ap, _∙_, List, [], _∷_, _++_, ℕ, _+_, _-_, _≤_, _<_, add-sub-cancel-left, arith, length, take, drop, getD}
+use Rattle.lists.proofs.Kit.{length-take, length-drop, take-add, take-all, take-take, drop-drop, length-take-le, getD-take, getD-drop, drop-cons}
 use Rattle.lists.proofs.Laws.Entries.{drop-take}
 use Rattle.area.specs.Area.{part}
 

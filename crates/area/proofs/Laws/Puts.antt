@@ -1,10 +1,6 @@
 -- Bytes laid over areas: each law goes down the area, byte by byte. Assumes nothing.
-use mathlib.Core.Path.{_≡_, refl, sym, ap, _∙_}
-use mathlib.Core.List.{List, [], _∷_, _++_, append-assoc, append-nil}
-use Prim.Native.Nat.{ℕ, zero, suc, _+_, _≤_, _<_}
-use native.Mathlib.Omega.{arith}
-use lib.ListN.{length, take, drop, getD, set, length-append, drop-of-length-le}
-use lib.Seq.{take-at, length-take-le}
+use Rattle.lists.proofs.Kit.{_≡_, refl, sym, ap, _∙_, List, [], _∷_, _++_, append-assoc, append-nil, ℕ, zero, suc, _+_, _≤_, _<_, arith, length, take}
+use Rattle.lists.proofs.Kit.{drop, getD, set, length-append, drop-of-length-le, take-at, length-take-le}
 use Rattle.area.specs.Area.{part, put}
 use Rattle.area.proofs.Laws.Parts.{length-part}
 

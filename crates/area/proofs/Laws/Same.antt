@@ -1,13 +1,7 @@
 -- `same` says yes exactly when the lists are equal; and one turn of the loop that compares. Assumes nothing.
-use mathlib.Core.Path.{_≡_, refl, sym, ap, _∙_}
-use mathlib.Core.Bool.{Bool, true, false}
-use mathlib.Core.List.{List, [], _∷_}
-use Prim.Native.Nat.{ℕ, suc, _+_, _≤_, _<_}
+use Rattle.lists.proofs.Kit.{_≡_, refl, sym, ap, _∙_, Bool, true, false, List, [], _∷_, ℕ, suc, _+_, _≤_, _<_, length, drop, getD, drop-of-length-le}
+use Rattle.lists.proofs.Kit.{drop-cons, eqb, eqb-true, eq-eqb, ne-eqb}
 use native.Mathlib.Numerals.{add-one}
-use lib.ListN.{length, drop, getD, drop-of-length-le}
-use lib.Seq.{drop-cons}
-use lib.Dec.{eqb}
-use borrow.Author.Tests.{eqb-true, eq-eqb, ne-eqb}
 use Rattle.lists.specs.Pick.{both}
 use Rattle.lists.proofs.Laws.Pick.{picks, skips, both-join, both-left, both-right, both-not-left, both-not-right, never}
 use Rattle.area.specs.Area.{same}

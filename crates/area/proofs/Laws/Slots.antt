@@ -1,14 +1,8 @@
 -- Slots of an area, z bytes each: where they begin and end, and which slot and offset a byte has. z is a variable: `omega` takes each product
 -- with it, and what is divided by it, for an unknown, and a law here says how two of these stand to each other. Assumes nothing.
-use mathlib.Core.Path.{_≡_, sym, ap, _∙_}
+use Rattle.lists.proofs.Kit.{_≡_, sym, ap, _∙_, List, ℕ, suc, _+_, _*_, _/_, _%_, _^_, _≤_, _<_, suc-mul, mul-le-mul-right, mul-assoc, mod-lt}
+use Rattle.lists.proofs.Kit.{div-add-mod', div-lt-iff-lt-mul, mul-div-cancel, arith, length, ltb, ltb-true, ltb-false}
 use mathlib.Core.Logic.{_⊎_, inl, inr, ⊎-elim}
-use mathlib.Core.List.{List}
-use Prim.Native.Nat.{ℕ, suc, _+_, _*_, _/_, _%_, _^_, _≤_, _<_}
-use native.Mathlib.Nat.{suc-mul, mul-le-mul-right, mul-assoc, mod-lt, div-add-mod', div-lt-iff-lt-mul, mul-div-cancel}
-use native.Mathlib.Omega.{arith}
-use lib.ListN.{length}
-use lib.Dec.{ltb}
-use borrow.Author.Tests.{ltb-true, ltb-false}
 use Rattle.lists.proofs.Laws.Pick.{by}
 use Rattle.area.specs.Area.{part, put}
 use Rattle.area.specs.Slots.{Size}

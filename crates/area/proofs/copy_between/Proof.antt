@@ -1,10 +1,6 @@
 -- `area::copy_between` meets its contract. The loop's invariant: the first i of the n bytes are laid. A turn lays one more.
 -- Assumes nothing.
-use mathlib.Core.Path.{_≡_, refl, sym}
-use Prim.Native.Nat.{_-_, _≤_}
-use native.Mathlib.Omega.{arith}
-use borrow.Author.Needs.{needs}
-use lib.ListN.{length, take}
+use Rattle.lists.proofs.Kit.{_≡_, refl, sym, _-_, _≤_, arith, needs, length, take}
 use Rattle.area.specs.Area.{part, put}
 use Rattle.area.proofs.Laws.Parts.{length-part, getD-part}
 use Rattle.area.proofs.Laws.Puts.{put-nil}

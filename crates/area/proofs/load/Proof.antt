@@ -1,7 +1,6 @@
 -- `area::load` meets its contract: two halves, the lower first. Assumes nothing.
-use native.Mathlib.Omega.{arith}
+use Rattle.lists.proofs.Kit.{arith, needs}
 use Rattle.area.proofs.Laws.Little.{halves}
-use borrow.Author.Needs.{needs}
 use Rattle.area.proofs.load.Statement.{statement}
 use Rattle.area.proofs.load.Tie as tie
 

@@ -1,8 +1,6 @@
 -- `area::load2` meets its contract: two bytes, the lower first. Assumes nothing.
-use mathlib.Core.Path.{_∙_}
-use native.Mathlib.Omega.{arith}
+use Rattle.lists.proofs.Kit.{_∙_, arith, needs}
 use Rattle.area.proofs.Laws.Little.{halves, value-one}
-use borrow.Author.Needs.{needs}
 use Rattle.area.proofs.load2.Statement.{statement}
 use Rattle.area.proofs.load2.Tie as tie
 

@@ -1,12 +1,6 @@
 -- `area::move_down` meets its contract. The loop's invariant: the first i of the n bytes are laid. The byte that a turn reads lies
 -- behind all of those, so it is the one of the start. Assumes nothing.
-use mathlib.Core.Path.{_≡_, refl, sym, ap, _∙_}
-use Prim.Native.Nat.{ℕ, _+_, _-_, _≤_}
-use native.Mathlib.Omega.{arith}
-use borrow.Author.Needs.{needs}
-use mathlib.Core.List.{List}
-use lib.ListN.{length, take, getD}
-use lib.Seq.{length-take-le}
+use Rattle.lists.proofs.Kit.{_≡_, refl, sym, ap, _∙_, ℕ, _+_, _-_, _≤_, arith, needs, List, length, take, getD, length-take-le}
 use Rattle.area.specs.Area.{part, put}
 use Rattle.area.proofs.Laws.Parts.{length-part, getD-part}
 use Rattle.area.proofs.Laws.Puts.{put-nil, getD-behind}

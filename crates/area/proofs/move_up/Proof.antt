@@ -1,11 +1,6 @@
 -- `area::move_up` meets its contract. The loop's invariant: all but the first i of the n bytes are laid. The byte that a turn reads
 -- lies in front of all of those, so it is the one of the start. Assumes nothing.
-use mathlib.Core.Path.{_≡_, refl, sym, ap, _∙_}
-use Prim.Native.Nat.{ℕ, _+_, _-_, _≤_}
-use native.Mathlib.Omega.{arith}
-use borrow.Author.Needs.{needs}
-use mathlib.Core.List.{List}
-use lib.ListN.{length, drop, getD}
+use Rattle.lists.proofs.Kit.{_≡_, refl, sym, ap, _∙_, ℕ, _+_, _-_, _≤_, arith, needs, List, length, drop, getD}
 use Rattle.area.specs.Area.{part, put}
 use Rattle.area.proofs.Laws.Parts.{length-part, getD-part}
 use Rattle.area.proofs.Laws.Puts.{getD-before}

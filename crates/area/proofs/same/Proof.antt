@@ -1,9 +1,6 @@
 -- `area::same` meets its contract. The loop's invariant: the answer is that of what was compared and of what is left. Assumes nothing.
-use mathlib.Core.Path.{_≡_, refl, sym, _∙_}
+use Rattle.lists.proofs.Kit.{_≡_, refl, sym, _∙_, _-_, _≤_, arith, length, drop}
 use mathlib.Core.Logic.{⊎-elim}
-use Prim.Native.Nat.{_-_, _≤_}
-use native.Mathlib.Omega.{arith}
-use lib.ListN.{length, drop}
 use Rattle.lists.specs.Pick.{both}
 use Rattle.lists.proofs.Laws.Pick.{yes, both-last}
 use Rattle.area.specs.Area.{same}
@@ -19,7 +16,8 @@ abbrev μ-loop : tie.MeasureT-loop
 
 loop-again : tie.Need-loop-again Inv-loop μ-loop
 loop-again c =
-    let at-loop = c .before .before .before .before in
+    let back-3 = c .before .before .before in let back-4 = back-3 .before in
+    let at-loop = back-4 in
     let l = at-loop .loop in (
       omega arith,
       l .inv .1,

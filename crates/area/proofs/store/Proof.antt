@@ -1,10 +1,6 @@
 -- `area::store` meets its contract. The loop's invariant: the first i bytes of n are laid, and the others are the bytes of what is
 -- left of n. Assumes nothing.
-use mathlib.Core.Path.{_≡_, refl, sym, ap}
-use Prim.Native.Nat.{ℕ, _-_, _≤_}
-use native.Mathlib.Omega.{arith}
-use borrow.Author.Needs.{needs}
-use lib.ListN.{length, take, drop}
+use Rattle.lists.proofs.Kit.{_≡_, refl, sym, ap, ℕ, _-_, _≤_, arith, needs, length, take, drop}
 use Rattle.area.specs.Area.{put}
 use Rattle.area.specs.Little.{bytesOf}
 use Rattle.area.proofs.Laws.Little.{length-bytes, bytes-left}

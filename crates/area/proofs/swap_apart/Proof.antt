@@ -1,9 +1,5 @@
 -- `area::swap_apart` meets its contract. The loop's invariant: the first i bytes of both spans are exchanged. Assumes nothing.
-use mathlib.Core.Path.{_≡_, refl}
-use Prim.Native.Nat.{_+_, _-_, _≤_, _<_}
-use native.Mathlib.Omega.{arith}
-use borrow.Author.Needs.{needs}
-use lib.ListN.{length}
+use Rattle.lists.proofs.Kit.{_≡_, refl, _+_, _-_, _≤_, _<_, arith, needs, length}
 use Rattle.area.specs.Area.{exchanged}
 use Rattle.area.proofs.Laws.Exchange.{none-swapped, one-swapped, all-swapped}
 use Rattle.area.proofs.swap_apart.Statement.{statement}

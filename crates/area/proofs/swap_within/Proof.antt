@@ -1,19 +1,20 @@
 -- `area::swap_within` meets its contract: spans that do not overlap, and those that do, each way. Assumes nothing.
 use mathlib.Core.Logic.{inl, inr}
-use native.Mathlib.Omega.{arith}
-use borrow.Author.Needs.{needs}
+use Rattle.lists.proofs.Kit.{arith, needs}
 use Rattle.area.proofs.Laws.Exchange.{met-below, met-above}
 use Rattle.area.proofs.swap_within.Statement.{statement}
 use Rattle.area.proofs.swap_within.Tie as tie
 
 returns-2 : tie.Need-returns-2
 returns-2 c =
-    met-below _ _ _ _ _ _ (omega arith) (omega arith) (omega arith) (c .before .before .before .before .before .before .move-down .ensures)
+    let back-3 = c .before .before .before in let back-6 = back-3 .before .before .before in
+    met-below _ _ _ _ _ _ (omega arith) (omega arith) (omega arith) (back-6 .move-down .ensures)
         (c .before .before .swap-apart2 .ensures)
 
 returns-4 : tie.Need-returns-4
 returns-4 c =
-    met-above _ _ _ _ _ _ (omega arith) (omega arith) (omega arith) (c .before .before .before .before .before .before .move-up .ensures)
+    let back-3 = c .before .before .before in let back-6 = back-3 .before .before .before in
+    met-above _ _ _ _ _ _ (omega arith) (omega arith) (omega arith) (back-6 .move-up .ensures)
         (c .before .before .swap-apart4 .ensures)
 
 pub swap-within-spec : {M : Type 1} → statement M

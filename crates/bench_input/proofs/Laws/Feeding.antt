@@ -1,13 +1,6 @@
 -- What came in pieces is what came at once; bytes of a section up to its end; data. Assumes nothing.
-use mathlib.Core.Path.{_≡_, refl, sym, ap, ap₂, _∙_}
-use mathlib.Core.Bool.{true}
-use mathlib.Core.List.{List, [], _∷_, _++_}
-use Prim.Native.Nat.{ℕ, zero, suc, _+_, _-_, _≤_, _<_, min}
-use native.Mathlib.Omega.{arith}
-use lib.ListN.{length, take}
-use lib.Seq.{take-nil}
-use lib.Dec.{ltb}
-use borrow.Author.Tests.{lt-ltb, le-ltb, eqb-true}
+use Rattle.lists.proofs.Kit.{_≡_, refl, sym, ap, ap₂, _∙_, true, List, [], _∷_, _++_, ℕ, zero, suc, _+_, _-_, _≤_, _<_, min, arith, length, take, take-nil}
+use Rattle.lists.proofs.Kit.{ltb, lt-ltb, le-ltb, eqb-true}
 use Rattle.lists.specs.Pick.{pick}
 use Rattle.lists.proofs.Laws.Pick.{by, picks, skips, never, both-left, both-right}
 use Rattle.area.specs.Area.{put}

@@ -1,12 +1,5 @@
 -- A ninth contract is refused: of ids formed in turn those behind the first that has no free place do not matter. Assumes nothing.
-use mathlib.Core.Path.{_≡_, refl, sym, ap, _∙_}
-use mathlib.Core.Bool.{true, not}
-use mathlib.Core.List.{List, [], _∷_}
-use Prim.Native.Nat.{ℕ, zero, suc, _≤_}
-use native.Mathlib.Omega.{arith}
-use lib.ListN.{take}
-use lib.Dec.{eqb}
-use borrow.Author.Tests.{not-false, eqb-true}
+use Rattle.lists.proofs.Kit.{_≡_, refl, sym, ap, _∙_, true, not, List, [], _∷_, ℕ, zero, suc, _≤_, arith, take, eqb, not-false, eqb-true}
 use Rattle.lists.specs.Pick.{pick}
 use Rattle.lists.specs.Tests.{some}
 use Rattle.lists.proofs.Laws.Pick.{by, picks, skips}

@@ -1,10 +1,5 @@
 -- Pieces that came one after the other, and the place that never passes the area. Assumes nothing.
-use mathlib.Core.Path.{_≡_, refl, sym, ap, _∙_}
-use mathlib.Core.List.{List, [], _∷_, _++_, append-nil}
-use Prim.Native.Nat.{ℕ, _*_, _≤_, min}
-use native.Mathlib.Omega.{arith}
-use lib.ListN.{length, take}
-use lib.Dec.{eqb}
+use Rattle.lists.proofs.Kit.{_≡_, refl, sym, ap, _∙_, List, [], _∷_, _++_, append-nil, ℕ, _*_, _≤_, min, arith, length, take, eqb}
 use Rattle.lists.proofs.Laws.Pick.{by, picks, skips}
 use Rattle.lists.proofs.Laws.Ways.{either-way}
 use Rattle.area.specs.Little.{Bytes}

@@ -1,15 +1,7 @@
 -- A head is read from its first 2,896 bytes: reading bytes of which the last are cut off comes to the same, where enough are left.
 -- Assumes nothing.
-use mathlib.Core.Path.{_≡_, refl, sym, ap, _∙_}
-use mathlib.Core.Bool.{Bool, true, false}
-use mathlib.Core.List.{List, [], _∷_}
-use Prim.Native.Nat.{ℕ, zero, suc, _+_, _-_, _*_, _≤_, _<_}
-use native.Mathlib.Nat.{suc-mul}
-use native.Mathlib.Omega.{arith}
-use lib.ListN.{length, take, drop, length-drop}
-use lib.Seq.{take-all, take-take, take-add, drop-at, length-take-le}
-use lib.Dec.{leb, ltb}
-use borrow.Author.Tests.{le-ltb, leb-true, leb-false}
+use Rattle.lists.proofs.Kit.{_≡_, refl, sym, ap, _∙_, Bool, true, false, List, [], _∷_, ℕ, zero, suc, _+_, _-_, _*_, _≤_, _<_, suc-mul, arith, length}
+use Rattle.lists.proofs.Kit.{take, drop, length-drop, take-all, take-take, take-add, drop-at, length-take-le, leb, ltb, le-ltb, leb-true, leb-false}
 use Rattle.lists.specs.Pick.{pick}
 use Rattle.lists.proofs.Laws.Pick.{by, skips}
 use Rattle.sia.specs.Empty.{noOperand, noInstruction, noHead}

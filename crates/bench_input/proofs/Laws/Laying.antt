@@ -1,13 +1,7 @@
 -- One byte fed, as the code does it: it is laid or only counted, its section ends or goes on. Assumes nothing.
-use mathlib.Core.Path.{_≡_, refl, sym, ap, ap₂, _∙_}
-use mathlib.Core.List.{List, [], _∷_}
-use Prim.Native.Nat.{ℕ, suc, _+_, _-_, _*_, _≤_, _<_, min}
-use native.Mathlib.Omega.{arith}
+use Rattle.lists.proofs.Kit.{_≡_, refl, sym, ap, ap₂, _∙_, List, [], _∷_, ℕ, suc, _+_, _-_, _*_, _≤_, _<_, min, arith, length, take, drop, getD, set}
+use Rattle.lists.proofs.Kit.{drop-of-length-le, take-all, drop-cons, ltb, lt-ltb, le-ltb, le-leb, lt-leb, ltb-false}
 use native.Mathlib.Numerals.{add-one}
-use lib.ListN.{length, take, drop, getD, set, drop-of-length-le}
-use lib.Seq.{take-all, drop-cons}
-use lib.Dec.{ltb}
-use borrow.Author.Tests.{lt-ltb, le-ltb, le-leb, lt-leb, ltb-false}
 use Rattle.lists.proofs.Laws.Pick.{yes, no, by, picks, skips}
 use Rattle.area.specs.Area.{put}
 use Rattle.area.specs.Little.{le8}

@@ -1,11 +1,5 @@
 -- An input from which bytes ahead of the data are missing is refused with 9, and so is none at all. Assumes nothing.
-use mathlib.Core.Path.{_≡_, refl, sym, _∙_}
-use mathlib.Core.Bool.{true, false}
-use mathlib.Core.List.{List, []}
-use Prim.Native.Nat.{ℕ, _≤_}
-use lib.ListN.{length}
-use lib.Dec.{ltb}
-use borrow.Author.Tests.{ltb-false}
+use Rattle.lists.proofs.Kit.{_≡_, refl, sym, _∙_, true, false, List, [], ℕ, _≤_, length, ltb, ltb-false}
 use Rattle.lists.proofs.Laws.Pick.{by, picks, skips, either-left, either-right, or-right}
 use Rattle.bench_program.specs.Input.{cutShort, wrong}
 use Rattle.bench_input.specs.Kept.{missing}

@@ -1,14 +1,7 @@
 -- A run with other ids, another head and other data that come to the same: what was read and formed decides, and of data that passes the
 -- declared length only that. Assumes nothing.
-use mathlib.Core.Path.{_≡_, sym, ap, _∙_}
-use mathlib.Core.Bool.{not}
-use mathlib.Core.List.{List, _++_}
-use Prim.Native.Nat.{ℕ, _+_, _≤_, _<_}
-use native.Mathlib.Omega.{arith}
-use lib.ListN.{length, take, drop}
-use lib.Dec.{ltb, eqb, leb}
-use lib.Seq.{take-all, length-take-le}
-use borrow.Author.Tests.{lt-ltb, eqb-true, leb-true, leb-false}
+use Rattle.lists.proofs.Kit.{_≡_, sym, ap, _∙_, not, List, _++_, ℕ, _+_, _≤_, _<_, arith, length, take, drop, ltb, eqb, leb, take-all, length-take-le}
+use Rattle.lists.proofs.Kit.{lt-ltb, eqb-true, leb-true, leb-false}
 use Rattle.lists.specs.Pick.{pick, both}
 use Rattle.lists.proofs.Laws.Pick.{by, picks, skips}
 use Rattle.host.specs.With.{withProgram}

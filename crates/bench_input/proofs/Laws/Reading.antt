@@ -1,14 +1,8 @@
 -- The reader keeps what is to be kept of an input. Section by section, as far as the input reaches: where a section is there, what is kept of it
 -- stands behind what stood, and the next begins; where bytes of it are missing, the reader stays in it, and holds nothing. Assumes nothing.
-use mathlib.Core.Path.{_≡_, refl, sym, ap, ap₂, _∙_}
-use mathlib.Core.Bool.{true, false}
-use mathlib.Core.List.{List, [], _∷_, _++_, append-assoc, append-nil}
-use Prim.Native.Nat.{ℕ, zero, suc, _+_, _-_, _*_, _≤_, _<_, min}
-use native.Mathlib.Omega.{arith}
-use lib.ListN.{length, take, drop, length-take, length-drop, take-append-drop}
-use lib.Seq.{take-nil, take-all, take-take, take-add, drop-drop, length-take-le}
-use lib.Dec.{leb, ltb}
-use borrow.Author.Tests.{lt-ltb, le-ltb, ltb-true, ltb-false, leb-true, leb-false, ne-eqb}
+use Rattle.lists.proofs.Kit.{_≡_, refl, sym, ap, ap₂, _∙_, true, false, List, [], _∷_, _++_, append-assoc, append-nil, ℕ, zero, suc, _+_, _-_, _*_, _≤_}
+use Rattle.lists.proofs.Kit.{_<_, min, arith, length, take, drop, length-take, length-drop, take-append-drop, take-nil, take-all, take-take, take-add}
+use Rattle.lists.proofs.Kit.{drop-drop, length-take-le, leb, ltb, lt-ltb, le-ltb, ltb-true, ltb-false, leb-true, leb-false, ne-eqb}
 use Rattle.lists.proofs.Laws.Pick.{by, picks, skips, either-join, or-right}
 use Rattle.area.specs.Area.{part}
 use Rattle.area.specs.Little.{le8, Bytes}

@@ -1,14 +1,7 @@
 -- The sections of what is kept of an input. Assumes nothing.
-use mathlib.Core.Path.{_≡_, refl, sym, ap, ap₂, _∙_}
-use mathlib.Core.Bool.{false, not}
-use mathlib.Core.List.{List, _++_}
-use Prim.Native.Nat.{ℕ, _+_, _*_, _/_, _≤_, _<_, min}
-use native.Mathlib.Nat.{mul-div-cancel}
-use native.Mathlib.Omega.{arith}
-use lib.ListN.{length, take, drop, length-append, length-take}
-use lib.Seq.{take-all, take-take, take-at, drop-append-le, take-append-le, drop-append-add, length-take-le}
-use lib.Dec.{leb, ltb, eqb}
-use borrow.Author.Tests.{leb-true, leb-false, ltb-false, le-ltb}
+use Rattle.lists.proofs.Kit.{_≡_, refl, sym, ap, ap₂, _∙_, false, not, List, _++_, ℕ, _+_, _*_, _/_, _≤_, _<_, min, mul-div-cancel, arith, length, take}
+use Rattle.lists.proofs.Kit.{drop, length-append, length-take, take-all, take-take, take-at, drop-append-le, take-append-le, drop-append-add}
+use Rattle.lists.proofs.Kit.{length-take-le, leb, ltb, eqb, leb-true, leb-false, ltb-false, le-ltb}
 use Rattle.lists.specs.Pick.{either}
 use Rattle.lists.specs.Tests.{every}
 use Rattle.lists.specs.Tab.{tab}

@@ -1,12 +1,6 @@
 -- What stands in the area of a reader: bytes of a section, a number lowered behind it. Assumes nothing.
-use mathlib.Core.Path.{_≡_, refl, sym, ap, ap₂, _∙_}
-use mathlib.Core.List.{List, _++_}
-use Prim.Native.Nat.{ℕ, _+_, _-_, _*_, _≤_, _<_, min}
-use native.Mathlib.Omega.{arith}
-use lib.ListN.{length, take, length-append, length-take}
-use lib.Seq.{take-at, take-take, length-take-le}
-use lib.Dec.{leb, ltb}
-use borrow.Author.Tests.{le-ltb, leb-true, leb-false}
+use Rattle.lists.proofs.Kit.{_≡_, refl, sym, ap, ap₂, _∙_, List, _++_, ℕ, _+_, _-_, _*_, _≤_, _<_, min, arith, length, take, length-append, length-take}
+use Rattle.lists.proofs.Kit.{take-at, take-take, length-take-le, leb, ltb, le-ltb, leb-true, leb-false}
 use Rattle.lists.proofs.Laws.Pick.{by, picks, skips}
 use Rattle.area.specs.Area.{part, put}
 use Rattle.area.specs.Little.{valueOf, bytesOf, le8, Bytes}

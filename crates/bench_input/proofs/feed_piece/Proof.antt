@@ -1,6 +1,5 @@
 -- `bench_input::feed_piece` meets its contract: what it is handed is the piece. Assumes nothing.
-use native.Mathlib.Omega.{arith}
-use borrow.Author.Needs.{needs}
+use Rattle.lists.proofs.Kit.{arith, needs}
 use Rattle.area.specs.Little.{Bytes}
 use Rattle.bench_input.proofs.feed_piece.Statement.{statement}
 use Rattle.bench_input.proofs.feed_piece.Tie as tie

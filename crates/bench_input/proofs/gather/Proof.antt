@@ -1,8 +1,5 @@
 -- `bench_input::gather` meets its contract. The invariant of its loop: pieces that came lead from a new reader to this one. Assumes nothing.
-use mathlib.Core.Path.{_≡_, sym, _∙_}
-use borrow.Author.Tests.{ltb-true}
-use borrow.Author.Needs.{needs}
-use lib.ListN.{length}
+use Rattle.lists.proofs.Kit.{_≡_, sym, _∙_, ltb-true, needs, length}
 use Rattle.lists.proofs.Laws.Pick.{both-left}
 use Rattle.bench_input.specs.Reader.{state}
 use Rattle.bench_input.specs.Gathered.{readsOn}

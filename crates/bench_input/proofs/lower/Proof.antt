@@ -1,6 +1,5 @@
 -- `bench_input::lower` meets its contract: a number above what is kept stands whole, and is laid anew. Assumes nothing.
-use native.Mathlib.Omega.{arith}
-use borrow.Author.Needs.{needs}
+use Rattle.lists.proofs.Kit.{arith, needs}
 use Rattle.bench_input.proofs.Laws.Laying.{stands-whole, lowers-not, lowers}
 use Rattle.bench_input.proofs.lower.Statement.{statement}
 use Rattle.bench_input.proofs.lower.Tie as tie

@@ -1,9 +1,5 @@
 -- `bench_input::more` meets its contract, test by test. Assumes nothing.
-use mathlib.Core.Path.{refl, ap}
-use mathlib.Core.Bool.{not}
-use native.Mathlib.Omega.{arith}
-use borrow.Author.Tests.{lt-ltb, le-ltb}
-use borrow.Author.Needs.{needs}
+use Rattle.lists.proofs.Kit.{refl, ap, not, arith, lt-ltb, le-ltb, needs}
 use Rattle.lists.proofs.Laws.Pick.{yes, no}
 use Rattle.bench_input.specs.Gathered.{readsOn}
 use Rattle.bench_input.proofs.more.Statement.{statement}

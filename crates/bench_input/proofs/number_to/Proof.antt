@@ -1,7 +1,5 @@
 -- `bench_input::number_to` meets its contract: no number ends ahead of byte 8 or past the area. Assumes nothing.
-use mathlib.Core.Path.{refl}
-use borrow.Author.Tests.{lt-ltb, le-ltb}
-use borrow.Author.Needs.{needs}
+use Rattle.lists.proofs.Kit.{refl, lt-ltb, le-ltb, needs}
 use Rattle.lists.proofs.Laws.Pick.{yes, no}
 use Rattle.bench_program.specs.Input.{numberAt}
 use Rattle.bench_input.specs.Reader.{numberTo}

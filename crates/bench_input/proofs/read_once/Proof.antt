@@ -1,5 +1,5 @@
 -- `bench_input::read_once` meets its contract: a piece came, or none. Assumes nothing.
-use borrow.Author.Needs.{needs}
+use Rattle.lists.proofs.Kit.{needs}
 use Rattle.bench_input.proofs.Laws.Gathering.{feeds-none}
 use Rattle.bench_input.proofs.read_once.Statement.{statement}
 use Rattle.bench_input.proofs.read_once.Tie as tie

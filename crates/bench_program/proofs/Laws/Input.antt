@@ -1,13 +1,6 @@
 -- The whole input in its bytes: what is known of one that is not refused with 9. Assumes nothing.
-use mathlib.Core.Path.{_≡_, refl, sym, ap, _∙_}
-use mathlib.Core.Bool.{true, false}
-use mathlib.Core.List.{List}
-use Prim.Native.Nat.{ℕ, _+_, _-_, _*_, _/_, _≤_, _<_}
-use native.Mathlib.Nat.{div-add-mod', mod-lt}
-use native.Mathlib.Omega.{arith}
-use lib.ListN.{length, take, drop}
-use lib.Dec.{leb, ltb}
-use borrow.Author.Tests.{leb-true, ltb-false, not-false, lt-ltb, le-ltb}
+use Rattle.lists.proofs.Kit.{_≡_, refl, sym, ap, _∙_, true, false, List, ℕ, _+_, _-_, _*_, _/_, _≤_, _<_, div-add-mod', mod-lt, arith, length, take, drop}
+use Rattle.lists.proofs.Kit.{leb, ltb, leb-true, ltb-false, not-false, lt-ltb, le-ltb}
 use Rattle.lists.proofs.Laws.Pick.{yes, no, either-left, either-right}
 use Rattle.lists.proofs.Laws.Tab.{tab-at}
 use Rattle.lists.proofs.Laws.Sums.{rest-less}

@@ -1,12 +1,6 @@
 -- Calls one after another, up to the first refusal. Assumes nothing.
-use mathlib.Core.Path.{_≡_, refl, ap, ap₂, sym, _∙_}
-use mathlib.Core.Bool.{not}
-use mathlib.Core.List.{List, _++_}
-use Prim.Native.Nat.{ℕ, _-_, min}
-use native.Mathlib.Omega.{arith}
-use lib.ListN.{length, take, drop, drop-of-length-le}
-use lib.Dec.{leb, eqb}
-use borrow.Author.Tests.{eq-eqb, ne-eqb, leb-true, leb-false}
+use Rattle.lists.proofs.Kit.{_≡_, refl, ap, ap₂, sym, _∙_, not, List, _++_, ℕ, _-_, min, arith, length, take, drop, drop-of-length-le, leb, eqb, eq-eqb}
+use Rattle.lists.proofs.Kit.{ne-eqb, leb-true, leb-false}
 use Rattle.lists.specs.Pick.{pick}
 use Rattle.lists.proofs.Laws.Pick.{yes, no, by}
 use Rattle.lists.proofs.Laws.Slices.{take-min}

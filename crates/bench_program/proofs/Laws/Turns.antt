@@ -1,11 +1,6 @@
 -- Contracts formed in turn, one at a time: f i, f (i + 1), … are left of n. Assumes nothing.
-use mathlib.Core.Path.{_≡_, sym, ap, _∙_}
-use mathlib.Core.Bool.{not}
-use mathlib.Core.List.{List}
-use Prim.Native.Nat.{ℕ, suc, _+_, _-_, _≤_, _<_}
+use Rattle.lists.proofs.Kit.{_≡_, sym, ap, _∙_, not, List, ℕ, suc, _+_, _-_, _≤_, _<_, arith, eq-eqb, ne-eqb}
 use native.Mathlib.Numerals.{add-one}
-use native.Mathlib.Omega.{arith}
-use borrow.Author.Tests.{eq-eqb, ne-eqb}
 use Rattle.lists.specs.Tab.{tab}
 use Rattle.lists.proofs.Laws.Pick.{yes, no}
 use Rattle.host.specs.Calls.{answered, formed}

@@ -1,9 +1,7 @@
 -- `bench_program::answer` meets its contract. Assumes nothing.
-use mathlib.Core.Path.{sym, _∙_}
-use native.Mathlib.Omega.{arith}
+use Rattle.lists.proofs.Kit.{sym, _∙_, arith, needs}
 use Rattle.bench_program.specs.Input.{numberAt}
 use Rattle.bench_program.proofs.Laws.Input.{right, ids-is, head-is, data-is, answered-nine, answered-run}
-use borrow.Author.Needs.{needs}
 use Rattle.bench_program.proofs.answer.Statement.{statement}
 use Rattle.bench_program.proofs.answer.Tie as tie
 

@@ -1,6 +1,6 @@
 -- `bench_program::run` meets its contract. Assumes nothing.
 use Rattle.bench_program.proofs.Laws.Plays.{run-unmade, run-unformed, run-goes}
-use borrow.Author.Needs.{needs}
+use Rattle.lists.proofs.Kit.{needs}
 use Rattle.bench_program.proofs.run.Statement.{statement}
 use Rattle.bench_program.proofs.run.Tie as tie
 

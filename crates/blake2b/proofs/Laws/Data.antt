@@ -1,12 +1,8 @@
 -- The data in blocks: padding, one block after another, the key's block, and the bytes of a state. Assumes nothing.
-use mathlib.Core.Path.{_≡_, refl, sym, ap, _∙_}
-use mathlib.Core.Bool.{Bool, true, false}
-use mathlib.Core.List.{List, [], _∷_, _++_, append-nil, append-assoc}
-use Prim.Native.Nat.{ℕ, zero, suc, _+_, _-_, _*_, _≤_, _<_}
+use Rattle.lists.proofs.Kit.{_≡_, refl, sym, ap, _∙_, Bool, true, false, List, [], _∷_, _++_, append-nil, append-assoc, ℕ, zero, suc, _+_, _-_, _*_, _≤_}
+use Rattle.lists.proofs.Kit.{_<_, arith, length, getD, take, drop, take-append-drop, length-append, length-drop, length-replicate, take-all, take-at}
+use Rattle.lists.proofs.Kit.{take-suc, take-append-add, drop-at, drop-drop, length-take-le}
 use native.Mathlib.Numerals.{add-one}
-use native.Mathlib.Omega.{arith}
-use lib.ListN.{length, getD, take, drop, take-append-drop, length-append, length-drop, length-replicate}
-use lib.Seq.{take-all, take-at, take-suc, take-append-add, drop-at, drop-drop, length-take-le}
 use Rattle.area.specs.Area.{part, put, zeros}
 use Rattle.area.specs.Little.{bytesOf}
 use Rattle.area.proofs.Laws.Parts.{part-part}

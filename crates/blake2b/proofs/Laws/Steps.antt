@@ -1,11 +1,6 @@
 -- One round after another, the parts of F, and the local vector at a counter of one word, from the state written out. Assumes nothing.
-use mathlib.Core.Path.{_≡_, refl, sym, ap, _∙_}
-use mathlib.Core.Bool.{Bool}
-use mathlib.Core.List.{List, [], _∷_, _++_}
-use Prim.Native.Nat.{ℕ, zero, suc, _+_, _%_, _/_, _^_, _≤_, _<_}
-use native.Mathlib.Omega.{arith}
-use lib.ListN.{length, take, drop, getD, set}
-use lib.Seq.{take-all, drop-cons, set-getD}
+use Rattle.lists.proofs.Kit.{_≡_, refl, sym, ap, _∙_, Bool, List, [], _∷_, _++_, ℕ, zero, suc, _+_, _%_, _/_, _^_, _≤_, _<_, arith, length, take, drop}
+use Rattle.lists.proofs.Kit.{getD, set, take-all, drop-cons, set-getD}
 use lib.Bits.{xor-zero-r}
 use Rattle.blake2b.specs.Schedule.{chosen}
 use Rattle.blake2b.specs.Compression.{IV, G, round, rounds, xorAt, local, folded, F}

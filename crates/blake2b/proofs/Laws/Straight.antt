@@ -1,13 +1,5 @@
 -- A message of 65 bytes: which way it goes, the words of its one block, and the digest of 32 bytes. Assumes nothing.
-use mathlib.Core.Path.{_≡_, refl, sym, ap, _∙_}
-use mathlib.Core.Bool.{true}
-use mathlib.Core.List.{List, [], _∷_, _++_}
-use Prim.Native.Nat.{ℕ, _+_, _≤_}
-use native.Mathlib.Omega.{arith}
-use lib.ListN.{length, getD, take}
-use lib.Seq.{length-take-le}
-use lib.Dec.{eqb}
-use borrow.Author.Tests.{eqb-true}
+use Rattle.lists.proofs.Kit.{_≡_, refl, sym, ap, _∙_, true, List, [], _∷_, _++_, ℕ, _+_, _≤_, arith, length, getD, take, length-take-le, eqb, eqb-true}
 use Rattle.lists.specs.Pick.{both}
 use Rattle.lists.specs.Tab.{tab}
 use Rattle.lists.proofs.Laws.Pick.{both-left, both-right}

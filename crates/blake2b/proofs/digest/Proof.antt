@@ -1,8 +1,5 @@
 -- `blake2b::digest` meets its contract: the lengths are tested, then the digest is made on the straight path or by blocks. Assumes nothing.
-use mathlib.Core.Path.{sym, _∙_}
-use native.Mathlib.Omega.{arith}
-use borrow.Author.Needs.{needs}
-use lib.ListN.{length}
+use Rattle.lists.proofs.Kit.{sym, _∙_, arith, needs, length}
 use Rattle.blake2b.proofs.Laws.Data.{by-blocks}
 use Rattle.blake2b.proofs.Laws.Straight.{tells, straight-is}
 use Rattle.blake2b.proofs.Answered.{refuses, digests, allowed-yes, too-short, too-long, key-too-long}

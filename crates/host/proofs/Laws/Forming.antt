@@ -1,12 +1,7 @@
 -- One turn of the loop that forms a contract. Assumes nothing.
-use mathlib.Core.Path.{_≡_, refl, sym, ap, _∙_}
-use mathlib.Core.Bool.{true, false}
-use mathlib.Core.List.{List, [], _∷_, _++_, append-assoc, append-nil}
-use Prim.Native.Nat.{ℕ, _+_, _≤_, _<_}
+use Rattle.lists.proofs.Kit.{_≡_, refl, sym, ap, _∙_, true, false, List, [], _∷_, _++_, append-assoc, append-nil, ℕ, _+_, _≤_, _<_, arith, length, take}
+use Rattle.lists.proofs.Kit.{drop, getD, set, slice, take-all, take-suc, set-split}
 use native.Mathlib.Numerals.{add-one}
-use native.Mathlib.Omega.{arith}
-use lib.ListN.{length, take, drop, getD, set}
-use lib.Seq.{slice, take-all, take-suc, set-split}
 use Rattle.lists.proofs.Laws.Pick.{yes, no}
 use Rattle.lists.proofs.Laws.Slices.{slice-none, slice-one}
 use Rattle.host.specs.Empty.{newPlace}

@@ -1,7 +1,5 @@
 -- The lengths of the arrays in declared structs, from what a function is told of a parameter. Assumes nothing.
-use mathlib.Core.Path.{_≡_}
-use mathlib.Core.List.{List}
-use lib.ListN.{length}
+use Rattle.lists.proofs.Kit.{_≡_, List, length}
 use mir.Val.{Val}
 use denote.Laws.{Is}
 use denote.Struct.Declared.{row}

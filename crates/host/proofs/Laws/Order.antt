@@ -1,9 +1,5 @@
 -- "Host in order" decided and as facts with names: the two directions, for each part and for the whole. Assumes nothing.
-use mathlib.Core.Path.{_≡_, sym, ap, _∙_}
-use mathlib.Core.Bool.{true, not}
-use mathlib.Core.List.{List}
-use Prim.Native.Nat.{ℕ, _≤_}
-use borrow.Author.Tests.{leb-true, le-leb, eqb-true, eq-eqb}
+use Rattle.lists.proofs.Kit.{_≡_, sym, ap, _∙_, true, not, List, ℕ, _≤_, leb-true, le-leb, eqb-true, eq-eqb}
 use Rattle.lists.proofs.Laws.Pick.{picks, skips, by, both-join, both-left, both-right}
 use Rattle.host.specs.Order.{lent, placesInOrder, stagedInOrder, termsInOrder, progressInOrder, programInOrder, inOrder}
 use Rattle.host.specs.Facts.{Contracts, Staged, Agreed, Orderly, Running, Order}

@@ -1,11 +1,5 @@
 -- One turn of a loop that looks for the contract of an id. Assumes nothing.
-use mathlib.Core.Path.{_≡_, refl, sym}
-use mathlib.Core.Bool.{true, false}
-use mathlib.Core.List.{List, []}
-use Prim.Native.Nat.{ℕ, _+_, _≤_, _<_}
-use native.Mathlib.Omega.{arith}
-use lib.ListN.{length, getD}
-use lib.Seq.{slice}
+use Rattle.lists.proofs.Kit.{_≡_, refl, sym, true, false, List, [], ℕ, _+_, _≤_, _<_, arith, length, getD, slice}
 use Rattle.lists.proofs.Laws.Pick.{yes, no}
 use Rattle.lists.proofs.Laws.Slices.{slice-none, slice-one}
 use Rattle.host.specs.Empty.{noPlace}

@@ -1,12 +1,7 @@
 -- A sector size that there is, as the record of its facts, and one turn of the loop that looks for it. Assumes nothing.
-use mathlib.Core.Path.{_≡_, refl, sym, ap, _∙_}
-use mathlib.Core.Bool.{true, false}
-use Prim.Native.Nat.{ℕ, zero, suc, _+_, _-_, _*_, _/_, _^_, _≤_, _<_}
-use native.Mathlib.Nat.{pow-le-pow-right}
-use native.Mathlib.Omega.{arith}
-use lib.Dec.{ltb, eqb}
+use Rattle.lists.proofs.Kit.{_≡_, refl, sym, ap, _∙_, true, false, ℕ, zero, suc, _+_, _-_, _*_, _/_, _^_, _≤_, _<_, pow-le-pow-right, arith, ltb, eqb}
+use Rattle.lists.proofs.Kit.{ltb-true, ltb-false, eqb-true, eqb-false, eq-eqb, ne-eqb}
 use lib.Pow.{pow-add}
-use borrow.Author.Tests.{ltb-true, ltb-false, eqb-true, eqb-false, eq-eqb, ne-eqb}
 use Rattle.lists.proofs.Laws.Pick.{by, never, picks, skips}
 use Rattle.area.specs.Slots.{Size}
 use Rattle.host.specs.Sizes.{doubled, isSize}

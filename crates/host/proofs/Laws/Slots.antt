@@ -1,12 +1,7 @@
 -- The slots that contracts take, gathered in one array. Assumes nothing.
-use mathlib.Core.Path.{_≡_, refl, sym, ap, _∙_}
-use mathlib.Core.Bool.{true, false}
-use mathlib.Core.List.{List, [], _∷_, _++_, append-assoc, append-nil}
-use Prim.Native.Nat.{ℕ, _+_, _/_, _<_, min}
+use Rattle.lists.proofs.Kit.{_≡_, refl, sym, ap, _∙_, true, false, List, [], _∷_, _++_, append-assoc, append-nil, ℕ, _+_, _/_, _<_, min, arith, length}
+use Rattle.lists.proofs.Kit.{take, getD, set, take-suc, take-suc-set}
 use native.Mathlib.Numerals.{add-one}
-use native.Mathlib.Omega.{arith}
-use lib.ListN.{length, take, getD, set}
-use lib.Seq.{take-suc, take-suc-set}
 use Rattle.lists.proofs.Laws.Pick.{yes, no}
 use Rattle.lists.proofs.Laws.Slices.{take-min}
 use Rattle.sia.specs.Encode.{joined}

@@ -1,13 +1,5 @@
 -- The sizes of the other contracts, place by place, against what is left of a limit. Assumes nothing.
-use mathlib.Core.Path.{_≡_, sym, ap, _∙_}
-use mathlib.Core.Bool.{true, false}
-use mathlib.Core.List.{List}
-use Prim.Native.Nat.{ℕ, _+_, _-_, _≤_, _<_}
-use native.Mathlib.Omega.{arith}
-use lib.ListN.{length, getD}
-use lib.Seq.{slice}
-use lib.Dec.{leb}
-use borrow.Author.Tests.{le-leb}
+use Rattle.lists.proofs.Kit.{_≡_, sym, ap, _∙_, true, false, List, ℕ, _+_, _-_, _≤_, _<_, arith, length, getD, slice, leb, le-leb}
 use Rattle.lists.specs.Tests.{each, sum}
 use Rattle.lists.proofs.Laws.Slices.{slice-none, slice-one, slice-all}
 use Rattle.lists.proofs.Laws.Sums.{above, left-over}

@@ -1,10 +1,5 @@
 -- The contract of an id, and the places of none and of a new one. Assumes nothing.
-use mathlib.Core.Path.{_≡_, refl, ap, _∙_}
-use mathlib.Core.Bool.{true, false}
-use mathlib.Core.List.{List, [], _∷_}
-use Prim.Native.Nat.{ℕ, _/_}
-use native.Mathlib.Nat.{zero-div}
-use lib.ListN.{take}
+use Rattle.lists.proofs.Kit.{_≡_, refl, ap, _∙_, true, false, List, [], _∷_, ℕ, _/_, zero-div, take}
 use Rattle.lists.specs.Pick.{pick}
 use Rattle.lists.specs.Tests.{every}
 use Rattle.lists.proofs.Laws.Pick.{by, picks, skips, both-left, both-right}

@@ -1,8 +1,5 @@
 -- Forming and dropping under new ids: down the two chains of each call side by side. Assumes nothing.
-use mathlib.Core.Path.{_≡_, refl, sym, ap, _∙_}
-use mathlib.Core.Bool.{not}
-use mathlib.Core.List.{List, [], _∷_}
-use Prim.Native.Nat.{ℕ}
+use Rattle.lists.proofs.Kit.{_≡_, refl, sym, ap, _∙_, not, List, [], _∷_, ℕ}
 use Rattle.lists.specs.Pick.{pick, either}
 use Rattle.lists.specs.Tests.{some, each}
 use Rattle.lists.proofs.Laws.Ways.{down}

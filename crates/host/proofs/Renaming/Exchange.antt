@@ -1,9 +1,5 @@
 -- An exchange of two ids gives new ids: it undoes itself, so no two ids become one. Assumes nothing.
-use mathlib.Core.Path.{_≡_, sym, ap, _∙_}
-use mathlib.Core.Bool.{true, false}
-use mathlib.Core.List.{List}
-use Prim.Native.Nat.{ℕ}
-use lib.ListN.{length}
+use Rattle.lists.proofs.Kit.{_≡_, sym, ap, _∙_, true, false, List, ℕ, length}
 use Rattle.lists.proofs.Laws.Pick.{by, picks, skips, never}
 use Rattle.area.specs.Area.{same}
 use Rattle.area.proofs.Laws.Same.{same-refl, same-eq, eq-same}

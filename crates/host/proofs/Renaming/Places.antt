@@ -1,11 +1,6 @@
 -- The record of a host under new ids: ids come in only where they are compared, with each other and with the ReadOnly word, so every test of
 -- a place, of places and of order is as it was. Assumes nothing.
-use mathlib.Core.Path.{_≡_, refl, sym, ap, ap₂, _∙_}
-use mathlib.Core.Bool.{Bool, true, false, not}
-use mathlib.Core.List.{List, [], _∷_, _++_}
-use Prim.Native.Nat.{ℕ, _+_, _/_, _%_}
-use lib.ListN.{length}
-use lib.Dec.{leb, ltb, eqb}
+use Rattle.lists.proofs.Kit.{_≡_, refl, sym, ap, ap₂, _∙_, Bool, true, false, not, List, [], _∷_, _++_, ℕ, _+_, _/_, _%_, length, leb, ltb, eqb}
 use Rattle.lists.specs.Pick.{pick, both, either}
 use Rattle.lists.specs.Tests.{every, some, each, apart, sum}
 use Rattle.lists.proofs.Laws.Pick.{by, picks, skips}

@@ -1,6 +1,5 @@
 -- `host::lent` meets its contract. Assumes nothing.
-use mathlib.Core.Path.{refl}
-use borrow.Author.Tests.{le-leb, lt-leb}
+use Rattle.lists.proofs.Kit.{refl, le-leb, lt-leb}
 use Rattle.lists.proofs.Laws.Pick.{yes, no}
 use Rattle.host.specs.Order.{lent}
 use Rattle.host.proofs.lent.Statement.{statement}

@@ -1,8 +1,5 @@
 -- The checks that forming and dropping begin with, 1, 3 and 5: where the code goes on behind them, the rest decides. Assumes nothing.
-use mathlib.Core.Path.{_≡_, sym, ap, _∙_}
-use mathlib.Core.Bool.{Bool, false, not}
-use mathlib.Core.List.{List}
-use Prim.Native.Nat.{ℕ}
+use Rattle.lists.proofs.Kit.{_≡_, sym, ap, _∙_, Bool, false, not, List, ℕ}
 use Rattle.lists.specs.Pick.{pick}
 use Rattle.lists.proofs.Laws.Pick.{no}
 use Rattle.area.specs.Area.{same}

@@ -1,12 +1,9 @@
 -- `host_contracts::drop` meets its contract: a walk down the definition. Assumes nothing.
-use mathlib.Core.Path.{refl, sym, ap, _∙_}
-use mathlib.Core.Bool.{not}
-use mathlib.Core.List.{List}
+use Rattle.lists.proofs.Kit.{refl, sym, ap, _∙_, not, List, needs}
 use Rattle.lists.proofs.Laws.Pick.{yes, no}
 use Rattle.host.specs.With.{withPlaces}
 use Rattle.host.specs.Calls.{answered, replaced, dropped}
 use Rattle.host.specs.declared.Place.{Place}
-use borrow.Author.Needs.{needs}
 use Rattle.host_contracts.proofs.Laws.Early.{early}
 use Rattle.host_contracts.proofs.drop.Statement.{statement}
 use Rattle.host_contracts.proofs.drop.Tie as tie

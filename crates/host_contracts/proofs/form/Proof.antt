@@ -1,7 +1,5 @@
 -- `host_contracts::form` meets its contract: a walk down the definition. Assumes nothing.
-use mathlib.Core.Path.{_≡_, refl, sym, ap, _∙_}
-use mathlib.Core.Bool.{not}
-use mathlib.Core.List.{List}
+use Rattle.lists.proofs.Kit.{_≡_, refl, sym, ap, _∙_, not, List, needs}
 use Rattle.lists.specs.Pick.{pick}
 use Rattle.lists.proofs.Laws.Pick.{yes, no}
 use Rattle.host.specs.With.{withPlaces}
@@ -9,7 +7,6 @@ use Rattle.host.specs.Places.{whose}
 use Rattle.host.specs.Calls.{answered, padded, formed}
 use Rattle.host.specs.declared.Place.{Place}
 use Rattle.host.specs.declared.Made.{Made}
-use borrow.Author.Needs.{needs}
 use Rattle.host_contracts.proofs.Laws.Early.{early-part, early}
 use Rattle.host_contracts.proofs.form.Statement.{statement}
 use Rattle.host_contracts.proofs.form.Tie as tie

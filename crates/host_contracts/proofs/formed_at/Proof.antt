@@ -1,16 +1,9 @@
 -- `host_contracts::formed_at` meets its contract. The loop's invariant: the first i places are held, and stay as they are. Assumes nothing.
-use mathlib.Core.Path.{_≡_, sym, ap, _∙_}
-use mathlib.Core.List.{_++_}
-use Prim.Native.Nat.{_-_}
-use native.Mathlib.Omega.{arith}
-use lib.ListN.{take, set}
-use lib.Seq.{slice}
-use borrow.Author.Tests.{not-true, not-false}
+use Rattle.lists.proofs.Kit.{_≡_, sym, ap, _∙_, _++_, _-_, arith, take, set, slice, not-true, not-false, needs}
 use Rattle.lists.proofs.Laws.Slices.{slice-all}
 use Rattle.host.specs.Calls.{formedAt}
 use Rattle.host.proofs.Laws.Places.{blank}
 use Rattle.host.proofs.Laws.Forming.{formed-here, formed-further, formed-done}
-use borrow.Author.Needs.{needs}
 use Rattle.host_contracts.proofs.formed_at.Statement.{statement}
 use Rattle.host_contracts.proofs.formed_at.Tie as tie
 
@@ -22,18 +15,18 @@ abbrev μ-loop : tie.MeasureT-loop
 
 returns : tie.Need-returns Inv-loop μ-loop
 returns c =
-    let l = c .before .before .before .before .before .loop in
-    let s = c .before .before .before .before .before .before in
+    let then1 = c .before in let in-loop = then1 .before .before .before in let at-loop = in-loop .before in let s = at-loop .before in
+    let l = at-loop .loop in
     ap (set (s .args .t1) (l .i)) (c .new-place .ensures)
-    ∙ formed-here (s .args .id) (s .args .t1) (l .i) 8 (s .good .0 .1 .0 .1) blank (omega arith) (not-true _ (c .before .if1 .taken)) ∙ sym (l .inv)
+    ∙ formed-here (s .args .id) (s .args .t1) (l .i) 8 (s .good .0 .1 .0 .1) blank (omega arith) (not-true _ (then1 .if1 .taken)) ∙ sym (l .inv)
 
 pub formed-at-spec : {M : Type 1} → statement M
 formed-at-spec = tie.close (tie.spec
     Inv-loop μ-loop (λ c. ap (formedAt (c .args .id)) (sym (slice-all (c .args .t1) (c .good .0 .1 .0 .1))))
     (λ c. search needs) (λ c. search needs) (λ c κs. tt) (λ c. search needs) (λ c. search needs) returns
     (λ c. search needs) (λ c. search needs)
-    (λ c. let l = c .before .before .before .before .loop in
-        let s = c .before .before .before .before .before in
+    (λ c. let back-3 = c .before .before .before in let back-4 = back-3 .before in let back-5 = back-4 .before in let l = back-4 .loop in
+        let s = back-5 in
         l .inv ∙ formed-further (s .args .id) (s .args .t1) (l .i) 8 (s .good .0 .1 .0 .1) blank (omega arith) (not-false _ (c .if1 .left)))
     (λ c. let s = c .before .before in
         formed-done (s .args .id) (s .args .t1) (c .before .loop .i) 8 (s .good .0 .1 .0 .1) (omega arith) ∙ sym (c .before .loop .inv)))

@@ -1,15 +1,11 @@
 -- `host_contracts::fresh` meets its contract: a walk down the definition. Assumes nothing.
-use mathlib.Core.Path.{_≡_, sym, ap, _∙_}
-use mathlib.Core.Bool.{false, not}
-use Prim.Native.Nat.{_<_}
-use borrow.Author.Tests.{not-false}
+use Rattle.lists.proofs.Kit.{_≡_, sym, ap, _∙_, false, not, _<_, not-false, needs}
 use Rattle.lists.proofs.Laws.Pick.{yes, no}
 use Rattle.area.proofs.Laws.Slots.{some}
 use Rattle.host.specs.Sizes.{isSize}
 use Rattle.host.specs.Calls.{answered, lengthRight, freshed}
 use Rattle.host.specs.declared.Host.{Host}
 use Rattle.host.proofs.Laws.Sizes.{size-facts}
-use borrow.Author.Needs.{needs}
 use Rattle.host_contracts.proofs.fresh.Statement.{statement}
 use Rattle.host_contracts.proofs.fresh.Tie as tie
 

@@ -1,15 +1,10 @@
 -- `host_contracts::has_free` meets its contract. The loop's invariant: the answer is that of the places that are left to look at.
 -- Assumes nothing.
-use mathlib.Core.Path.{_≡_, sym, ap, _∙_}
-use mathlib.Core.Bool.{not}
-use Prim.Native.Nat.{_-_}
-use native.Mathlib.Omega.{arith}
-use lib.Seq.{slice}
+use Rattle.lists.proofs.Kit.{_≡_, sym, ap, _∙_, not, _-_, arith, slice, needs}
 use Rattle.lists.specs.Tests.{some}
 use Rattle.lists.proofs.Laws.Slices.{slice-all, some-here, some-further, some-done}
 use Rattle.host.specs.declared.Place.{Place}
 use Rattle.host.proofs.Laws.Places.{blank}
-use borrow.Author.Needs.{needs}
 use Rattle.host_contracts.proofs.has_free.Statement.{statement}
 use Rattle.host_contracts.proofs.has_free.Tie as tie
 
@@ -21,14 +16,14 @@ abbrev μ-loop : tie.MeasureT-loop
 
 returns : tie.Need-returns Inv-loop μ-loop
 returns c =
-    let l = c .before .before .before .before .loop in
-    let s = c .before .before .before .before .before in
+    let in-loop = c .before .before .before in let at-loop = in-loop .before in let s = at-loop .before in
+    let l = at-loop .loop in
     some-here (λ (p : Place). not (p .held)) (s .args .t1) (l .i) 8 blank (s .good .0 .1 .0 .1) (omega arith) (omega arith) (c .if1 .taken) ∙ sym (l .inv)
 
 loop-again : tie.Need-loop-again Inv-loop μ-loop
 loop-again c =
-    let l = c .before .before .before .before .loop in
-    let s = c .before .before .before .before .before in
+    let in-loop = c .before .before .before in let at-loop = in-loop .before in let s = at-loop .before in
+    let l = at-loop .loop in
     l .inv ∙ some-further (λ (p : Place). not (p .held)) (s .args .t1) (l .i) 8 blank (s .good .0 .1 .0 .1) (omega arith) (omega arith) (c .if1 .left)
 
 pub has-free-spec : {M : Type 1} → statement M

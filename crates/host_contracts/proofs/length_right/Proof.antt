@@ -1,9 +1,7 @@
 -- `host_contracts::length_right` meets its contract. Assumes nothing.
-use mathlib.Core.Path.{refl}
-use borrow.Author.Tests.{eq-eqb, ne-eqb}
+use Rattle.lists.proofs.Kit.{refl, eq-eqb, ne-eqb, needs}
 use Rattle.lists.proofs.Laws.Pick.{yes, no}
 use Rattle.host.specs.Calls.{lengthRight}
-use borrow.Author.Needs.{needs}
 use Rattle.host_contracts.proofs.length_right.Statement.{statement}
 use Rattle.host_contracts.proofs.length_right.Tie as tie
 

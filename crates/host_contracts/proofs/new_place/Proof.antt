@@ -1,5 +1,5 @@
 -- `host_contracts::new_place` meets its contract. Assumes nothing.
-use mathlib.Core.Path.{refl}
+use Rattle.lists.proofs.Kit.{refl}
 use Rattle.host.specs.Empty.{newPlace}
 use Rattle.host_contracts.proofs.new_place.Statement.{statement}
 use Rattle.host_contracts.proofs.new_place.Tie as tie

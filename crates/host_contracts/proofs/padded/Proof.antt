@@ -1,18 +1,9 @@
 -- `host_contracts::padded` meets its contract. The loop's invariant: the answer is that of the bytes that are left to look at.
 -- Assumes nothing.
-use mathlib.Core.Path.{_≡_, sym, ap, _∙_}
-use mathlib.Core.Bool.{Bool}
-use mathlib.Core.List.{List}
-use Prim.Native.Nat.{ℕ, _-_}
-use native.Mathlib.Omega.{arith}
-use lib.Dec.{eqb}
-use lib.ListN.{drop}
-use lib.Seq.{slice}
-use borrow.Author.Tests.{eq-eqb, ne-eqb}
+use Rattle.lists.proofs.Kit.{_≡_, sym, ap, _∙_, Bool, List, ℕ, _-_, arith, eqb, drop, slice, eq-eqb, ne-eqb, needs}
 use Rattle.lists.specs.Tests.{every}
 use Rattle.lists.proofs.Laws.Slices.{slice-all, every-stops, every-further, every-done}
 use Rattle.host.specs.Calls.{padded}
-use borrow.Author.Needs.{needs}
 use Rattle.host_contracts.proofs.padded.Statement.{statement}
 use Rattle.host_contracts.proofs.padded.Tie as tie
 

@@ -1,8 +1,7 @@
 -- `host_contracts::unmade` meets its contract. Assumes nothing.
-use mathlib.Core.Path.{ap}
+use Rattle.lists.proofs.Kit.{ap, needs}
 use Rattle.host.specs.Calls.{answered}
 use Rattle.host.specs.declared.Host.{Host}
-use borrow.Author.Needs.{needs}
 use Rattle.host_contracts.proofs.unmade.Statement.{statement}
 use Rattle.host_contracts.proofs.unmade.Tie as tie
 

@@ -1,8 +1,6 @@
 -- A test that the code makes of a clause: where it goes on, the clause holds and the rest decides; where it stops, the answer is no.
 -- Assumes nothing.
-use mathlib.Core.Path.{_≡_, refl, sym, _∙_}
-use mathlib.Core.Bool.{Bool, true, false, not}
-use borrow.Author.Tests.{not-true, not-false}
+use Rattle.lists.proofs.Kit.{_≡_, refl, sym, _∙_, Bool, true, false, not, not-true, not-false}
 use Rattle.lists.specs.Pick.{both}
 use Rattle.lists.proofs.Laws.Pick.{yes, no}
 

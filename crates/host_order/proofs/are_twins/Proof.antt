@@ -1,9 +1,7 @@
 -- `host_order::are_twins` meets its contract: a walk down the definition. Assumes nothing.
-use mathlib.Core.Path.{refl}
-use borrow.Author.Tests.{not-true, not-false}
+use Rattle.lists.proofs.Kit.{refl, not-true, not-false, needs}
 use Rattle.lists.proofs.Laws.Pick.{yes, no}
 use Rattle.host.specs.Order.{twins}
-use borrow.Author.Needs.{needs}
 use Rattle.host_order.proofs.are_twins.Statement.{statement}
 use Rattle.host_order.proofs.are_twins.Tie as tie
 

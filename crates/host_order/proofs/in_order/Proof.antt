@@ -1,7 +1,5 @@
 -- `host_order::in_order` meets its contract: a walk down the definition. Assumes nothing.
-use mathlib.Core.Path.{_≡_, refl, sym, _∙_}
-use mathlib.Core.Bool.{Bool}
-use borrow.Author.Tests.{not-false}
+use Rattle.lists.proofs.Kit.{_≡_, refl, sym, _∙_, Bool, not-false, needs}
 use Rattle.lists.specs.Pick.{both}
 use Rattle.lists.proofs.Laws.Pick.{yes, no}
 use Rattle.area.specs.Slots.{Size}
@@ -11,7 +9,6 @@ use Rattle.host.specs.Order.{lent, inOrder}
 use Rattle.host.specs.declared.Host.{Host}
 use Rattle.host.proofs.Laws.Sizes.{size-facts}
 use Rattle.host.proofs.Laws.Order.{lent-facts}
-use borrow.Author.Needs.{needs}
 use Rattle.host_order.proofs.Laws.Tests.{on, off}
 use Rattle.host_order.proofs.in_order.Statement.{statement}
 use Rattle.host_order.proofs.in_order.Tie as tie

@@ -1,19 +1,12 @@
 -- `host_order::no_twins` meets its contract. The loop's invariant: the answer is that of the places that are left to look at.
 -- Assumes nothing.
-use mathlib.Core.Path.{_≡_, refl, sym, ap, _∙_}
-use mathlib.Core.Bool.{false}
-use mathlib.Core.List.{List, [], _∷_}
-use Prim.Native.Nat.{_-_}
-use native.Mathlib.Omega.{arith}
-use lib.Seq.{slice}
-use borrow.Author.Tests.{not-true}
+use Rattle.lists.proofs.Kit.{_≡_, refl, sym, ap, _∙_, false, List, [], _∷_, _-_, arith, slice, not-true, needs}
 use Rattle.lists.specs.Tests.{some, apart}
 use Rattle.lists.proofs.Laws.Pick.{both-not-left, either-join}
 use Rattle.lists.proofs.Laws.Slices.{slice-all, apart-stops, apart-further, apart-done}
 use Rattle.host.specs.Order.{twins}
 use Rattle.host.specs.declared.Place.{Place}
 use Rattle.host.proofs.Laws.Places.{blank}
-use borrow.Author.Needs.{needs}
 use Rattle.host_order.proofs.no_twins.Statement.{statement}
 use Rattle.host_order.proofs.no_twins.Tie as tie
 
@@ -40,18 +33,16 @@ loop-again c =
 
 returns : tie.Need-returns Inv-loop μ-loop
 returns c =
-    let test = c .before .before .before .before .before in
+    let else1 = c .before .before in let test = else1 .before .before .before in let s = test .before .before in
     let l = test .before .loop in
-    let s = test .before .before in
     apart-stops twins (s .args .t1) (l .i) 8 blank (s .good .0 .1 .0 .1) (omega (arith, test .loop-test .taken)) (omega arith)
     (sym (c .before .has-twin .ensures) ∙ c .if2 .taken)
     ∙ sym (l .inv)
 
 loop-again-2 : tie.Need-loop-again-2 Inv-loop μ-loop
 loop-again-2 c =
-    let test = c .before .before .before .before .before in
+    let else1 = c .before .before in let test = else1 .before .before .before in let s = test .before .before in
     let l = test .before .loop in
-    let s = test .before .before in
     l .inv
     ∙ apart-further twins (s .args .t1) (l .i) 8 blank (s .good .0 .1 .0 .1) (omega (arith, test .loop-test .taken)) (omega arith)
     (sym (c .before .has-twin .ensures) ∙ c .if2 .left)

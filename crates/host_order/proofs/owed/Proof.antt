@@ -1,5 +1,5 @@
 -- `host_order::owed` meets its contract. Assumes nothing.
-use mathlib.Core.Path.{refl}
+use Rattle.lists.proofs.Kit.{refl}
 use Rattle.lists.proofs.Laws.Pick.{yes, no}
 use Rattle.host_order.proofs.owed.Statement.{statement}
 use Rattle.host_order.proofs.owed.Tie as tie

@@ -1,9 +1,8 @@
 -- `host_order::parent_in_order` meets its contract. Assumes nothing.
-use mathlib.Core.Path.{refl, sym, ap, _∙_}
+use Rattle.lists.proofs.Kit.{refl, sym, ap, _∙_, needs}
 use Rattle.lists.proofs.Laws.Pick.{yes, no}
 use Rattle.host.specs.Order.{parentInOrder}
 use Rattle.host.specs.declared.Place.{Place}
-use borrow.Author.Needs.{needs}
 use Rattle.host_order.proofs.parent_in_order.Statement.{statement}
 use Rattle.host_order.proofs.parent_in_order.Tie as tie
 

@@ -1,10 +1,7 @@
 -- `host_order::place_in_order` meets its contract: a walk down the definition. Assumes nothing.
-use mathlib.Core.Path.{refl, sym, ap, _∙_}
-use mathlib.Core.Bool.{not}
-use borrow.Author.Tests.{eq-eqb, ne-eqb}
+use Rattle.lists.proofs.Kit.{refl, sym, ap, _∙_, not, eq-eqb, ne-eqb, needs}
 use Rattle.lists.proofs.Laws.Pick.{yes, no}
 use Rattle.host.specs.Order.{placeInOrder}
-use borrow.Author.Needs.{needs}
 use Rattle.host_order.proofs.place_in_order.Statement.{statement}
 use Rattle.host_order.proofs.place_in_order.Tie as tie
 

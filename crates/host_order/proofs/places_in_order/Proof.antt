@@ -1,9 +1,7 @@
 -- `host_order::places_in_order` meets its contract: a walk down the definition. Assumes nothing.
-use mathlib.Core.Path.{ap, _∙_}
-use lib.Dec.{ltb, eqb}
+use Rattle.lists.proofs.Kit.{ap, _∙_, ltb, eqb, needs}
 use Rattle.lists.specs.Tests.{every, apart}
 use Rattle.host.specs.Order.{placesInOrder}
-use borrow.Author.Needs.{needs}
 use Rattle.host_order.proofs.Laws.Tests.{on, off}
 use Rattle.host_order.proofs.places_in_order.Statement.{statement}
 use Rattle.host_order.proofs.places_in_order.Tie as tie

@@ -1,17 +1,10 @@
 -- `host_order::progress_in_order` meets its contract: a walk down the definition. Assumes nothing.
-use mathlib.Core.Path.{_≡_, refl, ap, _∙_}
-use mathlib.Core.Bool.{Bool}
-use Prim.Native.Nat.{ℕ, _+_, _/_}
-use native.Mathlib.Nat.{mul-le-mul}
-use native.Mathlib.Omega.{arith}
-use lib.Dec.{leb}
-use borrow.Author.Tests.{eq-eqb, ne-eqb, le-leb, lt-leb}
+use Rattle.lists.proofs.Kit.{_≡_, refl, ap, _∙_, Bool, ℕ, _+_, _/_, mul-le-mul, arith, leb, eq-eqb, ne-eqb, le-leb, lt-leb, needs}
 use Rattle.lists.specs.Pick.{pick, both}
 use Rattle.lists.proofs.Laws.Pick.{yes, no}
 use Rattle.area.proofs.Laws.Slots.{some}
 use Rattle.host.specs.Order.{stagedInOrder, progressInOrder}
 use Rattle.host.specs.declared.Place.{Place}
-use borrow.Author.Needs.{needs}
 use Rattle.host_order.proofs.Laws.Tests.{on, off}
 use Rattle.host_order.proofs.progress_in_order.Statement.{statement}
 use Rattle.host_order.proofs.progress_in_order.Tie as tie
@@ -24,7 +17,7 @@ abbrev two : tie.Else3 → tie.Else2
 two c = c .before .before .before
 
 abbrev start-2 : tie.Else2 → tie.Start
-start-2 c = let at = one c in at .before .before .before .before .before
+start-2 c = let at = one c in (let back-3 = at .before .before .before in back-3 .before .before)
 
 abbrev start : tie.Else4 → tie.Start
 start c = start-2 (two (c .before .before))

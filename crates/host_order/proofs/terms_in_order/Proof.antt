@@ -1,9 +1,7 @@
 -- `host_order::terms_in_order` meets its contract: a walk down the definition. Assumes nothing.
-use mathlib.Core.Path.{refl}
-use borrow.Author.Tests.{le-leb, lt-leb}
+use Rattle.lists.proofs.Kit.{refl, le-leb, lt-leb, needs}
 use Rattle.lists.proofs.Laws.Pick.{yes, no}
 use Rattle.host.specs.Order.{termsInOrder}
-use borrow.Author.Needs.{needs}
 use Rattle.host_order.proofs.Laws.Tests.{on, off}
 use Rattle.host_order.proofs.terms_in_order.Statement.{statement}
 use Rattle.host_order.proofs.terms_in_order.Tie as tie

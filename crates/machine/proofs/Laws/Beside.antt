@@ -1,12 +1,6 @@
 -- Slots of an area with a root kept beside each, and what a host in order has of them. z is the sector size. Assumes nothing.
-use mathlib.Core.Path.{_≡_, refl, sym, ap, ap₂, _∙_}
-use mathlib.Core.Bool.{true, false}
-use mathlib.Core.List.{List, [], _∷_}
-use Prim.Native.Nat.{ℕ, _*_, _≤_, _<_}
-use native.Mathlib.Omega.{arith}
-use lib.ListN.{length, getD}
-use lib.Dec.{ltb, eqb}
-use borrow.Author.Tests.{ltb-true, eqb-true, ne-eqb}
+use Rattle.lists.proofs.Kit.{_≡_, refl, sym, ap, ap₂, _∙_, true, false, List, [], _∷_, ℕ, _*_, _≤_, _<_, arith, length, getD, ltb, eqb, ltb-true, eqb-true}
+use Rattle.lists.proofs.Kit.{ne-eqb}
 use Rattle.lists.specs.Pick.{both}
 use Rattle.lists.specs.Tests.{every}
 use Rattle.lists.proofs.Laws.Pick.{skips, both-left, both-right, both-join}

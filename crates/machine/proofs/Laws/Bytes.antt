@@ -1,12 +1,6 @@
 -- What stage slots hold copied back, position by position. Slots have z bytes. Assumes nothing.
-use mathlib.Core.Path.{_≡_, sym, ap, _∙_, subst}
-use mathlib.Core.Bool.{true, false}
-use mathlib.Core.List.{List}
-use Prim.Native.Nat.{ℕ, suc, _+_, _-_, _*_, _≤_, _<_}
+use Rattle.lists.proofs.Kit.{_≡_, sym, ap, _∙_, subst, true, false, List, ℕ, suc, _+_, _-_, _*_, _≤_, _<_, arith, length, getD, eqb}
 use native.Mathlib.Numerals.{add-one}
-use native.Mathlib.Omega.{arith}
-use lib.ListN.{length, getD}
-use lib.Dec.{eqb}
 use Rattle.lists.proofs.Laws.Pick.{by, picks, skips}
 use Rattle.lists.proofs.Laws.Entries.{any-default}
 use Rattle.area.specs.Area.{part, put}

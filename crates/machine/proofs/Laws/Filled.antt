@@ -1,10 +1,6 @@
 -- Slots in an array with zeros behind them: kept ones, new ones behind those, and the final slots. z is the sector size. Assumes nothing.
-use mathlib.Core.Path.{_≡_, refl, sym, ap, _∙_}
-use mathlib.Core.Bool.{true, false}
-use mathlib.Core.List.{List, [], _∷_, _++_, append-assoc}
-use Prim.Native.Nat.{ℕ, zero, suc, _+_, _-_, _/_, _≤_, min}
-use native.Mathlib.Omega.{arith}
-use lib.ListN.{length, take, length-take, length-append}
+use Rattle.lists.proofs.Kit.{_≡_, refl, sym, ap, _∙_, true, false, List, [], _∷_, _++_, append-assoc, ℕ, zero, suc, _+_, _-_, _/_, _≤_, min, arith, length}
+use Rattle.lists.proofs.Kit.{take, length-take, length-append}
 use Rattle.lists.proofs.Laws.Pick.{by, picks, skips}
 use Rattle.area.specs.Area.{put, zeros}
 use Rattle.area.proofs.Laws.Puts.{cons}

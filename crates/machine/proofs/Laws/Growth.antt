@@ -1,10 +1,7 @@
 -- A difference of two sizes is a number that 64 bits with a sign hold. Assumes nothing.
-use mathlib.Core.Bool.{Bool, true, false, cond}
-use Prim.Native.Nat.{ℕ, zero, suc, _-_, _<_, _^_}
-use native.Mathlib.Omega.{arith}
+use Rattle.lists.proofs.Kit.{Bool, true, false, cond, ℕ, zero, suc, _-_, _<_, _^_, arith, ltb}
 use lib.IntN.{pos, negsuc, _-ℤ_}
 use lib.Signed.{mag}
-use lib.Dec.{ltb}
 use mir.Syntax.{w64}
 use mir.Val.{SFits, toZ}
 use mir.Facts.{toZ-pos}

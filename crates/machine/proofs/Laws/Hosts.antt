@@ -1,11 +1,6 @@
 -- What a host in order gives the calls. Assumes nothing.
-use mathlib.Core.Path.{_≡_, refl, sym, ap, ap₂, _∙_}
-use mathlib.Core.Bool.{Bool, true, false, not}
-use mathlib.Core.List.{List, []}
-use Prim.Native.Nat.{ℕ, _+_, _≤_}
-use native.Mathlib.Omega.{arith}
-use lib.ListN.{length}
-use borrow.Author.Tests.{leb-true, not-true, not-false, eqb-true}
+use Rattle.lists.proofs.Kit.{_≡_, refl, sym, ap, ap₂, _∙_, Bool, true, false, not, List, [], ℕ, _+_, _≤_, arith, length, leb-true, not-true, not-false}
+use Rattle.lists.proofs.Kit.{eqb-true}
 use Rattle.lists.specs.Pick.{pick, both}
 use Rattle.lists.proofs.Laws.Pick.{picks, skips, both-left, both-right, both-join, both-not-left}
 use Rattle.area.specs.Area.{put}

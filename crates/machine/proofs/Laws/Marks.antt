@@ -1,13 +1,6 @@
 -- Marks of slots say what a list of used slots says: the lowest slot without a mark is the lowest that is not used. Assumes nothing.
-use mathlib.Core.Path.{_≡_, refl, sym, ap, _∙_}
-use mathlib.Core.Bool.{Bool, true, false, not}
-use mathlib.Core.List.{List, [], _∷_, _++_, append-nil}
-use Prim.Native.Nat.{ℕ, zero, suc, _+_, _≤_, _<_}
-use native.Mathlib.Omega.{arith}
-use lib.ListN.{length, getD, set, length-set, length-replicate, getD-replicate}
-use lib.Seq.{getD-set-same, getD-set-other, ext-getD}
-use lib.Dec.{eqb}
-use borrow.Author.Tests.{eqb-true, eqb-false}
+use Rattle.lists.proofs.Kit.{_≡_, refl, sym, ap, _∙_, Bool, true, false, not, List, [], _∷_, _++_, append-nil, ℕ, zero, suc, _+_, _≤_, _<_, arith, length}
+use Rattle.lists.proofs.Kit.{getD, set, length-set, length-replicate, getD-replicate, getD-set-same, getD-set-other, ext-getD, eqb, eqb-true, eqb-false}
 use Rattle.lists.specs.Pick.{pick, either}
 use Rattle.lists.specs.Tests.{some, unused}
 use Rattle.lists.specs.Lowest.{lowest}

@@ -1,8 +1,5 @@
 -- What a host in order gives the look-up, with a program and with none, and that it looks through what the call is to. Assumes nothing.
-use mathlib.Core.Path.{_≡_, sym}
-use mathlib.Core.Bool.{true, false}
-use Prim.Native.Nat.{_*_}
-use lib.ListN.{length}
+use Rattle.lists.proofs.Kit.{_≡_, sym, true, false, _*_, length}
 use Rattle.lists.specs.Pick.{pick}
 use Rattle.lists.proofs.Laws.Pick.{picks, skips}
 use Rattle.area.specs.Area.{same, zeros}

@@ -1,5 +1,5 @@
 -- The arrays of a host that code is given are as long as declared: what a function is told of a parameter, as rules' `Declared`. Assumes nothing.
-use mathlib.Core.List.{List, [], _∷_, map}
+use Rattle.lists.proofs.Kit.{List, [], _∷_, map}
 use mir.Val.{Val}
 use denote.Laws.{Is}
 use denote.Array.{each}

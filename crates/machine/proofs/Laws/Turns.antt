@@ -1,10 +1,5 @@
 -- One turn of the loops over slots: a mark for one more slot that is listed, and one more new slot. Assumes nothing.
-use mathlib.Core.Path.{_≡_, sym, ap, _∙_}
-use mathlib.Core.List.{List, [], _∷_}
-use Prim.Native.Nat.{ℕ, suc, _+_, _-_, _≤_, _<_}
-use native.Mathlib.Omega.{arith}
-use lib.ListN.{length, getD, set}
-use lib.Seq.{slice}
+use Rattle.lists.proofs.Kit.{_≡_, sym, ap, _∙_, List, [], _∷_, ℕ, suc, _+_, _-_, _≤_, _<_, arith, length, getD, set, slice}
 use Rattle.lists.specs.Lowest.{lowest}
 use Rattle.lists.proofs.Laws.Slices.{slice-none, slice-one}
 use Rattle.area.specs.Area.{put}

@@ -1,11 +1,5 @@
 -- What each instruction's arm asks, out of what is asked for all; and the code's arm. z is the sector size. Assumes nothing.
-use mathlib.Core.Path.{_≡_, sym, ap, _∙_, subst}
-use mathlib.Core.List.{List, [], _∷_}
-use Prim.Native.Nat.{ℕ, _+_, _*_, _/_, _≤_, _<_}
-use native.Mathlib.Omega.{arith}
-use lib.ListN.{length, getD}
-use lib.Dec.{ltb, eqb}
-use borrow.Author.Tests.{lt-ltb, eqb-true}
+use Rattle.lists.proofs.Kit.{_≡_, sym, ap, _∙_, subst, List, [], _∷_, ℕ, _+_, _*_, _/_, _≤_, _<_, arith, length, getD, ltb, eqb, lt-ltb, eqb-true}
 use Rattle.lists.specs.Pick.{pick}
 use Rattle.lists.proofs.Laws.Pick.{by, picks, skips}
 use Rattle.host.specs.Empty.{none}

@@ -1,10 +1,6 @@
 -- Copies of sectors in the stage: what is read of a position, and what the code makes where one gets a copy. z is the sector size.
 -- Assumes nothing.
-use mathlib.Core.Path.{_≡_, sym, ap, _∙_}
-use mathlib.Core.Bool.{true, false}
-use mathlib.Core.List.{List}
-use Prim.Native.Nat.{ℕ, _*_}
-use lib.ListN.{getD, set, replicate}
+use Rattle.lists.proofs.Kit.{_≡_, sym, ap, _∙_, true, false, List, ℕ, _*_, getD, set, replicate}
 use Rattle.lists.proofs.Laws.Pick.{picks, skips}
 use Rattle.area.specs.Area.{part, put, zeros}
 use Rattle.host.specs.Empty.{none}

@@ -1,15 +1,8 @@
 -- A copy that is made keeps what effects rely on: every sector reads as before, and bytes laid before or after it are the same.
 -- z is the sector size. Assumes nothing.
-use mathlib.Core.Path.{_≡_, refl, sym, ap, _∙_, subst}
+use Rattle.lists.proofs.Kit.{_≡_, refl, sym, ap, _∙_, subst, Bool, true, false, List, ℕ, _+_, _*_, _/_, _%_, _≤_, _<_, arith, length, getD, set}
+use Rattle.lists.proofs.Kit.{getD-set-same, getD-set-other, eqb, eqb-true, eqb-false, ne-eqb, ltb-true}
 use mathlib.Core.Logic.{_⊎_, inl, inr, ⊎-elim}
-use mathlib.Core.Bool.{Bool, true, false}
-use mathlib.Core.List.{List}
-use Prim.Native.Nat.{ℕ, _+_, _*_, _/_, _%_, _≤_, _<_}
-use native.Mathlib.Omega.{arith}
-use lib.ListN.{length, getD, set}
-use lib.Seq.{getD-set-same, getD-set-other}
-use lib.Dec.{eqb}
-use borrow.Author.Tests.{eqb-true, eqb-false, ne-eqb, ltb-true}
 use Rattle.lists.proofs.Laws.Pick.{by, never, either-second}
 use Rattle.lists.proofs.Laws.Every.{every-set, every-at}
 use Rattle.area.specs.Area.{part, put}

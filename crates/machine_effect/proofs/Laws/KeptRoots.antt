@@ -1,12 +1,7 @@
 -- Roots laid beside slots, as the code does it: of one position, of Swap's two, of the one that growth adds. z is the sector size.
 -- Assumes nothing.
-use mathlib.Core.Path.{_≡_, refl, sym, ap, _∙_}
-use mathlib.Core.List.{List, [], _∷_}
-use Prim.Native.Nat.{ℕ, _+_, _-_, _*_, _/_, _≤_, _<_}
-use native.Mathlib.Omega.{arith}
-use lib.ListN.{length, take, drop, getD}
-use lib.Dec.{ltb, eqb}
-use borrow.Author.Tests.{ltb-true, eq-eqb, ne-eqb}
+use Rattle.lists.proofs.Kit.{_≡_, refl, sym, ap, _∙_, List, [], _∷_, ℕ, _+_, _-_, _*_, _/_, _≤_, _<_, arith, length, take, drop, getD, ltb, eqb, ltb-true}
+use Rattle.lists.proofs.Kit.{eq-eqb, ne-eqb}
 use Rattle.lists.specs.Pick.{pick}
 use Rattle.lists.proofs.Laws.Pick.{by, picks, skips}
 use Rattle.area.specs.Area.{part, put, zeros}

@@ -1,13 +1,6 @@
 -- What effects ask, from an instruction that passed its checks on a host in order. z is the sector size. Assumes nothing.
-use mathlib.Core.Path.{_≡_, sym, ap, _∙_, subst}
-use mathlib.Core.Bool.{true, false}
-use mathlib.Core.List.{List, [], _∷_}
-use Prim.Native.Nat.{ℕ, _+_, _*_, _/_, _≤_, _<_}
-use native.Mathlib.Nat.{div-lt-iff-lt-mul, mul-le-mul-right}
-use native.Mathlib.Omega.{arith}
-use lib.ListN.{length, getD}
-use lib.Dec.{ltb, eqb}
-use borrow.Author.Tests.{ltb-true, lt-ltb}
+use Rattle.lists.proofs.Kit.{_≡_, sym, ap, _∙_, subst, true, false, List, [], _∷_, ℕ, _+_, _*_, _/_, _≤_, _<_, div-lt-iff-lt-mul, mul-le-mul-right, arith}
+use Rattle.lists.proofs.Kit.{length, getD, ltb, eqb, ltb-true, lt-ltb}
 use Rattle.lists.specs.Pick.{pick}
 use Rattle.lists.specs.Tests.{those, count, unused}
 use Rattle.lists.proofs.Laws.Pick.{picks, either-left, either-right}

@@ -1,12 +1,5 @@
 -- Slots of the stage: where they begin and end, and what the lowest free one is. z is the sector size. Assumes nothing.
-use mathlib.Core.Path.{_≡_, sym, ap, _∙_}
-use mathlib.Core.Bool.{false}
-use mathlib.Core.List.{List, [], _∷_}
-use Prim.Native.Nat.{ℕ, zero, suc, _+_, _*_, _/_, _%_, _≤_, _<_}
-use native.Mathlib.Omega.{arith}
-use lib.ListN.{length, getD}
-use lib.Dec.{eqb}
-use borrow.Author.Tests.{eqb-false}
+use Rattle.lists.proofs.Kit.{_≡_, sym, ap, _∙_, false, List, [], _∷_, ℕ, zero, suc, _+_, _*_, _/_, _%_, _≤_, _<_, arith, length, getD, eqb, eqb-false}
 use Rattle.lists.specs.Tests.{some}
 use Rattle.lists.proofs.Laws.Entries.{any-default}
 use Rattle.lists.proofs.Laws.Some.{some-first, some-tail}

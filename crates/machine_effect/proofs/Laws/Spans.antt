@@ -1,10 +1,5 @@
 -- Spans read, written, copied and exchanged as the code does it, in terms of the definitions. z is the sector size. Assumes nothing.
-use mathlib.Core.Path.{_≡_, refl, sym, ap, _∙_, subst}
-use mathlib.Core.Bool.{true, false}
-use mathlib.Core.List.{List}
-use Prim.Native.Nat.{ℕ, _+_, _*_, _/_, _%_, _≤_}
-use native.Mathlib.Omega.{arith}
-use lib.ListN.{length, getD}
+use Rattle.lists.proofs.Kit.{_≡_, refl, sym, ap, _∙_, subst, true, false, List, ℕ, _+_, _*_, _/_, _%_, _≤_, arith, length, getD}
 use Rattle.lists.proofs.Laws.Entries.{any-default}
 use Rattle.area.specs.Area.{part, put, exchanged}
 use Rattle.area.proofs.Laws.Parts.{length-part, part-part}

@@ -1,6 +1,5 @@
 -- `machine_effect::effect` meets its contract: each arm does what its instruction means. Assumes nothing.
-use mathlib.Core.Path.{refl}
-use borrow.Author.Needs.{needs}
+use Rattle.lists.proofs.Kit.{refl, needs}
 use Rattle.machine_rules.specs.Effect.{effect}
 use Rattle.machine_effect.proofs.Laws.Cases.{arm, lent-alone, sized-alone, resized-alone}
 use Rattle.machine_effect.proofs.effect.Statement.{statement}

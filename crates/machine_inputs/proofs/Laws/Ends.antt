@@ -1,13 +1,6 @@
 -- One turn of the loop that looks for the largest end of operands. Assumes nothing.
-use mathlib.Core.Path.{_≡_, sym, ap, _∙_}
-use mathlib.Core.Bool.{false}
-use mathlib.Core.List.{List, _∷_}
-use Prim.Native.Nat.{ℕ, _+_, _≤_, _<_, max, min}
-use native.Mathlib.Omega.{arith}
-use lib.ListN.{length, take, getD}
-use lib.Seq.{slice, take-all}
-use lib.Dec.{leb}
-use borrow.Author.Tests.{leb-true, leb-false, ltb-false}
+use Rattle.lists.proofs.Kit.{_≡_, sym, ap, _∙_, false, List, _∷_, ℕ, _+_, _≤_, _<_, max, min, arith, length, take, getD, slice, take-all, leb, leb-true}
+use Rattle.lists.proofs.Kit.{leb-false, ltb-false}
 use Rattle.lists.specs.Tests.{some}
 use Rattle.lists.proofs.Laws.Pick.{by, either-left, either-right}
 use Rattle.lists.proofs.Laws.Slices.{slice-none, slice-one}

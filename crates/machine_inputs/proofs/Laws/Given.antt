@@ -1,12 +1,6 @@
 -- What the decoders tell, and the inputs of an instruction by its operands. Assumes nothing.
-use mathlib.Core.Path.{_≡_, refl, sym, ap, _∙_}
-use mathlib.Core.Bool.{true, false}
-use mathlib.Core.List.{List, [], _∷_}
-use Prim.Native.Nat.{ℕ, _+_, _-_, _≤_, _<_}
-use native.Mathlib.Omega.{arith}
-use lib.ListN.{length, take, drop, getD, length-drop}
-use lib.Seq.{length-take-le, take-all}
-use borrow.Author.Tests.{not-false, ltb-false, leb-true, le-leb, eq-eqb, ne-eqb, eqb-true}
+use Rattle.lists.proofs.Kit.{_≡_, refl, sym, ap, _∙_, true, false, List, [], _∷_, ℕ, _+_, _-_, _≤_, _<_, arith, length, take, drop, getD, length-drop}
+use Rattle.lists.proofs.Kit.{length-take-le, take-all, not-false, ltb-false, leb-true, le-leb, eq-eqb, ne-eqb, eqb-true}
 use Rattle.lists.specs.Tests.{some, each}
 use Rattle.lists.proofs.Laws.Pick.{yes, no, by, picks, skips, both-join, both-left, both-right, both-not-right, either-left, either-right}
 use Rattle.lists.proofs.Laws.Some.{some-taken}

@@ -1,9 +1,5 @@
 -- A sum that is never made: a limit counted down. Assumes nothing.
-use mathlib.Core.Path.{_≡_, sym, _∙_}
-use mathlib.Core.Bool.{Bool, true, false}
-use Prim.Native.Nat.{ℕ, _+_, _≤_, _<_}
-use lib.Dec.{ltb}
-use borrow.Author.Tests.{lt-ltb, le-ltb}
+use Rattle.lists.proofs.Kit.{_≡_, sym, _∙_, Bool, true, false, ℕ, _+_, _≤_, _<_, ltb, lt-ltb, le-ltb}
 use Rattle.lists.proofs.Laws.Pick.{by}
 
 -- a test that holds exactly where the sum is above the limit

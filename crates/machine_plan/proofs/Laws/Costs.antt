@@ -1,8 +1,5 @@
 -- Costs are far below 64 bits. Assumes nothing.
-use Prim.Native.Nat.{ℕ, _*_, _^_, _≤_, _<_}
-use native.Mathlib.Nat.{mul-le-mul}
-use native.Mathlib.Omega.{arith}
-use mathlib.Core.Path.{_≡_, subst}
+use Rattle.lists.proofs.Kit.{ℕ, _*_, _^_, _≤_, _<_, mul-le-mul, arith, _≡_, subst}
 use Rattle.sia.specs.declared.Op.{Op}
 use Rattle.machine_plan.specs.Numbers.{Small}
 

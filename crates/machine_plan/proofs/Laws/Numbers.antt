@@ -1,9 +1,5 @@
 -- Checks 26 to 42 look at numbers alone. Assumes nothing.
-use mathlib.Core.Path.{_≡_}
-use mathlib.Core.Bool.{false}
-use Prim.Native.Nat.{ℕ, _+_, _%_, _≤_}
-use native.Mathlib.Omega.{arith}
-use borrow.Author.Tests.{ltb-false}
+use Rattle.lists.proofs.Kit.{_≡_, false, ℕ, _+_, _%_, _≤_, arith, ltb-false}
 use Rattle.lists.proofs.Laws.Pick.{either-left, either-right}
 use Rattle.area.specs.Slots.{Size}
 use Rattle.machine_rules.specs.Plan.{badSpan, badSpans}

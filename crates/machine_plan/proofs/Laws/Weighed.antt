@@ -1,9 +1,5 @@
 -- Checks 41 and 27 in the definitions' words. Assumes nothing.
-use mathlib.Core.Path.{_≡_, sym, ap, _∙_}
-use mathlib.Core.Bool.{Bool, true, false, not}
-use Prim.Native.Nat.{ℕ}
-use lib.Dec.{leb, ltb}
-use borrow.Author.Tests.{leb-true, leb-false, le-ltb, lt-ltb}
+use Rattle.lists.proofs.Kit.{_≡_, sym, ap, _∙_, Bool, true, false, not, ℕ, leb, ltb, leb-true, leb-false, le-ltb, lt-ltb}
 use Rattle.lists.specs.Pick.{both}
 use Rattle.lists.proofs.Laws.Pick.{by, never, picks, either-left}
 use Rattle.area.specs.Slots.{Size}

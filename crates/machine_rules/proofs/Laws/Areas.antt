@@ -1,9 +1,5 @@
 -- Instructions keep the lengths of stage and output. Assumes nothing.
-use mathlib.Core.Path.{_≡_, refl, sym, ap, _∙_, subst}
-use mathlib.Core.List.{List, [], _∷_}
-use Prim.Native.Nat.{ℕ, zero, suc, _/_}
-use lib.ListN.{length, getD}
-use lib.Dec.{ltb, eqb}
+use Rattle.lists.proofs.Kit.{_≡_, refl, sym, ap, _∙_, subst, List, [], _∷_, ℕ, zero, suc, _/_, length, getD, ltb, eqb}
 use Rattle.lists.proofs.Laws.Pick.{by, picks, skips}
 use Rattle.area.specs.Area.{zeros}
 use Rattle.area.proofs.Laws.Puts.{length-put}

@@ -1,11 +1,5 @@
 -- No two staged positions have one slot, after one entry is set. Assumes nothing.
-use mathlib.Core.Path.{_≡_, refl, ap}
-use mathlib.Core.Bool.{true, false, not}
-use mathlib.Core.List.{List, [], _∷_}
-use Prim.Native.Nat.{ℕ, zero, suc}
-use lib.ListN.{set}
-use lib.Dec.{eqb}
-use borrow.Author.Tests.{not-true}
+use Rattle.lists.proofs.Kit.{_≡_, refl, ap, true, false, not, List, [], _∷_, ℕ, zero, suc, set, eqb, not-true}
 use Rattle.lists.specs.Tests.{some, apart}
 use Rattle.lists.proofs.Laws.Pick.{by, both-join, both-left, both-right, both-not-left, both-not-right, either-join}
 use Rattle.lists.proofs.Laws.Some.{eqb-swap, some-set, some-first, some-tail}

@@ -1,10 +1,5 @@
 -- The class of a number, by where it lies among document 01's numbers. Assumes nothing.
-use mathlib.Core.Path.{_≡_, refl}
-use mathlib.Core.Bool.{true, false}
-use Prim.Native.Nat.{ℕ, _≤_, _<_}
-use native.Mathlib.Omega.{arith}
-use lib.Dec.{eqb}
-use borrow.Author.Tests.{ne-eqb, le-leb, lt-leb}
+use Rattle.lists.proofs.Kit.{_≡_, refl, true, false, ℕ, _≤_, _<_, arith, eqb, ne-eqb, le-leb, lt-leb}
 use Rattle.lists.specs.Pick.{pick}
 use Rattle.lists.proofs.Laws.Pick.{yes, no, both-join, both-not-left, both-not-right}
 use Rattle.machine_rules.specs.Class.{between, classOf}

@@ -1,14 +1,8 @@
 -- What is known of an instruction that runs, and that its effect keeps the staged positions in order. Assumes nothing.
-use mathlib.Core.Path.{_≡_, refl, sym, ap, _∙_, subst}
-use mathlib.Core.Bool.{Bool, true, false, not}
-use mathlib.Core.List.{List, [], _∷_}
-use Prim.Native.Nat.{ℕ, zero, suc, _+_, _*_, _/_, _%_, _≤_, _<_}
-use native.Mathlib.Nat.{div-add-mod', div-lt-iff-lt-mul, div-le-of-le-mul, lt-of-mul-lt-mul-right, le-trans, suc-mul, mul-le-mul-right, le-of-mul-le-mul-right}
-use native.Mathlib.Omega.{arith}
-use lib.ListN.{length, drop, getD, set, length-set}
-use lib.Seq.{getD-set-same, getD-set-other}
-use lib.Dec.{ltb, eqb}
-use borrow.Author.Tests.{not-true, not-false, ltb-true, ltb-false, eqb-true, eqb-false, ne-eqb}
+use Rattle.lists.proofs.Kit.{_≡_, refl, sym, ap, _∙_, subst, Bool, true, false, not, List, [], _∷_, ℕ, zero, suc, _+_, _*_, _/_, _%_, _≤_, _<_}
+use Rattle.lists.proofs.Kit.{div-add-mod', div-lt-iff-lt-mul, div-le-of-le-mul, lt-of-mul-lt-mul-right, le-trans, suc-mul, mul-le-mul-right}
+use Rattle.lists.proofs.Kit.{le-of-mul-le-mul-right, arith, length, drop, getD, set, length-set, getD-set-same, getD-set-other, ltb, eqb, not-true}
+use Rattle.lists.proofs.Kit.{not-false, ltb-true, ltb-false, eqb-true, eqb-false, ne-eqb}
 use Rattle.lists.specs.Pick.{pick, both}
 use Rattle.lists.specs.Tests.{every, those, count, unused}
 use Rattle.lists.specs.Lowest.{lowest}

@@ -1,12 +1,6 @@
 -- Staged sectors copied back: a slot that none goes to keeps its bytes, and every other holds its sector. Assumes nothing.
-use mathlib.Core.Path.{_≡_, refl, sym, ap, ap₂, _∙_, subst}
-use mathlib.Core.Bool.{false}
-use mathlib.Core.List.{List, [], _∷_, _++_}
-use Prim.Native.Nat.{ℕ, zero, suc, _+_, _*_, _≤_, _<_}
-use native.Mathlib.Omega.{arith}
-use lib.ListN.{length, getD}
-use lib.Dec.{ltb, eqb}
-use borrow.Author.Tests.{ltb-true, ltb-false}
+use Rattle.lists.proofs.Kit.{_≡_, refl, sym, ap, ap₂, _∙_, subst, false, List, [], _∷_, _++_, ℕ, zero, suc, _+_, _*_, _≤_, _<_, arith, length, getD, ltb}
+use Rattle.lists.proofs.Kit.{eqb, ltb-true, ltb-false}
 use Rattle.lists.specs.Pick.{pick}
 use Rattle.lists.specs.Tests.{each}
 use Rattle.lists.specs.Tab.{tab}

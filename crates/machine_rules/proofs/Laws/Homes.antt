@@ -1,12 +1,6 @@
 -- The parent of a host in order is in one place, the first that has its id; in read-only mode, and with no program, no contract is the parent.
 -- z is the sector size. Assumes nothing.
-use mathlib.Core.Path.{_≡_, refl, sym, ap, ap₂, _∙_}
-use mathlib.Core.Bool.{Bool, true, false, not}
-use mathlib.Core.List.{List, [], _∷_, _++_}
-use Prim.Native.Nat.{ℕ, zero, suc}
-use native.Mathlib.Omega.{arith}
-use lib.ListN.{getD}
-use borrow.Author.Tests.{not-true}
+use Rattle.lists.proofs.Kit.{_≡_, refl, sym, ap, ap₂, _∙_, Bool, true, false, not, List, [], _∷_, _++_, ℕ, zero, suc, arith, getD, not-true}
 use Rattle.lists.specs.Pick.{pick}
 use Rattle.lists.specs.Tests.{every, apart, firstOf}
 use Rattle.lists.proofs.Laws.Pick.{by, picks, skips, never, both-left, both-right, second-not}

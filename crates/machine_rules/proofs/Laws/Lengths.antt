@@ -1,13 +1,7 @@
 -- A record is as long as its numbers say, so written bytes grow by its length. Assumes nothing.
-use mathlib.Core.Path.{_≡_, refl, sym, ap, _∙_}
-use mathlib.Core.Bool.{Bool, true, false, not}
-use mathlib.Core.List.{List, [], _∷_}
-use Prim.Native.Nat.{ℕ, zero, suc, _+_, _*_, _/_, _%_, _^_, _≤_, _<_}
-use native.Mathlib.Nat.{zero-mul, div-lt-iff-lt-mul, mul-le-mul-right}
-use native.Mathlib.Omega.{arith}
-use lib.ListN.{length, getD, length-append, length-replicate}
-use lib.Dec.{ltb, eqb}
-use borrow.Author.Tests.{not-false, ltb-true, ltb-false, eqb-true, eqb-false, eq-eqb}
+use Rattle.lists.proofs.Kit.{_≡_, refl, sym, ap, _∙_, Bool, true, false, not, List, [], _∷_, ℕ, zero, suc, _+_, _*_, _/_, _%_, _^_, _≤_, _<_, zero-mul}
+use Rattle.lists.proofs.Kit.{div-lt-iff-lt-mul, mul-le-mul-right, arith, length, getD, length-append, length-replicate, ltb, eqb, not-false, ltb-true}
+use Rattle.lists.proofs.Kit.{ltb-false, eqb-true, eqb-false, eq-eqb}
 use Rattle.lists.specs.Pick.{pick}
 use Rattle.lists.specs.Tests.{every}
 use Rattle.lists.proofs.Laws.Pick.{by, picks, skips, never, both-left, either-left, neither}

@@ -1,9 +1,5 @@
 -- What a commit leaves alone: contracts of other ids, and slots that are not the parent's. Assumes nothing.
-use mathlib.Core.Path.{_≡_, refl, sym, ap, ap₂, _∙_}
-use mathlib.Core.Bool.{Bool, true, false, not}
-use mathlib.Core.List.{List, [], _∷_, _++_}
-use Prim.Native.Nat.{ℕ}
-use borrow.Author.Tests.{not-true}
+use Rattle.lists.proofs.Kit.{_≡_, refl, sym, ap, ap₂, _∙_, Bool, true, false, not, List, [], _∷_, _++_, ℕ, not-true}
 use Rattle.lists.specs.Tests.{every, each}
 use Rattle.lists.proofs.Laws.Pick.{by, picks, skips, both-left, both-right, both-not-right}
 use Rattle.area.specs.Area.{same}

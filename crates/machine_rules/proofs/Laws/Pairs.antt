@@ -1,11 +1,5 @@
 -- The test of two pairs says yes exactly when they are equal; and the pairs where no contract is the parent. Assumes nothing.
-use mathlib.Core.Path.{_≡_, sym, ap, ap₂, _∙_}
-use mathlib.Core.Bool.{true, false}
-use mathlib.Core.List.{List, []}
-use Prim.Native.Nat.{ℕ, _/_}
-use native.Mathlib.Nat.{zero-div}
-use lib.ListN.{take}
-use borrow.Author.Tests.{eqb-true, eq-eqb}
+use Rattle.lists.proofs.Kit.{_≡_, sym, ap, ap₂, _∙_, true, false, List, [], ℕ, _/_, zero-div, take, eqb-true, eq-eqb}
 use Rattle.lists.specs.Tests.{each}
 use Rattle.lists.specs.Tab.{tab}
 use Rattle.lists.proofs.Laws.Pick.{by, skips, never, both-join, both-left, both-right}

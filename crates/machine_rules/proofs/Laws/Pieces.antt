@@ -1,12 +1,6 @@
 -- Pieces of one length, one after another: each is a part of all. Assumes nothing.
-use mathlib.Core.Path.{_≡_, sym, ap, _∙_}
-use mathlib.Core.Bool.{Bool, true}
-use mathlib.Core.List.{List, [], _∷_, _++_}
-use Prim.Native.Nat.{ℕ, zero, suc, _+_, _*_, _<_}
-use native.Mathlib.Nat.{suc-mul, zero-mul}
-use native.Mathlib.Omega.{arith}
-use lib.ListN.{length, take, drop, getD, length-append}
-use lib.Seq.{take-at, drop-append-add}
+use Rattle.lists.proofs.Kit.{_≡_, sym, ap, _∙_, Bool, true, List, [], _∷_, _++_, ℕ, zero, suc, _+_, _*_, _<_, suc-mul, zero-mul, arith, length, take, drop}
+use Rattle.lists.proofs.Kit.{getD, length-append, take-at, drop-append-add}
 use Rattle.lists.specs.Tests.{every}
 use Rattle.lists.proofs.Laws.Pick.{both-left, both-right}
 use Rattle.area.specs.Area.{part}

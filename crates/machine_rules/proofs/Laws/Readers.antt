@@ -1,13 +1,6 @@
 -- Two readers of roots that agree on what is seen give the same roots, look-ups, proofs and checks. Assumes nothing.
-use mathlib.Core.Path.{_≡_, refl, sym, ap, ap₂, _∙_, subst}
-use mathlib.Core.Bool.{Bool, true, false, not}
-use mathlib.Core.List.{List, [], _∷_, _++_}
-use Prim.Native.Nat.{ℕ, _+_, _/_, _%_, _≤_, _<_}
-use native.Mathlib.Nat.{zero-div}
-use native.Mathlib.Omega.{arith}
-use lib.ListN.{length, take, getD, length-take, length-replicate}
-use lib.Seq.{getD-take}
-use lib.Dec.{eqb}
+use Rattle.lists.proofs.Kit.{_≡_, refl, sym, ap, ap₂, _∙_, subst, Bool, true, false, not, List, [], _∷_, _++_, ℕ, _+_, _/_, _%_, _≤_, _<_, zero-div, arith}
+use Rattle.lists.proofs.Kit.{length, take, getD, length-take, length-replicate, getD-take, eqb}
 use Rattle.lists.specs.Pick.{pick, both}
 use Rattle.lists.specs.Tests.{every}
 use Rattle.lists.proofs.Laws.Pick.{by, picks, skips, both-left, both-right}

@@ -1,12 +1,6 @@
 -- The roots kept beside the stage's slots after an instruction: right where they were right before. Assumes nothing.
-use mathlib.Core.Path.{_≡_, refl, sym, ap, _∙_, subst}
-use mathlib.Core.Bool.{true, false, not}
-use mathlib.Core.List.{List, [], _∷_}
-use Prim.Native.Nat.{ℕ, zero, suc, _+_, _*_, _≤_, _<_}
-use native.Mathlib.Omega.{arith}
-use lib.ListN.{length, getD}
-use lib.Dec.{ltb, eqb}
-use borrow.Author.Tests.{not-true, ltb-true, ltb-false, eqb-true, eqb-false, eq-eqb}
+use Rattle.lists.proofs.Kit.{_≡_, refl, sym, ap, _∙_, subst, true, false, not, List, [], _∷_, ℕ, zero, suc, _+_, _*_, _≤_, _<_, arith, length, getD, ltb}
+use Rattle.lists.proofs.Kit.{eqb, not-true, ltb-true, ltb-false, eqb-true, eqb-false, eq-eqb}
 use Rattle.lists.specs.Pick.{either, both}
 use Rattle.lists.specs.Tests.{some, apart}
 use Rattle.lists.proofs.Laws.Pick.{by, picks, skips, never, both-left, both-right, both-join, either-left, either-right, either-else}

@@ -1,13 +1,7 @@
 -- A search by root in which at most one place is mine: the look-up finds the first sector that has the root, in the order that is stated. f reads
 -- roots. Assumes nothing.
-use mathlib.Core.Path.{_≡_, refl, sym, ap, _∙_}
-use mathlib.Core.Bool.{Bool, true, false, not}
-use mathlib.Core.List.{List, [], _∷_}
-use Prim.Native.Nat.{ℕ, zero, suc, _≤_, _<_}
-use native.Mathlib.Omega.{arith}
-use lib.ListN.{length, getD}
-use lib.Dec.{ltb, eqb}
-use borrow.Author.Tests.{eqb-true, eqb-false, eq-eqb, ne-eqb, ltb-true, ltb-false}
+use Rattle.lists.proofs.Kit.{_≡_, refl, sym, ap, _∙_, Bool, true, false, not, List, [], _∷_, ℕ, zero, suc, _≤_, _<_, arith, length, getD, ltb, eqb}
+use Rattle.lists.proofs.Kit.{eqb-true, eqb-false, eq-eqb, ne-eqb, ltb-true, ltb-false}
 use Rattle.lists.specs.Pick.{pick, both, either}
 use Rattle.lists.specs.Tests.{each, firstOf}
 use Rattle.lists.proofs.Laws.Pick.{by, picks, skips, never}

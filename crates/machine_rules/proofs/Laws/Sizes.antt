@@ -1,14 +1,6 @@
 -- Sizes of contracts in order: whole sectors, and together no more than their slots. Assumes nothing.
-use mathlib.Core.Path.{_≡_, refl, sym, ap, _∙_, subst}
-use mathlib.Core.Bool.{Bool, true, false, not}
-use mathlib.Core.List.{List, [], _∷_}
-use Prim.Native.Nat.{ℕ, _+_, _*_, _/_, _%_, _≤_}
-use native.Mathlib.Nat.{add-mul, zero-mod}
-use native.Mathlib.Omega.{arith}
-use lib.ListN.{length, take, length-append}
-use lib.Seq.{length-take-le}
-use lib.Dec.{eqb}
-use borrow.Author.Tests.{not-true, leb-true, eqb-true}
+use Rattle.lists.proofs.Kit.{_≡_, refl, sym, ap, _∙_, subst, Bool, true, false, not, List, [], _∷_, ℕ, _+_, _*_, _/_, _%_, _≤_, add-mul, zero-mod, arith}
+use Rattle.lists.proofs.Kit.{length, take, length-append, length-take-le, eqb, not-true, leb-true, eqb-true}
 use Rattle.lists.specs.Pick.{pick, both}
 use Rattle.lists.specs.Tests.{every, each, sum}
 use Rattle.lists.proofs.Laws.Pick.{by, picks, skips, never, both-left, both-right, both-join, second-not}

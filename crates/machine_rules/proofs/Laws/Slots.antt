@@ -1,12 +1,5 @@
 -- New slots: each the lowest that is not used, so they are distinct, unused and below the disk where enough are free. Assumes nothing.
-use mathlib.Core.Path.{_≡_, refl, ap}
-use mathlib.Core.Bool.{true, not}
-use mathlib.Core.List.{List, _∷_}
-use Prim.Native.Nat.{ℕ, zero, suc, _≤_}
-use native.Mathlib.Omega.{arith}
-use lib.ListN.{length}
-use lib.Dec.{ltb, eqb}
-use borrow.Author.Tests.{lt-ltb}
+use Rattle.lists.proofs.Kit.{_≡_, refl, ap, true, not, List, _∷_, ℕ, zero, suc, _≤_, arith, length, ltb, eqb, lt-ltb}
 use Rattle.lists.specs.Tests.{every, apart, count, unused}
 use Rattle.lists.specs.Lowest.{lowest}
 use Rattle.lists.proofs.Laws.Pick.{both-join}

@@ -1,14 +1,7 @@
 -- The one place of an id among places in order, and what replacing it does to slots and sizes. Assumes nothing.
-use mathlib.Core.Path.{_≡_, refl, sym, ap, ap₂, _∙_}
-use mathlib.Core.Bool.{Bool, true, false, not}
-use mathlib.Core.List.{List, [], _∷_, _++_, append-assoc}
-use Prim.Native.Nat.{ℕ, suc, _+_, _*_, _/_, _≤_, _<_, min}
-use native.Mathlib.Nat.{zero-mul, suc-mul, div-add-mod', mod-lt, div-lt-iff-lt-mul}
-use native.Mathlib.Omega.{arith}
-use lib.ListN.{length, take, drop, length-take, take-append-drop}
-use lib.Seq.{take-take}
-use lib.Dec.{ltb}
-use borrow.Author.Tests.{not-true, ltb-true, ltb-false}
+use Rattle.lists.proofs.Kit.{_≡_, refl, sym, ap, ap₂, _∙_, Bool, true, false, not, List, [], _∷_, _++_, append-assoc, ℕ, suc, _+_, _*_, _/_, _≤_, _<_, min}
+use Rattle.lists.proofs.Kit.{zero-mul, suc-mul, div-add-mod', mod-lt, div-lt-iff-lt-mul, arith, length, take, drop, length-take, take-append-drop}
+use Rattle.lists.proofs.Kit.{take-take, ltb, not-true, ltb-true, ltb-false}
 use Rattle.lists.specs.Pick.{pick, both, either}
 use Rattle.lists.specs.Tests.{every, some, each, apart, sum}
 use Rattle.lists.proofs.Laws.Pick.{by, picks, skips, never, both-left, both-right, both-join, either-left, either-right}

@@ -1,14 +1,7 @@
 -- What is seen lies in slots that there are, at most 64 sectors. Assumes nothing.
-use mathlib.Core.Path.{_≡_, refl, sym, ap, _∙_, subst}
-use mathlib.Core.Bool.{Bool, true, false, not}
-use mathlib.Core.List.{List, [], _∷_}
-use Prim.Native.Nat.{ℕ, suc, _+_, _-_, _/_, _≤_, _<_}
-use native.Mathlib.Nat.{zero-div}
-use native.Mathlib.Omega.{arith}
-use lib.ListN.{length, take, drop, getD, length-take, length-drop}
-use lib.Seq.{getD-take, getD-drop, length-take-le}
-use lib.Dec.{leb, ltb, eqb}
-use borrow.Author.Tests.{not-true, leb-true, ltb-true, ltb-false, lt-ltb}
+use Rattle.lists.proofs.Kit.{_≡_, refl, sym, ap, _∙_, subst, Bool, true, false, not, List, [], _∷_, ℕ, suc, _+_, _-_, _/_, _≤_, _<_, zero-div, arith}
+use Rattle.lists.proofs.Kit.{length, take, drop, getD, length-take, length-drop, getD-take, getD-drop, length-take-le, leb, ltb, eqb, not-true, leb-true}
+use Rattle.lists.proofs.Kit.{ltb-true, ltb-false, lt-ltb}
 use Rattle.lists.specs.Pick.{pick}
 use Rattle.lists.specs.Tests.{every, each}
 use Rattle.lists.proofs.Laws.Pick.{by, picks, skips, never, both-left, both-right, both-join, second-not, either-second}

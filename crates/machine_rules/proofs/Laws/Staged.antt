@@ -1,13 +1,7 @@
 -- The staged positions stay in order: a copy is made, a sector is added, a sector is dropped. Assumes nothing.
-use mathlib.Core.Path.{_≡_, refl, ap, _∙_}
-use mathlib.Core.Bool.{true, false, not}
-use mathlib.Core.List.{List, [], _∷_, _++_}
-use Prim.Native.Nat.{ℕ, suc, _≤_, _<_}
-use native.Mathlib.Omega.{arith}
-use lib.ListN.{length, take, drop, set, length-append, drop-of-length-le}
-use lib.Seq.{take-suc-set, take-set-lt, take-set-le, drop-set-lt, drop-append-le, length-take-le}
-use lib.Dec.{leb, eqb}
-use borrow.Author.Tests.{leb-true, leb-false, lt-ltb, ne-eqb}
+use Rattle.lists.proofs.Kit.{_≡_, refl, ap, _∙_, true, false, not, List, [], _∷_, _++_, ℕ, suc, _≤_, _<_, arith, length, take, drop, set, length-append}
+use Rattle.lists.proofs.Kit.{drop-of-length-le, take-suc-set, take-set-lt, take-set-le, drop-set-lt, drop-append-le, length-take-le, leb, eqb, leb-true}
+use Rattle.lists.proofs.Kit.{leb-false, lt-ltb, ne-eqb}
 use Rattle.lists.specs.Tests.{some}
 use Rattle.lists.proofs.Laws.Pick.{by, picks, skips, never}
 use Rattle.lists.proofs.Laws.Every.{every-set, every-front, every-one-more, every-set-first, every-set-from, every-none, every-drop-more}

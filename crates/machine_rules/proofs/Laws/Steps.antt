@@ -1,14 +1,6 @@
 -- A step reads the input only below the instruction's need; running with k bytes come and then with m ≥ k is running with m. Assumes nothing.
-use mathlib.Core.Path.{_≡_, refl, sym, ap, ap₂, _∙_, subst}
-use mathlib.Core.Bool.{Bool, true, false, not}
-use mathlib.Core.List.{List, [], _∷_}
-use Prim.Native.Nat.{ℕ, zero, suc, _+_, _-_, _≤_, _<_}
-use native.Mathlib.Nat.{le-trans}
-use native.Mathlib.Omega.{arith}
-use lib.ListN.{take, drop}
-use lib.Seq.{take-take}
-use lib.Dec.{eqb, eqb·suc-zero}
-use borrow.Author.Tests.{not-true, leb-true, ltb-true, eqb-true, le-leb}
+use Rattle.lists.proofs.Kit.{_≡_, refl, sym, ap, ap₂, _∙_, subst, Bool, true, false, not, List, [], _∷_, ℕ, zero, suc, _+_, _-_, _≤_, _<_, le-trans, arith}
+use Rattle.lists.proofs.Kit.{take, drop, take-take, eqb, eqb·suc-zero, not-true, leb-true, ltb-true, eqb-true, le-leb}
 use Rattle.lists.specs.Pick.{pick}
 use Rattle.lists.specs.Tests.{each}
 use Rattle.lists.proofs.Laws.Pick.{by, picks, skips, both-left, both-right, both-join}

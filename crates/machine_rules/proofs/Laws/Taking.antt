@@ -1,12 +1,6 @@
 -- A host in order takes every piece up to the declared length, and is in order after it. Assumes nothing.
-use mathlib.Core.Path.{_≡_, refl, sym, ap, _∙_, subst}
-use mathlib.Core.Bool.{true, not}
-use mathlib.Core.List.{List, [], _∷_}
-use Prim.Native.Nat.{ℕ, _+_, _*_, _≤_}
-use native.Mathlib.Omega.{arith}
-use lib.ListN.{length, length-append, length-replicate}
-use lib.Dec.{ltb, eqb}
-use borrow.Author.Tests.{le-leb, le-ltb, eq-eqb, eqb-true}
+use Rattle.lists.proofs.Kit.{_≡_, refl, sym, ap, _∙_, subst, true, not, List, [], _∷_, ℕ, _+_, _*_, _≤_, arith, length, length-append, length-replicate}
+use Rattle.lists.proofs.Kit.{ltb, eqb, le-leb, le-ltb, eq-eqb, eqb-true}
 use Rattle.lists.specs.Pick.{both}
 use Rattle.lists.proofs.Laws.Pick.{skips, both-left, both-right, both-join, or-right, second-not, both-not-right}
 use Rattle.area.specs.Area.{put, zeros}

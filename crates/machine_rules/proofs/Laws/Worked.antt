@@ -1,12 +1,7 @@
 -- Roots and proofs over the sectors' roots, with these worked out from the bytes, are those of all the bytes: document 01's words. And how
 -- long a proof is, whatever the roots are. Assumes nothing.
-use mathlib.Core.Path.{_≡_, refl, sym, ap, ap₂, _∙_}
-use mathlib.Core.Bool.{Bool, true}
-use mathlib.Core.List.{List, [], _∷_}
-use Prim.Native.Nat.{ℕ, _+_, _*_, _/_, _%_, _^_, _≤_, _<_}
-use native.Mathlib.Nat.{div-add-mod', mul-left-comm, mul-comm}
-use native.Mathlib.Omega.{arith}
-use lib.ListN.{length, getD}
+use Rattle.lists.proofs.Kit.{_≡_, refl, sym, ap, ap₂, _∙_, Bool, true, List, [], _∷_, ℕ, _+_, _*_, _/_, _%_, _^_, _≤_, _<_, div-add-mod', mul-left-comm}
+use Rattle.lists.proofs.Kit.{mul-comm, arith, length, getD}
 use Rattle.lists.specs.Tests.{every}
 use Rattle.lists.proofs.Laws.Entries.{any-default}
 use Rattle.lists.proofs.Laws.Every.{every-get}

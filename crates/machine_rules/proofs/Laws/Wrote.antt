@@ -1,15 +1,7 @@
 -- What an effect leaves: positions that it does not write to keep their slots, and slots that none of those positions has keep their bytes.
 -- Assumes nothing.
-use mathlib.Core.Path.{_≡_, refl, sym, ap, _∙_, subst}
-use mathlib.Core.Bool.{true, false}
-use mathlib.Core.List.{List, [], _∷_}
-use Prim.Native.Nat.{ℕ, _+_, _*_, _/_, _%_, _≤_, _<_}
-use native.Mathlib.Nat.{div-lt-iff-lt-mul}
-use native.Mathlib.Omega.{arith}
-use lib.ListN.{length, getD, set, length-replicate}
-use lib.Seq.{getD-set-same, getD-set-other}
-use lib.Dec.{ltb, eqb}
-use borrow.Author.Tests.{ltb-true, ltb-false, eqb-true, eqb-false, eq-eqb}
+use Rattle.lists.proofs.Kit.{_≡_, refl, sym, ap, _∙_, subst, true, false, List, [], _∷_, ℕ, _+_, _*_, _/_, _%_, _≤_, _<_, div-lt-iff-lt-mul, arith, length}
+use Rattle.lists.proofs.Kit.{getD, set, length-replicate, getD-set-same, getD-set-other, ltb, eqb, ltb-true, ltb-false, eqb-true, eqb-false, eq-eqb}
 use Rattle.lists.specs.Pick.{pick}
 use Rattle.lists.specs.Tests.{some}
 use Rattle.lists.proofs.Laws.Pick.{by, picks, skips, never, either-left, either-right, neither}

@@ -1,6 +1,5 @@
 -- Every call answers the same under new ids. Assumes nothing.
-use mathlib.Core.List.{List}
-use Prim.Native.Nat.{ℕ}
+use Rattle.lists.proofs.Kit.{List, ℕ}
 use Rattle.machine_rules.specs.Calls.{piece, interrupt, reached}
 use Rattle.machine_rules.specs.Visit.{Areas}
 use Rattle.host.specs.Renaming.{Renaming}

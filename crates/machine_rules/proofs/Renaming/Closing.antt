@@ -1,13 +1,6 @@
 -- Closing and commits under new ids: the parent keeps its slots, and the new ones are the lowest free of the same slots. Assumes nothing.
-use mathlib.Core.Path.{_≡_, refl, sym, ap, ap₂, _∙_}
-use mathlib.Core.Bool.{Bool, true, not}
-use mathlib.Core.List.{List, [], _++_}
-use Prim.Native.Nat.{ℕ, _-_, _/_}
-use native.Mathlib.Nat.{zero-div}
-use native.Mathlib.Omega.{arith}
-use lib.ListN.{length}
+use Rattle.lists.proofs.Kit.{_≡_, refl, sym, ap, ap₂, _∙_, Bool, true, not, List, [], _++_, ℕ, _-_, _/_, zero-div, arith, length, not-false}
 use lib.IntN.{pos, _-ℤ_}
-use borrow.Author.Tests.{not-false}
 use Rattle.lists.specs.Pick.{pick, either}
 use Rattle.lists.proofs.Laws.Pick.{by}
 use Rattle.lists.proofs.Laws.Ways.{down}

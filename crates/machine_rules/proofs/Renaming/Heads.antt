@@ -1,14 +1,7 @@
 -- A head whose first 32 bytes are another id is read with the same number, and where it has no fault it is the same head of that contract.
 -- Assumes nothing.
-use mathlib.Core.Path.{_≡_, refl, sym, ap, ap₂, _∙_}
-use mathlib.Core.Bool.{true, false}
-use mathlib.Core.List.{List, [], _∷_, _++_}
-use Prim.Native.Nat.{ℕ}
-use native.Mathlib.Omega.{arith}
-use lib.ListN.{length, take, drop, take-append-drop, length-append, length-take, length-drop}
-use lib.Seq.{take-append-seam, drop-append-seam}
-use lib.Dec.{ltb}
-use borrow.Author.Tests.{ltb-false}
+use Rattle.lists.proofs.Kit.{_≡_, refl, sym, ap, ap₂, _∙_, true, false, List, [], _∷_, _++_, ℕ, arith, length, take, drop, take-append-drop, length-append}
+use Rattle.lists.proofs.Kit.{length-take, length-drop, take-append-seam, drop-append-seam, ltb, ltb-false}
 use Rattle.lists.proofs.Laws.Pick.{by, picks, skips}
 use Rattle.sia.specs.Decode.{Reading, value, fault, after, bytes, limited, instructions, head, answer, told, decode}
 use Rattle.sia.proofs.Laws.Honest.{read-of}

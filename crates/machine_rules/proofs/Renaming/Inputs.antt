@@ -1,8 +1,5 @@
 -- The inputs of an instruction under new ids: they are told alike, and name what was named before. Assumes nothing.
-use mathlib.Core.Path.{_≡_, refl, sym, ap}
-use mathlib.Core.List.{List, [], _∷_}
-use Prim.Native.Nat.{ℕ, suc}
-use lib.Dec.{eqb}
+use Rattle.lists.proofs.Kit.{_≡_, refl, sym, ap, List, [], _∷_, ℕ, suc, eqb}
 use Rattle.lists.proofs.Laws.Entries.{empty}
 use Rattle.machine_rules.specs.View.{Setting}
 use Rattle.machine_rules.specs.Inputs.{dataIn, nth, isKey, wellFormed, readArgs, argsOf}

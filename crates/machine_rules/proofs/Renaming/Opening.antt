@@ -1,11 +1,5 @@
 -- Opening under new ids: the head is the same but for its contract, which is found where the old one was. Assumes nothing.
-use mathlib.Core.Path.{_≡_, refl, sym, ap, ap₂, _∙_}
-use mathlib.Core.Bool.{Bool, false, not}
-use mathlib.Core.List.{List, _++_}
-use Prim.Native.Nat.{ℕ}
-use lib.ListN.{take, drop}
-use lib.Dec.{eqb}
-use borrow.Author.Tests.{not-false, eqb-true}
+use Rattle.lists.proofs.Kit.{_≡_, refl, sym, ap, ap₂, _∙_, Bool, false, not, List, _++_, ℕ, take, drop, eqb, not-false, eqb-true}
 use Rattle.lists.specs.Pick.{pick, both}
 use Rattle.lists.proofs.Laws.Ways.{down}
 use Rattle.area.specs.Area.{same}

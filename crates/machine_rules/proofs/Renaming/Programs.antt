@@ -1,12 +1,6 @@
 -- Pieces, interrupts, what a program has reached and the look-up of a root, under new ids: down the two chains of each call side by side, and
 -- what runs then runs alike. Assumes nothing.
-use mathlib.Core.Path.{_≡_, refl, sym, ap, ap₂, _∙_}
-use mathlib.Core.Bool.{Bool, true, not}
-use mathlib.Core.List.{List, []}
-use Prim.Native.Nat.{ℕ, _+_}
-use lib.ListN.{length}
-use lib.Dec.{ltb, eqb}
-use borrow.Author.Tests.{not-false}
+use Rattle.lists.proofs.Kit.{_≡_, refl, sym, ap, ap₂, _∙_, Bool, true, not, List, [], ℕ, _+_, length, ltb, eqb, not-false}
 use Rattle.lists.specs.Pick.{pick, both}
 use Rattle.lists.proofs.Laws.Pick.{by, picks, skips}
 use Rattle.lists.proofs.Laws.Ways.{down, downs}

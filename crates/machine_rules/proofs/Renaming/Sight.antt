@@ -1,8 +1,5 @@
 -- What is seen under new ids: the same sectors, so the same pairs. Assumes nothing.
-use mathlib.Core.Path.{_≡_, refl, ap₂}
-use mathlib.Core.Bool.{Bool}
-use mathlib.Core.List.{List, [], _∷_, _++_}
-use Prim.Native.Nat.{ℕ, suc}
+use Rattle.lists.proofs.Kit.{_≡_, refl, ap₂, Bool, List, [], _∷_, _++_, ℕ, suc}
 use Rattle.lists.specs.Pick.{pick}
 use Rattle.lists.specs.Tests.{each, firstOf}
 use Rattle.host.specs.Places.{hasId, whose, committed}

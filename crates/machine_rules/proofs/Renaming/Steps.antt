@@ -1,9 +1,5 @@
 -- An instruction under new ids: it writes the same record, is charged the same and leaves the same stage. Assumes nothing.
-use mathlib.Core.Path.{_≡_, refl, ap, _∙_}
-use mathlib.Core.Bool.{Bool}
-use mathlib.Core.List.{List}
-use Prim.Native.Nat.{ℕ, zero, suc}
-use lib.ListN.{length, getD}
+use Rattle.lists.proofs.Kit.{_≡_, refl, ap, _∙_, Bool, List, ℕ, zero, suc, length, getD}
 use Rattle.lists.specs.Pick.{pick}
 use Rattle.sia.specs.Names.{opOf}
 use Rattle.sia.specs.Empty.{noInstruction}

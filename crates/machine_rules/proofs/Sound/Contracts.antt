@@ -1,10 +1,5 @@
 -- Making a host, forming, dropping and opening look at no root, and leave a sound host sound. Assumes nothing.
-use mathlib.Core.Path.{_≡_, refl, ap, _∙_}
-use mathlib.Core.Bool.{Bool, true, false, not}
-use mathlib.Core.List.{List, [], _∷_, _++_}
-use Prim.Native.Nat.{ℕ, zero, suc}
-use lib.ListN.{replicate}
-use lib.Dec.{eqb}
+use Rattle.lists.proofs.Kit.{_≡_, refl, ap, _∙_, Bool, true, false, not, List, [], _∷_, _++_, ℕ, zero, suc, replicate, eqb}
 use Rattle.lists.specs.Pick.{pick}
 use Rattle.lists.specs.Tests.{every, each}
 use Rattle.lists.proofs.Laws.Pick.{by, picks, skips, both-right, both-join, or-right}

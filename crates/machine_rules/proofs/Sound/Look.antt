@@ -1,8 +1,5 @@
 -- The look-up by root on a sound host: the kept roots find what roots worked out from the bytes find. Assumes nothing.
-use mathlib.Core.Path.{_≡_, sym, ap, _∙_}
-use mathlib.Core.Bool.{true, not}
-use mathlib.Core.List.{List, [], _∷_}
-use Prim.Native.Nat.{ℕ, _*_}
+use Rattle.lists.proofs.Kit.{_≡_, sym, ap, _∙_, true, not, List, [], _∷_, ℕ, _*_}
 use Rattle.lists.specs.Pick.{pick}
 use Rattle.lists.specs.Tests.{every}
 use Rattle.lists.proofs.Laws.Pick.{by, picks, skips, both-left}

@@ -1,11 +1,6 @@
 -- The calls on an open program of a sound host: the kept roots give what document 01 says, and the host stays sound. Assumes nothing.
-use mathlib.Core.Path.{_≡_, refl, sym, ap, ap₂, _∙_}
-use mathlib.Core.Bool.{Bool, true, false, not}
-use mathlib.Core.List.{List, []}
-use Prim.Native.Nat.{ℕ, _+_}
-use lib.ListN.{length}
+use Rattle.lists.proofs.Kit.{_≡_, refl, sym, ap, ap₂, _∙_, Bool, true, false, not, List, [], ℕ, _+_, length, not-false, ltb-false}
 use lib.IntN.{pos}
-use borrow.Author.Tests.{not-false, ltb-false}
 use Rattle.lists.specs.Pick.{pick}
 use Rattle.lists.specs.Tests.{every}
 use Rattle.lists.proofs.Laws.Pick.{by, picks, never, both-left, both-right, both-join, second-not, or-right}

@@ -1,10 +1,6 @@
 -- An array that a loop fills with pieces of one length: those of the first i stand at its front. Assumes nothing.
-use mathlib.Core.Path.{_≡_, refl, sym, ap, _∙_}
-use mathlib.Core.List.{List, [], _∷_, _++_, append-nil}
-use Prim.Native.Nat.{ℕ, _+_, _*_, _≤_}
+use Rattle.lists.proofs.Kit.{_≡_, refl, sym, ap, _∙_, List, [], _∷_, _++_, append-nil, ℕ, _+_, _*_, _≤_, arith, length, take}
 use native.Mathlib.Numerals.{add-one}
-use native.Mathlib.Omega.{arith}
-use lib.ListN.{length, take}
 use Rattle.lists.specs.Tab.{tab}
 use Rattle.lists.proofs.Laws.Tab.{tab-snoc}
 use Rattle.area.specs.Area.{part, put}

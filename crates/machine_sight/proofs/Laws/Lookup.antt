@@ -1,14 +1,8 @@
 -- One turn of the loops that look for a root: along the positions of what is seen of a contract, and along the places. f reads roots; z is the
 -- sector size. Assumes nothing.
-use mathlib.Core.Path.{_≡_, refl, sym, ap, _∙_}
-use mathlib.Core.Bool.{Bool, true, false}
-use mathlib.Core.List.{List, [], _∷_, _++_}
-use Prim.Native.Nat.{ℕ, zero, suc, _+_, _-_, _≤_, _<_}
+use Rattle.lists.proofs.Kit.{_≡_, refl, sym, ap, _∙_, Bool, true, false, List, [], _∷_, _++_, ℕ, zero, suc, _+_, _-_, _≤_, _<_, zero-div, arith, length}
+use Rattle.lists.proofs.Kit.{getD, slice}
 use native.Mathlib.Numerals.{add-one}
-use native.Mathlib.Nat.{zero-div}
-use native.Mathlib.Omega.{arith}
-use lib.ListN.{length, getD}
-use lib.Seq.{slice}
 use Rattle.lists.specs.Pick.{pick}
 use Rattle.lists.specs.Tests.{every, firstOf}
 use Rattle.lists.specs.Tab.{tab}

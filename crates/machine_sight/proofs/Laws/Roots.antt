@@ -1,11 +1,5 @@
 -- Roots of sectors, and the root and proofs of all that is seen, from the roots kept beside its sectors. Assumes nothing.
-use mathlib.Core.Path.{_≡_, refl, sym, ap, _∙_}
-use mathlib.Core.Bool.{true}
-use mathlib.Core.List.{List, [], _∷_, append-nil}
-use Prim.Native.Nat.{ℕ, _+_, _*_, _/_, _%_, _^_, _≤_, _<_}
-use native.Mathlib.Nat.{mul-comm}
-use native.Mathlib.Omega.{arith}
-use lib.ListN.{length, getD}
+use Rattle.lists.proofs.Kit.{_≡_, refl, sym, ap, _∙_, true, List, [], _∷_, append-nil, ℕ, _+_, _*_, _/_, _%_, _^_, _≤_, _<_, mul-comm, arith, length, getD}
 use Rattle.lists.specs.Tab.{tab}
 use Rattle.lists.proofs.Laws.Tab.{length-tab, getD-tab}
 use Rattle.area.specs.Area.{zeros}

@@ -1,11 +1,5 @@
 -- Where sectors are and their bytes, as code reads them. z is the sector size. Assumes nothing.
-use mathlib.Core.Path.{_≡_, refl, sym, ap, _∙_}
-use mathlib.Core.Bool.{true}
-use mathlib.Core.List.{List}
-use Prim.Native.Nat.{ℕ, _+_, _-_, _*_, _≤_, _<_}
-use native.Mathlib.Omega.{arith}
-use lib.ListN.{length, take, drop, getD}
-use borrow.Author.Tests.{leb-true, eq-eqb, ne-eqb}
+use Rattle.lists.proofs.Kit.{_≡_, refl, sym, ap, _∙_, true, List, ℕ, _+_, _-_, _*_, _≤_, _<_, arith, length, take, drop, getD, leb-true, eq-eqb, ne-eqb}
 use Rattle.lists.specs.Tests.{every}
 use Rattle.lists.proofs.Laws.Pick.{yes, no}
 use Rattle.lists.proofs.Laws.Entries.{any-default}

@@ -1,12 +1,6 @@
 -- What is seen of committed sectors, and one sector. z is the sector size. Assumes nothing.
-use mathlib.Core.Path.{_≡_, refl, sym, ap, _∙_}
-use mathlib.Core.Bool.{true, false}
-use mathlib.Core.List.{List, [], _∷_}
-use Prim.Native.Nat.{ℕ, zero, suc, _+_, _/_, _≤_, _<_}
-use native.Mathlib.Omega.{arith}
-use lib.ListN.{length, take, drop, getD, replicate}
-use lib.Seq.{drop-cons}
-use borrow.Author.Tests.{eq-eqb, ne-eqb}
+use Rattle.lists.proofs.Kit.{_≡_, refl, sym, ap, _∙_, true, false, List, [], _∷_, ℕ, zero, suc, _+_, _/_, _≤_, _<_, arith, length, take, drop, getD}
+use Rattle.lists.proofs.Kit.{replicate, drop-cons, eq-eqb, ne-eqb}
 use Rattle.lists.specs.Pick.{pick}
 use Rattle.lists.specs.Tests.{each}
 use Rattle.lists.specs.Tab.{tab}

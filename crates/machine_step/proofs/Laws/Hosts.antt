@@ -1,11 +1,5 @@
 -- What a host in order gives the functions that read its parent. Assumes nothing.
-use mathlib.Core.Path.{_≡_, refl, sym, subst}
-use mathlib.Core.Bool.{true}
-use mathlib.Core.List.{List, []}
-use Prim.Native.Nat.{ℕ, _*_}
-use native.Mathlib.Omega.{arith}
-use lib.ListN.{length}
-use borrow.Author.Tests.{eqb-true}
+use Rattle.lists.proofs.Kit.{_≡_, refl, sym, subst, true, List, [], ℕ, _*_, arith, length, eqb-true}
 use Rattle.lists.proofs.Laws.Pick.{both-left}
 use Rattle.area.specs.Area.{zeros}
 use Rattle.host.specs.Places.{whose, taken}

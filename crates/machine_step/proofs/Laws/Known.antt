@@ -1,9 +1,6 @@
 -- What a function is told of the terms of a program that it is given: the budget's bits, and how many entries its instructions have.
 -- Assumes nothing.
-use mathlib.Core.Path.{_≡_}
-use mathlib.Core.List.{List}
-use Prim.Native.Nat.{_<_, _^_}
-use lib.ListN.{length}
+use Rattle.lists.proofs.Kit.{_≡_, List, _<_, _^_, length}
 use mir.Val.{Val}
 use denote.Laws.{Is}
 use denote.Struct.Declared.{row}

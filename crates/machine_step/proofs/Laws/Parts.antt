@@ -1,10 +1,6 @@
 -- A record is its front and what stands behind it. Assumes nothing.
-use mathlib.Core.Path.{_≡_, sym, ap, _∙_}
-use mathlib.Core.List.{List, _++_, append-assoc}
-use Prim.Native.Nat.{ℕ, _+_, _*_, _-_}
-use native.Mathlib.Omega.{arith}
+use Rattle.lists.proofs.Kit.{_≡_, sym, ap, _∙_, List, _++_, append-assoc, ℕ, _+_, _*_, _-_, arith, length, take, drop, length-drop, length-append}
 use borrow.Rule.Slice.PartMut.{putMid}
-use lib.ListN.{length, take, drop, length-drop, length-append}
 use Rattle.area.specs.Area.{put}
 use Rattle.area.specs.Little.{le8}
 use Rattle.area.proofs.Laws.Little.{length-bytes}

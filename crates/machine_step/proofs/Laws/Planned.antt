@@ -1,13 +1,7 @@
 -- A plan that is what its definition says: its number is what the checks say and, where that is 0, all that its effect and its record ask
 -- holds, and what they leave is the step's. z is the sector size. Assumes nothing.
-use mathlib.Core.Path.{_≡_, refl, sym, ap, ap₂, _∙_, subst}
-use mathlib.Core.Bool.{true, false}
-use mathlib.Core.List.{List, []}
-use Prim.Native.Nat.{ℕ, _+_, _*_, _/_, _≤_, _<_, _^_}
-use native.Mathlib.Omega.{arith}
-use lib.ListN.{length, drop, length-take, length-drop}
-use lib.Dec.{eqb}
-use borrow.Author.Tests.{leb-true, eqb-false, eq-eqb, ne-eqb}
+use Rattle.lists.proofs.Kit.{_≡_, refl, sym, ap, ap₂, _∙_, subst, true, false, List, [], ℕ, _+_, _*_, _/_, _≤_, _<_, _^_, arith, length, drop, length-take}
+use Rattle.lists.proofs.Kit.{length-drop, eqb, leb-true, eqb-false, eq-eqb, ne-eqb}
 use Rattle.lists.specs.Pick.{pick}
 use Rattle.lists.specs.Tab.{tab}
 use Rattle.lists.proofs.Laws.Pick.{by, picks, skips, both-left, both-right, either-left}

@@ -1,7 +1,5 @@
 -- The calls read roots as they are kept. Assumes nothing.
-use mathlib.Core.Path.{_≡_, ap}
-use mathlib.Core.List.{List}
-use Prim.Native.Nat.{ℕ}
+use Rattle.lists.proofs.Kit.{_≡_, ap, List, ℕ}
 use Rattle.machine_rules.specs.View.{Way, kept, Setting}
 use Rattle.machine_rules.specs.Roots.{keptRoot, rootBy, rootOf}
 use Rattle.machine_rules.specs.declared.Spot.{Spot}

@@ -1,11 +1,7 @@
 -- An instruction that can run, from what its functions left: x is the stage after its effect, roots those kept beside its slots, g the progress, out
 -- the output area, z the
 -- sector size. Assumes nothing.
-use mathlib.Core.Path.{_≡_, sym, ap, ap₂, _∙_, subst}
-use mathlib.Core.Bool.{Bool}
-use mathlib.Core.List.{List}
-use Prim.Native.Nat.{ℕ, _-_, _/_}
-use lib.ListN.{length, take, drop}
+use Rattle.lists.proofs.Kit.{_≡_, sym, ap, ap₂, _∙_, subst, Bool, List, ℕ, _-_, _/_, length, take, drop}
 use Rattle.lists.specs.Pick.{pick}
 use Rattle.lists.specs.Tab.{tab}
 use Rattle.area.specs.Area.{put}

@@ -1,8 +1,5 @@
 -- A root is kept beside all that is seen of the parent as it is read now. z is the sector size. Assumes nothing.
-use mathlib.Core.Path.{_≡_, ap, _∙_}
-use mathlib.Core.List.{List}
-use Prim.Native.Nat.{ℕ, _/_}
-use native.Mathlib.Omega.{arith}
+use Rattle.lists.proofs.Kit.{_≡_, ap, _∙_, List, ℕ, _/_, arith}
 use Rattle.lists.specs.Tests.{every}
 use Rattle.lists.specs.Tab.{tab}
 use Rattle.machine_rules.specs.View.{spotOf}

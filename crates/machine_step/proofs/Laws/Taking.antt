@@ -1,12 +1,6 @@
 -- What a program that is going on a host in order gives the functions that take its instruction, and how a step comes to its failure or its
 -- success. z is the sector size. Assumes nothing.
-use mathlib.Core.Path.{_≡_, sym, ap, ap₂, _∙_, subst}
-use mathlib.Core.List.{List, []}
-use Prim.Native.Nat.{ℕ, _+_, _≤_, _<_}
-use native.Mathlib.Omega.{arith}
-use lib.ListN.{length}
-use lib.Dec.{eqb}
-use borrow.Author.Tests.{eq-eqb, ne-eqb}
+use Rattle.lists.proofs.Kit.{_≡_, sym, ap, ap₂, _∙_, subst, List, [], ℕ, _+_, _≤_, _<_, arith, length, eqb, eq-eqb, ne-eqb}
 use Rattle.lists.proofs.Laws.Pick.{picks, skips}
 use Rattle.area.specs.Area.{put}
 use Rattle.sia.specs.Names.{opOf}

@@ -1,12 +1,5 @@
 -- Instructions in turn, one at a time: what a turn keeps, and how a run goes on or ends. Assumes nothing.
-use mathlib.Core.Path.{_≡_, sym, ap, _∙_, subst}
-use mathlib.Core.Bool.{true, false}
-use mathlib.Core.List.{List}
-use Prim.Native.Nat.{ℕ, zero, suc, _≤_, _<_}
-use native.Mathlib.Omega.{arith}
-use lib.ListN.{length, getD}
-use lib.Dec.{leb}
-use borrow.Author.Tests.{leb-true, ltb-true}
+use Rattle.lists.proofs.Kit.{_≡_, sym, ap, _∙_, subst, true, false, List, ℕ, zero, suc, _≤_, _<_, arith, length, getD, leb, leb-true, ltb-true}
 use Rattle.lists.proofs.Laws.Pick.{both-join, both-left, both-right, both-not-left, both-not-right, never}
 use Rattle.lists.proofs.Laws.Entries.{any-default}
 use Rattle.sia.specs.Encode.{within}

@@ -1,8 +1,5 @@
 -- `script_report::all_places` is safe and ends: after i places at most 560 × i bytes are written. Assumes nothing.
-use Prim.Native.Nat.{_+_, _*_, _-_, _≤_}
-use mathlib.Core.Path.{_≡_}
-use borrow.Author.Needs.{needs}
-use lib.ListN.{length}
+use Rattle.lists.proofs.Kit.{_+_, _*_, _-_, _≤_, _≡_, needs, length}
 use Rattle.script_report.proofs.all_places.Statement.{statement}
 use Rattle.script_report.proofs.all_places.Tie as tie
 

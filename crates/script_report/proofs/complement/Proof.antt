@@ -1,6 +1,5 @@
 -- `script_report::complement` is safe: a negative number's distance from -1 is a count. Assumes nothing.
-use borrow.Author.Needs.{needs}
-use native.Mathlib.Omega.{arith}
+use Rattle.lists.proofs.Kit.{needs, arith}
 use mir.Facts.{sfits-toZ, fits-ofZ}
 use Rattle.script_report.proofs.Laws.Signed.{away, counted, kept}
 use Rattle.script_report.proofs.complement.Statement.{statement}

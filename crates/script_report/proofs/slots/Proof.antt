@@ -1,8 +1,5 @@
 -- `script_report::slots` is safe and ends: after i slots at most 8 × i bytes are written. Assumes nothing.
-use Prim.Native.Nat.{_+_, _*_, _-_, _≤_}
-use mathlib.Core.Path.{_≡_}
-use borrow.Author.Needs.{needs}
-use lib.ListN.{length}
+use Rattle.lists.proofs.Kit.{_+_, _*_, _-_, _≤_, _≡_, needs, length}
 use Rattle.script_report.proofs.slots.Statement.{statement}
 use Rattle.script_report.proofs.slots.Tie as tie
 

@@ -1,7 +1,5 @@
 -- `showing::records` is safe and ends: a record without a fault is whole, and ends behind where it begins. Assumes nothing.
-use Prim.Native.Nat.{_+_, _-_, _≤_}
-use borrow.Author.Needs.{needs}
-use lib.ListN.{length}
+use Rattle.lists.proofs.Kit.{_+_, _-_, _≤_, needs, length}
 use Rattle.showing.proofs.records.Statement.{statement}
 use Rattle.showing.proofs.records.Tie as tie
 

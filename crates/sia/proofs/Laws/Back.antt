@@ -1,13 +1,7 @@
 -- Writing what was read: the bytes of what a section was read as, in front of the bytes behind it, are the bytes that were read.
 -- Assumes nothing.
-use mathlib.Core.Path.{_≡_, refl, sym, ap, _∙_, subst}
-use mathlib.Core.List.{List, [], _∷_, _++_, append-assoc}
-use Prim.Native.Nat.{ℕ, zero, suc, _+_, _≤_}
-use native.Mathlib.Omega.{arith}
-use lib.ListN.{length, take, take-append-drop}
-use lib.Seq.{take-at, length-take-le}
-use lib.Dec.{ltb, eqb}
-use borrow.Author.Tests.{ltb-false}
+use Rattle.lists.proofs.Kit.{_≡_, refl, sym, ap, _∙_, subst, List, [], _∷_, _++_, append-assoc, ℕ, zero, suc, _+_, _≤_, arith, length, take}
+use Rattle.lists.proofs.Kit.{take-append-drop, take-at, length-take-le, ltb, eqb, ltb-false}
 use Rattle.area.specs.Little.{valueOf, bytesOf, le8, Bytes}
 use Rattle.area.proofs.Laws.Little.{bytes-value}
 use Rattle.sia.specs.Empty.{noOperand, noInstruction, filled}

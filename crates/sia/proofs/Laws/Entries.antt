@@ -1,13 +1,9 @@
 -- Reading the entries of an array one by one: after i of them the list holds these and is empty behind them, and the whole reading is
 -- these in front of what is read from here on. Assumes nothing.
-use mathlib.Core.Path.{_≡_, refl, sym, ap, _∙_}
-use mathlib.Core.List.{List, [], _∷_, _++_, append-assoc, append-nil}
-use Prim.Native.Nat.{ℕ, suc, _+_, _-_, _≤_, _<_}
-use native.Mathlib.Nat.{sub-zero}
+use Rattle.lists.proofs.Kit.{_≡_, refl, sym, ap, _∙_, List, [], _∷_, _++_, append-assoc, append-nil, ℕ, suc, _+_, _-_, _≤_, _<_, sub-zero, arith, length}
+use Rattle.lists.proofs.Kit.{take, drop, getD, set, replicate, length-set, length-replicate, take-append-drop, getD-replicate, take-suc-set, drop-set-lt}
+use Rattle.lists.proofs.Kit.{drop-drop, length-take-le, getD-drop}
 use native.Mathlib.Numerals.{add-one}
-use native.Mathlib.Omega.{arith}
-use lib.ListN.{length, take, drop, getD, set, replicate, length-set, length-replicate, take-append-drop, getD-replicate}
-use lib.Seq.{take-suc-set, drop-set-lt, drop-drop, length-take-le, getD-drop}
 use Rattle.sia.specs.Empty.{filled}
 use Rattle.sia.specs.Decode.{Reading, value, fault, after, several, entries, reading, Reads}
 use Rattle.sia.proofs.Laws.Reading.{fine, carries, stops, goes}

@@ -1,9 +1,5 @@
 -- A fault has a number other than 0, so that an answer 0 is a head that was read. Assumes nothing.
-use mathlib.Core.Path.{_≡_, ap}
-use mathlib.Core.Bool.{Bool, true, false}
-use mathlib.Core.List.{List, [], _∷_}
-use Prim.Native.Nat.{ℕ, zero, suc}
-use native.Mathlib.Omega.{arith}
+use Rattle.lists.proofs.Kit.{_≡_, ap, Bool, true, false, List, [], _∷_, ℕ, zero, suc, arith}
 use Rattle.lists.specs.Pick.{pick}
 use Rattle.sia.specs.declared.Head.{Head}
 use Rattle.sia.specs.declared.Told.{Told}

@@ -1,11 +1,5 @@
 -- What a reading that came to a value says: each section before it was read. Assumes nothing.
-use mathlib.Core.Path.{_≡_, refl, _∙_, subst}
-use mathlib.Core.Bool.{Bool, true, false}
-use mathlib.Core.List.{List, _++_}
-use Prim.Native.Nat.{ℕ, _≤_}
-use native.Mathlib.Omega.{arith}
-use lib.Dec.{ltb}
-use borrow.Author.Tests.{ltb-false}
+use Rattle.lists.proofs.Kit.{_≡_, refl, _∙_, subst, Bool, true, false, List, _++_, ℕ, _≤_, arith, ltb, ltb-false}
 use Rattle.lists.specs.Pick.{pick}
 use Rattle.sia.specs.Decode.{Reading, value, fault, after, number, limited}
 

@@ -1,8 +1,5 @@
 -- The array lengths of declared structs, from what a function is told of a parameter. Assumes nothing.
-use mathlib.Core.Path.{_≡_, sym, _∙_}
-use mathlib.Core.List.{List, map}
-use Prim.Native.Nat.{ℕ}
-use lib.ListN.{length, length-map}
+use Rattle.lists.proofs.Kit.{_≡_, sym, _∙_, List, map, ℕ, length, length-map}
 use mir.Val.{Val}
 use denote.Laws.{Is}
 use denote.Struct.Declared.{row}

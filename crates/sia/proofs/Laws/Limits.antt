@@ -1,8 +1,5 @@
 -- What a head within limits is: its count, its declared length, and its instructions' counts. Assumes nothing.
-use mathlib.Core.Path.{_≡_}
-use mathlib.Core.Bool.{true}
-use Prim.Native.Nat.{_≤_}
-use borrow.Author.Tests.{leb-true, le-leb}
+use Rattle.lists.proofs.Kit.{_≡_, true, _≤_, leb-true, le-leb}
 use Rattle.lists.specs.Tests.{every}
 use Rattle.lists.proofs.Laws.Pick.{both-join, both-left, both-right}
 use Rattle.sia.specs.declared.Head.{Head}

@@ -1,13 +1,6 @@
 -- What was read is proper and within limits: array lengths, numbers of 64 bits, counts. Assumes nothing.
-use mathlib.Core.Path.{_≡_, refl, sym, _∙_, subst}
-use mathlib.Core.Bool.{true}
-use mathlib.Core.List.{List, [], _∷_, _++_}
-use Prim.Native.Nat.{ℕ, zero, suc, _-_, _^_, _≤_, _<_}
-use native.Mathlib.Nat.{pow-succ'}
-use native.Mathlib.Omega.{arith}
-use lib.ListN.{length, take, replicate, length-append, length-replicate}
-use lib.Seq.{take-at}
-use borrow.Author.Tests.{le-leb}
+use Rattle.lists.proofs.Kit.{_≡_, refl, sym, _∙_, subst, true, List, [], _∷_, _++_, ℕ, zero, suc, _-_, _^_, _≤_, _<_, pow-succ', arith, length, take}
+use Rattle.lists.proofs.Kit.{replicate, length-append, length-replicate, take-at, le-leb}
 use Rattle.lists.specs.Tests.{every}
 use Rattle.lists.proofs.Laws.Pick.{both-join}
 use Rattle.area.specs.Little.{valueOf, le8, Bytes}

@@ -1,12 +1,7 @@
 -- Reading one section after another, as the code does it: `short` and `stops` where a section has a fault, `long` and `goes` where it
 -- is read. Assumes nothing.
-use mathlib.Core.Path.{_≡_, sym, ap, _∙_}
-use mathlib.Core.List.{List}
-use Prim.Native.Nat.{ℕ, _+_, _-_, _≤_, _<_}
-use native.Mathlib.Omega.{arith}
-use lib.ListN.{length, take, drop, length-drop, drop-of-length-le}
-use lib.Seq.{drop-drop, drop-cons}
-use borrow.Author.Tests.{eq-eqb, ne-eqb, lt-ltb, le-ltb}
+use Rattle.lists.proofs.Kit.{_≡_, sym, ap, _∙_, List, ℕ, _+_, _-_, _≤_, _<_, arith, length, take, drop, length-drop, drop-of-length-le, drop-drop}
+use Rattle.lists.proofs.Kit.{drop-cons, eq-eqb, ne-eqb, lt-ltb, le-ltb}
 use Rattle.lists.specs.Pick.{pick}
 use Rattle.lists.proofs.Laws.Pick.{picks, skips}
 use Rattle.area.specs.Area.{part}

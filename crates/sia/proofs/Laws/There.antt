@@ -1,12 +1,6 @@
 -- Reading what was written: each section, in front of any bytes, is read as what it was made of. Assumes nothing.
-use mathlib.Core.Path.{_≡_, refl, sym, ap, _∙_}
-use mathlib.Core.Bool.{Bool, true, false}
-use mathlib.Core.List.{List, [], _∷_, _++_, append-assoc, append-nil, map}
-use Prim.Native.Nat.{ℕ, zero, suc, _^_, _≤_, _<_}
-use native.Mathlib.Omega.{arith}
-use lib.ListN.{length, take, length-append}
-use lib.Seq.{take-at, drop-at, length-take-le}
-use borrow.Author.Tests.{le-ltb, leb-true}
+use Rattle.lists.proofs.Kit.{_≡_, refl, sym, ap, _∙_, Bool, true, false, List, [], _∷_, _++_, append-assoc, append-nil, map, ℕ, zero, suc, _^_, _≤_, _<_}
+use Rattle.lists.proofs.Kit.{arith, length, take, length-append, take-at, drop-at, length-take-le, le-ltb, leb-true}
 use Rattle.lists.specs.Pick.{pick}
 use Rattle.lists.specs.Tests.{every}
 use Rattle.lists.proofs.Laws.Pick.{skips, both-left, both-right}

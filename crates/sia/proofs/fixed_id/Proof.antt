@@ -1,6 +1,5 @@
 -- `sia::fixed_id` meets its contract: an id that is the ReadOnly word is its fixed byte string. Assumes nothing.
-use mathlib.Core.Path.{sym, _∙_}
-use borrow.Author.Needs.{needs}
+use Rattle.lists.proofs.Kit.{sym, _∙_, needs}
 use Rattle.area.proofs.Laws.Same.{same-eq}
 use Rattle.sia.proofs.fixed_id.Statement.{statement}
 use Rattle.sia.proofs.fixed_id.Tie as tie

@@ -1,10 +1,7 @@
 -- `sia::fixed_name` meets its contract: a name that is one of the six is its fixed byte string. Assumes nothing.
-use mathlib.Core.Path.{_≡_, sym, ap, subst, _∙_}
-use mathlib.Core.List.{List, [], _∷_}
-use Prim.Native.Nat.{ℕ}
+use Rattle.lists.proofs.Kit.{_≡_, sym, ap, subst, _∙_, List, [], _∷_, ℕ, needs}
 use types.Run.{OneOf, miss}
 use denote.Enum.Declared.{tagOf}
-use borrow.Author.Needs.{needs}
 use Rattle.sia.specs.declared.Op.{Op}
 use Rattle.sia.specs.declared.Op.the-variants.{Unknown}
 use Rattle.sia.proofs.Op as op

@@ -1,7 +1,5 @@
 -- `sia::number_of` meets its contract: the part is 8 bytes, or it is refused. Assumes nothing.
-use mathlib.Core.Path.{refl, sym, ap, _∙_}
-use borrow.Author.Needs.{needs}
-use borrow.Author.Tests.{eq-eqb, ne-eqb}
+use Rattle.lists.proofs.Kit.{refl, sym, ap, _∙_, needs, eq-eqb, ne-eqb}
 use Rattle.lists.proofs.Laws.Pick.{yes, no}
 use Rattle.area.specs.Little.{valueOf}
 use Rattle.area.proofs.Laws.Parts.{part-whole}

@@ -1,8 +1,5 @@
 -- `sia::op_of` meets its contract: the names are tried in the definition's order. Assumes nothing.
-use mathlib.Core.Path.{_≡_, refl, sym, _∙_}
-use mathlib.Core.List.{List}
-use Prim.Native.Nat.{ℕ}
-use borrow.Author.Needs.{needs}
+use Rattle.lists.proofs.Kit.{_≡_, refl, sym, _∙_, List, ℕ, needs}
 use Rattle.lists.specs.Pick.{pick}
 use Rattle.area.specs.Area.{same}
 use Rattle.sia.specs.Names.{opOf, nameOf}

@@ -1,12 +1,8 @@
 -- `sia_read::eight` meets its contract: fewer than 8 bytes are left, or 8 are loaded. Assumes nothing.
-use mathlib.Core.Path.{ap}
-use Prim.Native.Nat.{ℕ, _+_}
-use native.Mathlib.Omega.{arith}
-use lib.ListN.{drop}
+use Rattle.lists.proofs.Kit.{ap, ℕ, _+_, arith, drop, needs}
 use Rattle.lists.specs.Pick.{pick}
 use Rattle.sia.specs.Decode.{value, number, reading}
 use Rattle.sia.proofs.Laws.Reading.{short, long}
-use borrow.Author.Needs.{needs}
 use Rattle.sia_read.proofs.eight.Statement.{statement}
 use Rattle.sia_read.proofs.eight.Tie as tie
 

@@ -1,10 +1,5 @@
 -- `sia_read::flag` meets its contract: a byte is missing, above 1, or 0 or 1. Assumes nothing.
-use mathlib.Core.Path.{refl, ap}
-use Prim.Native.Nat.{ℕ, _+_, _≤_, _<_}
-use native.Mathlib.Omega.{arith}
-use lib.ListN.{drop}
-use lib.Dec.{eqb}
-use borrow.Author.Tests.{lt-ltb, le-ltb}
+use Rattle.lists.proofs.Kit.{refl, ap, ℕ, _+_, _≤_, _<_, arith, drop, eqb, lt-ltb, le-ltb, needs}
 use Rattle.lists.specs.Pick.{pick}
 use Rattle.lists.proofs.Laws.Pick.{yes, no}
 use Rattle.area.specs.Area.{part}
@@ -12,7 +7,6 @@ use Rattle.area.specs.Little.{valueOf}
 use Rattle.area.proofs.Laws.Little.{value-one}
 use Rattle.sia.specs.Decode.{value, flag, reading}
 use Rattle.sia.proofs.Laws.Reading.{short, long}
-use borrow.Author.Needs.{needs}
 use Rattle.sia_read.proofs.flag.Statement.{statement}
 use Rattle.sia_read.proofs.flag.Tie as tie
 

@@ -1,10 +1,6 @@
 -- `sia_read::head` meets its contract: contract id, instruction count, instructions and declared length, one behind the other. The fixed id is
 -- the id that was read. Assumes nothing.
-use mathlib.Core.Path.{_≡_, refl, sym, ap, _∙_}
-use mathlib.Core.List.{List}
-use Prim.Native.Nat.{ℕ, _≤_}
-use native.Mathlib.Omega.{arith}
-use lib.ListN.{length, drop}
+use Rattle.lists.proofs.Kit.{_≡_, refl, sym, ap, _∙_, List, ℕ, _≤_, arith, length, drop, needs}
 use Rattle.lists.specs.Pick.{pick}
 use Rattle.area.specs.Area.{part}
 use Rattle.sia.specs.declared.Head.{Head}
@@ -12,7 +8,6 @@ use Rattle.sia.specs.Decode.{Reading, value, after, bytes, head, reading}
 use Rattle.area.proofs.Laws.Puts.{put-part}
 use Rattle.sia.proofs.Laws.Reading.{fine, short, long, stops, goes}
 use Rattle.sia.proofs.Laws.Inverse.{limited-within}
-use borrow.Author.Needs.{needs}
 use Rattle.sia_read.proofs.head.Statement.{statement}
 use Rattle.sia_read.proofs.head.Tie as tie
 

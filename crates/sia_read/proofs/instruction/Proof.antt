@@ -1,10 +1,6 @@
 -- `sia_read::instruction` meets its contract: name, operand count, operands and flag, one behind the other. The entry's name and
 -- operands are empty, so the name that is laid over is the one that was read, and the fixed name is that name. Assumes nothing.
-use mathlib.Core.Path.{_≡_, sym, ap, _∙_}
-use mathlib.Core.List.{List}
-use Prim.Native.Nat.{ℕ, _+_, _-_, _≤_}
-use native.Mathlib.Omega.{arith}
-use lib.ListN.{length, drop}
+use Rattle.lists.proofs.Kit.{_≡_, sym, ap, _∙_, List, ℕ, _+_, _-_, _≤_, arith, length, drop, needs}
 use Rattle.lists.specs.Pick.{pick}
 use Rattle.area.specs.Area.{part}
 use Rattle.sia.specs.declared.Instruction.{Instruction}
@@ -12,7 +8,6 @@ use Rattle.sia.specs.Decode.{Reading, value, after, bytes, instruction, reading
 use Rattle.area.proofs.Laws.Puts.{put-part}
 use Rattle.sia.proofs.Laws.Reading.{fine, short, long, stops, goes}
 use Rattle.sia.proofs.Laws.Inverse.{limited-within}
-use borrow.Author.Needs.{needs}
 use Rattle.sia_read.proofs.instruction.Statement.{statement}
 use Rattle.sia_read.proofs.instruction.Tie as tie
 
@@ -46,9 +41,8 @@ operands-requires c κs =
 returns-5 : tie.Need-returns-5
 unfolding instruction reading pick
 returns-5 c =
-    let proof = c .before .before .before in
-    let list = proof .before .before .before in
-    let count = list .before .before .before .before in
+    let proof = c .before .before .before in let list = proof .before .before .before in let else2 = list .before .before in
+    let count = else2 .before .before in
     let bytes = start count .args .bytes .now in
     let entry = start count .args .entry .name in
     let empty = ap (λ (x : Instruction). length (x .name)) (start count .pre .1) in
@@ -56,7 +50,7 @@ returns-5 c =
     count .before .fixed-name .ensures
     ∙ put-part entry bytes (start count .args .at) 16 empty (omega (arith, there count)) (copied count .copy-between .ensures) in
     record { stays = proof .flag .ensures .stays; says =
-        named count _ (goes _ (count .limited .ensures) (list .before .before .if2 .left)
+        named count _ (goes _ (count .limited .ensures) (else2 .if2 .left)
         (goes _ (list .operands .ensures) (proof .before .if3 .left) (goes _ (proof .flag .ensures) (c .before .if4 .left)
         (ap (λ (bs : List ℕ). value (record { name = bs; count = count .limited .result .value; operands = list .operands .result .list;
             proof = proof .flag .result .value }) (drop (proof .flag .result .next) bytes)) name)))) }
@@ -67,7 +61,8 @@ instruction-spec = tie.close (tie.spec
     (λ c. search needs)
     (λ c. let a = c .before .before .args in record { stays = search needs; says = short _ (a .bytes .now) (a .at) 16 _ _ (c .if1 .taken) })
     (λ c. search needs)
-    (λ c κs. let named = ap (λ (x : Instruction). length (x .name)) (c .before .before .before .before .pre .1) in (omega arith, omega arith))
+    (λ c κs. let back-3 = c .before .before .before in let back-4 = back-3 .before in
+        let named = ap (λ (x : Instruction). length (x .name)) (back-4 .pre .1) in (omega arith, omega arith))
     (λ c κs. search needs) (λ c. search needs) (λ c κs. search needs)
     (λ c. let count = c .before .before in
         record { stays = search needs; says = named count _ (stops _ _ _ (count .limited .ensures) (c .if2 .taken)) })

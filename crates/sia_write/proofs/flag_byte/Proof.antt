@@ -1,5 +1,5 @@
 -- `sia_write::flag_byte` meets its contract, in each case. Assumes nothing.
-use mathlib.Core.Path.{sym, ap}
+use Rattle.lists.proofs.Kit.{sym, ap}
 use Rattle.sia.specs.Encode.{flagByte}
 use Rattle.sia_write.proofs.flag_byte.Statement.{statement}
 use Rattle.sia_write.proofs.flag_byte.Tie as tie

@@ -1,7 +1,5 @@
 -- `sia_write::head_length` meets its contract. Assumes nothing.
-use mathlib.Core.Path.{sym, ap, _∙_}
-use Prim.Native.Nat.{ℕ, _+_}
-use native.Mathlib.Omega.{arith}
+use Rattle.lists.proofs.Kit.{sym, ap, _∙_, ℕ, _+_, arith}
 use Rattle.sia.proofs.Laws.Known.{known-head}
 use Rattle.sia.proofs.Laws.Limits.{within-is}
 use Rattle.sia.proofs.Laws.Joined.{length-head}

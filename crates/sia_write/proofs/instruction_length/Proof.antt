@@ -1,9 +1,7 @@
 -- `sia_write::instruction_length` meets its contract. Assumes nothing.
-use mathlib.Core.Path.{sym}
-use native.Mathlib.Omega.{arith}
+use Rattle.lists.proofs.Kit.{sym, arith, needs}
 use Rattle.sia.proofs.Laws.Known.{known-instruction}
 use Rattle.sia.proofs.Laws.Joined.{length-instruction}
-use borrow.Author.Needs.{needs}
 use Rattle.sia_write.proofs.instruction_length.Statement.{statement}
 use Rattle.sia_write.proofs.instruction_length.Tie as tie
 

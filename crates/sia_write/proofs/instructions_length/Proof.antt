@@ -1,14 +1,9 @@
 -- `sia_write::instructions_length` meets its contract. The loop's invariant: the total is the length of the bytes of the first i
 -- instructions, each of which is at most 89 bytes long. Assumes nothing.
-use mathlib.Core.Path.{_≡_, refl, sym, ap, _∙_}
-use Prim.Native.Nat.{ℕ, _+_, _-_, _*_, _≤_}
-use native.Mathlib.Omega.{arith}
-use lib.ListN.{length, take}
-use borrow.Author.Tests.{leb-true}
+use Rattle.lists.proofs.Kit.{_≡_, refl, sym, ap, _∙_, ℕ, _+_, _-_, _*_, _≤_, arith, length, take, leb-true, needs}
 use Rattle.lists.proofs.Laws.Every.{every-taken, every-taken}
 use Rattle.sia.specs.Encode.{joined, instructionBytes, fewOperands}
 use Rattle.sia.proofs.Laws.Joined.{length-more}
-use borrow.Author.Needs.{needs}
 use Rattle.sia_write.proofs.instructions_length.Statement.{statement}
 use Rattle.sia_write.proofs.instructions_length.Tie as tie
 
@@ -20,8 +15,9 @@ abbrev μ-loop : tie.MeasureT-loop
 
 loop-again : tie.Need-loop-again Inv-loop μ-loop
 loop-again c =
-    let l = c .before .before .before .loop in
-    let s = c .before .before .before .before in (
+    let at-loop = c .before .before .before in let s = at-loop .before in
+    let l = at-loop .loop in
+    (
       omega arith,
       (λ x. l .inv .1 x + c .instruction-length .ensures .0 x) ∙ sym (length-more instructionBytes (s .args .t1) (l .i) _ (omega (arith, s .good .0 .1 .0 .1))),
       omega arith,
@@ -39,5 +35,6 @@ unfolding joined
 instructions-length-spec = tie.close (tie.spec
     Inv-loop μ-loop (λ c. (omega arith, refl, omega arith)) (λ c. search needs) (λ c. omega arith)
     (λ c κs. let s = c .before .before .before in
-        leb-true _ _ (every-taken fewOperands _ _ (c .before .before .loop .i) _ (s .pre .1) (c .before .loop-test .taken) (omega (arith, s .good .0 .1 .0 .1))))
+        leb-true _ _ (every-taken fewOperands _ _ (c .before .before .loop .i) _ (s .pre .1) (c .before .loop-test .taken)
+            (omega (arith, s .good .0 .1 .0 .1))))
     (λ c. omega arith) (λ c. search needs) (λ c. omega arith) loop-again returns)

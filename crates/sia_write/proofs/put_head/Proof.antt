@@ -1,15 +1,11 @@
 -- `sia_write::put_head` meets its contract: four pieces, one behind the other. The fixed id is the id. Assumes nothing.
-use mathlib.Core.Path.{_≡_, refl, sym, ap, _∙_}
-use Prim.Native.Nat.{_+_, _≤_}
-use native.Mathlib.Omega.{arith}
-use lib.ListN.{length}
+use Rattle.lists.proofs.Kit.{_≡_, refl, sym, ap, _∙_, _+_, _≤_, arith, length, needs}
 use Rattle.area.proofs.Laws.Little.{length-bytes}
 use Rattle.area.proofs.Laws.Parts.{part-whole}
 use Rattle.sia.specs.Encode.{joined, instructionBytes, instructionsIn, encode}
 use Rattle.sia.proofs.Laws.Known.{known-head}
 use Rattle.sia.proofs.Laws.Limits.{Within, within-is}
 use Rattle.sia.proofs.Laws.Joined.{length-head, lay-same, lay-four}
-use borrow.Author.Needs.{needs}
 use Rattle.sia_write.proofs.put_head.Statement.{statement}
 use Rattle.sia_write.proofs.put_head.Tie as tie
 
@@ -25,10 +21,14 @@ abbrev before-id : tie.After-copy-between → tie.Start
 before-id c = start (fixed c)
 
 abbrev before-count : tie.After-store → tie.After-copy-between
-before-count c = c .before .before .before .before
+before-count c =
+    let at-out = c .before .before .before in let at-copy-between = at-out .before in
+    at-copy-between
 
 abbrev before-list : tie.After-put-instructions → tie.After-store
-before-list c = c .before .before .before .before .before
+before-list c =
+    let at-list = c .before .before in let at-store = at-list .before .before .before in
+    at-store
 
 -- the lengths of the parts, and the room that the area has for them
 record Room (s : tie.Start) : Type 0 where
@@ -54,7 +54,7 @@ copy-between-requires c κs =
 returns : tie.Need-returns
 unfolding encode
 returns c =
-    let list = c .before .before .before .before .before .before in
+    let at-store2 = c .before .before in let at-out3 = at-store2 .before .before .before in let list = at-out3 .before in
     let count = before-list list in
     let id = before-count count in
     let r = room (before-id id) in
@@ -63,14 +63,15 @@ returns c =
     (lay-same _ _ _ (id .copy-between .ensures) (part-whole _ 32 (sym (ap length same ∙ r .contract)) ∙ same))
     (count .store .ensures)
     (list .put-instructions .ensures .1)
-    (c .before .before .store2 .ensures)
+    (at-store2 .store2 .ensures)
     (r .contract) (length-bytes 8 _) refl refl refl (list .put-instructions .ensures .0)
 
 pub put-head-spec : {M : Type 1} → statement M
 put-head-spec = tie.close (tie.spec
     (λ c κs. search needs) (λ c. search needs) copy-between-requires
     (λ c κs. let r = room (before-id (c .before .before .before)) in omega arith)
-    (λ c κs. let r = room (before-id (before-count (c .before .before .before .before))) in (r .limits .count, (r .limits .few, omega arith)))
+    (λ c κs. let back-3 = c .before .before .before in let back-4 = back-3 .before in let r = room (before-id (before-count (back-4))) in
+        (r .limits .count, (r .limits .few, omega arith)))
     (λ c κs. let r = room (before-id (before-count (before-list (c .before .before .before)))) in
         omega (arith, c .before .before .before .put-instructions .ensures .0))
     (λ c. search needs) returns)

@@ -1,16 +1,10 @@
 -- `sia_write::put_instruction` meets its contract: four pieces, one behind the other. The fixed name is the name. Assumes nothing.
-use mathlib.Core.Path.{_≡_, refl, sym, ap, _∙_}
-use mathlib.Core.List.{[], _∷_}
-use Prim.Native.Nat.{ℕ, _+_, _*_, _≤_}
-use native.Mathlib.Omega.{arith}
-use lib.ListN.{length}
-use lib.Seq.{length-take-le}
+use Rattle.lists.proofs.Kit.{_≡_, refl, sym, ap, _∙_, [], _∷_, ℕ, _+_, _*_, _≤_, arith, length, length-take-le, needs}
 use Rattle.area.proofs.Laws.Little.{length-bytes}
 use Rattle.area.proofs.Laws.Parts.{part-whole}
 use Rattle.sia.specs.Encode.{instructionBytes, operandsIn}
 use Rattle.sia.proofs.Laws.Known.{known-instruction}
 use Rattle.sia.proofs.Laws.Joined.{length-operands, length-instruction, lay-same, lay-four}
-use borrow.Author.Needs.{needs}
 use Rattle.sia_write.proofs.put_instruction.Statement.{statement}
 use Rattle.sia_write.proofs.put_instruction.Tie as tie
 
@@ -26,10 +20,14 @@ abbrev before-name : tie.After-copy-between → tie.Start
 before-name c = start (fixed c)
 
 abbrev before-count : tie.After-store → tie.After-copy-between
-before-count c = c .before .before .before .before
+before-count c =
+    let at-out = c .before .before .before in let at-copy-between = at-out .before in
+    at-copy-between
 
 abbrev before-operands : tie.After-put-operands → tie.After-store
-before-operands c = c .before .before .before .before .before
+before-operands c =
+    let at-list = c .before .before in let at-store = at-list .before .before .before in
+    at-store
 
 -- the lengths of the parts, and the room that the area has for them
 record Room (s : tie.Start) : Type 0 where
@@ -56,7 +54,7 @@ copy-between-requires c κs =
 returns : tie.Need-returns
 unfolding instructionBytes
 returns c =
-    let operands = c .before .before .before .before .before .before .before in
+    let at-flag-byte = c .before .before .before in let at-out3 = at-flag-byte .before .before .before in let operands = at-out3 .before in
     let count = before-operands operands in
     let name = before-count count in
     let r = room (before-name name) in
@@ -66,7 +64,7 @@ returns c =
     (lay-same _ _ _ (name .copy-between .ensures) (part-whole _ 16 (sym (ap length same ∙ r .name)) ∙ same))
     (count .store .ensures)
     (operands .put-operands .ensures)
-    (lay-same _ _ _ (c .before .before .fill .ensures) (ap (λ (b : ℕ). b ∷ []) (c .before .before .before .flag-byte .ensures)))
+    (lay-same _ _ _ (c .before .before .fill .ensures) (ap (λ (b : ℕ). b ∷ []) (at-flag-byte .flag-byte .ensures)))
     (r .name) (length-bytes 8 _) (length-operands (operandsIn x) ∙ ap (λ (n : ℕ). 16 * n) (length-take-le (x .count) (x .operands) (omega arith)))
     refl (omega arith) refl
 
@@ -75,7 +73,9 @@ put-instruction-spec = tie.close (tie.spec
     (λ c κs. search needs) (λ c. search needs) copy-between-requires (λ c. search needs)
     (λ c κs. let r = room (before-name (c .before .before .before)) in omega arith)
     (λ c. search needs)
-    (λ c κs. let r = room (before-name (before-count (c .before .before .before .before))) in (r .few, omega arith))
+    (λ c κs. let back-3 = c .before .before .before in let back-4 = back-3 .before in let r = room (before-name (before-count (back-4))) in
+        (r .few, omega arith))
     (λ c. search needs) (λ c. search needs) (λ c. search needs) (λ c κs. search needs)
-    (λ c κs. let r = room (before-name (before-count (before-operands (c .before .before .before .before)))) in omega arith)
+    (λ c κs. let back-3 = c .before .before .before in let back-4 = back-3 .before in
+        let r = room (before-name (before-count (before-operands (back-4)))) in omega arith)
     (λ c. search needs) returns)

@@ -1,12 +1,5 @@
 -- What a caller reads off an answer: the test that the definition makes holds of what was asked. Assumes nothing.
-use mathlib.Core.Path.{_≡_, ap, _∙_}
-use mathlib.Core.Bool.{Bool, true, false}
-use mathlib.Core.List.{List}
-use Prim.Native.Nat.{ℕ, _*_, _/_, _%_, _^_, _≤_, _<_}
-use native.Mathlib.Omega.{arith}
-use lib.ListN.{length}
-use lib.Dec.{leb}
-use borrow.Author.Tests.{eq-eqb, lt-ltb, le-leb}
+use Rattle.lists.proofs.Kit.{_≡_, ap, _∙_, Bool, true, false, List, ℕ, _*_, _/_, _%_, _^_, _≤_, _<_, arith, length, leb, eq-eqb, lt-ltb, le-leb}
 use Rattle.lists.specs.Pick.{both}
 use Rattle.lists.proofs.Laws.Pick.{by, picks, skips, both-join}
 use Rattle.area.specs.Area.{put}

@@ -1,9 +1,5 @@
 -- A part of zeros is zeros. Assumes nothing.
-use mathlib.Core.Path.{_≡_, refl, ap}
-use mathlib.Core.List.{List, _∷_}
-use Prim.Native.Nat.{ℕ, zero, suc, _+_, _≤_}
-use native.Mathlib.Omega.{arith}
-use lib.ListN.{take}
+use Rattle.lists.proofs.Kit.{_≡_, refl, ap, List, _∷_, ℕ, zero, suc, _+_, _≤_, arith, take}
 use Rattle.area.specs.Area.{part, zeros}
 
 take-zeros : (n k : ℕ) → k ≤ n → take k (zeros n) ≡ zeros k

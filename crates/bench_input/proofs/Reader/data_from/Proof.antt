@@ -1,5 +1,5 @@
 -- `bench_input::Reader::data_from` meets its contract. Assumes nothing.
-use mathlib.Core.Path.{refl}
+use Rattle.lists.proofs.Kit.{refl}
 use Rattle.bench_input.specs.Reader.{dataFrom}
 use Rattle.bench_input.proofs.Reader.data_from.Statement.{statement}
 use Rattle.bench_input.proofs.Reader.data_from.Tie as tie

@@ -1,10 +1,6 @@
 -- `bench_input::Reader::feed` meets its contract. The invariant of its loop: what is still to be fed leads from here to where all bytes lead from the
 -- start. Assumes nothing.
-use mathlib.Core.Path.{_≡_, refl, sym, _∙_}
-use Prim.Native.Nat.{_-_, _≤_}
-use native.Mathlib.Omega.{arith}
-use lib.ListN.{length, drop}
-use borrow.Author.Needs.{needs}
+use Rattle.lists.proofs.Kit.{_≡_, refl, sym, _∙_, _-_, _≤_, arith, length, drop, needs}
 use Rattle.bench_input.specs.Reader.{state, fed}
 use Rattle.bench_input.proofs.Laws.Laying.{further, all-fed}
 use Rattle.bench_input.proofs.Reader.feed.Statement.{statement}

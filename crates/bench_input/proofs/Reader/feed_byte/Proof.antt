@@ -1,5 +1,5 @@
 -- `bench_input::Reader::feed_byte` meets its contract: the section goes on, or has ended. Assumes nothing.
-use borrow.Author.Needs.{needs}
+use Rattle.lists.proofs.Kit.{needs}
 use Rattle.bench_input.proofs.Laws.Laying.{goes-on, has-ended}
 use Rattle.bench_input.proofs.Reader.feed_byte.Statement.{statement}
 use Rattle.bench_input.proofs.Reader.feed_byte.Tie as tie

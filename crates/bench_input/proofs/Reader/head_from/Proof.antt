@@ -1,8 +1,5 @@
 -- `bench_input::Reader::head_from` meets its contract: no head, or what is kept of it. Assumes nothing.
-use mathlib.Core.Path.{ap}
-use Prim.Native.Nat.{ℕ}
-use borrow.Author.Tests.{eq-eqb, ne-eqb}
-use borrow.Author.Needs.{needs}
+use Rattle.lists.proofs.Kit.{ap, ℕ, eq-eqb, ne-eqb, needs}
 use Rattle.lists.proofs.Laws.Pick.{yes, no}
 use Rattle.bench_input.specs.Reader.{reader, headFrom}
 use Rattle.bench_input.specs.declared.Section.the-variants.{Head}

@@ -1,6 +1,5 @@
 -- `bench_input::Reader::held` meets its contract. Assumes nothing.
-use mathlib.Core.Path.{refl, sym, _∙_}
-use borrow.Author.Needs.{needs}
+use Rattle.lists.proofs.Kit.{refl, sym, _∙_, needs}
 use Rattle.lists.proofs.Laws.Pick.{yes, no}
 use Rattle.bench_input.specs.Reader.{held}
 use Rattle.bench_input.proofs.Reader.held.Statement.{statement}

@@ -1,7 +1,5 @@
 -- `bench_input::Reader::ids_from` meets its contract: no id is left, or there is one more. Assumes nothing.
-use mathlib.Core.Path.{refl}
-use borrow.Author.Tests.{eq-eqb, ne-eqb}
-use borrow.Author.Needs.{needs}
+use Rattle.lists.proofs.Kit.{refl, eq-eqb, ne-eqb, needs}
 use Rattle.lists.proofs.Laws.Pick.{yes, no}
 use Rattle.bench_input.specs.Reader.{idsFrom}
 use Rattle.bench_input.proofs.Reader.ids_from.Statement.{statement}

@@ -1,6 +1,5 @@
 -- `bench_input::Reader::laid` meets its contract: no room is left, the area ends, or the byte is laid. Assumes nothing.
-use native.Mathlib.Omega.{arith}
-use borrow.Author.Needs.{needs}
+use Rattle.lists.proofs.Kit.{arith, needs}
 use Rattle.bench_input.proofs.Laws.Laying.{lays-none, lays-one}
 use Rattle.bench_input.proofs.Reader.laid.Statement.{statement}
 use Rattle.bench_input.proofs.Reader.laid.Tie as tie

@@ -1,5 +1,5 @@
 -- `bench_input::Reader::new` meets its contract. Assumes nothing.
-use mathlib.Core.Path.{refl}
+use Rattle.lists.proofs.Kit.{refl}
 use Rattle.bench_input.specs.Reader.{fresh}
 use Rattle.bench_input.proofs.Reader.new.Statement.{statement}
 use Rattle.bench_input.proofs.Reader.new.Tie as tie

@@ -1,5 +1,5 @@
 -- `bench_input::Reader::next` meets its contract, section by section. Assumes nothing.
-use borrow.Author.Needs.{needs}
+use Rattle.lists.proofs.Kit.{needs}
 use Rattle.bench_input.proofs.Laws.Laying.{behind-front, behind-id, behind-length, behind-head, in-data}
 use Rattle.bench_input.proofs.Reader.next.Statement.{statement}
 use Rattle.bench_input.proofs.Reader.next.Tie as tie

@@ -1,16 +1,11 @@
 -- `bench_program::contracts::form_in_turn` meets its contract. The loop's invariant: what all ids come to is what those come to that are left, on the
 -- host that was made so far. Assumes nothing.
-use mathlib.Core.Path.{_≡_, sym, ap, _∙_}
-use Prim.Native.Nat.{ℕ, _-_, _*_, _/_}
-use native.Mathlib.Nat.{div-add-mod'}
-use native.Mathlib.Omega.{arith}
-use lib.ListN.{length}
+use Rattle.lists.proofs.Kit.{_≡_, sym, ap, _∙_, ℕ, _-_, _*_, _/_, div-add-mod', arith, length, needs}
 use Rattle.lists.specs.Tab.{tab}
 use Rattle.area.specs.Area.{part}
 use Rattle.host.specs.Calls.{formed}
 use Rattle.bench_program.specs.Single.{idsIn, formedInTurn}
 use Rattle.bench_program.proofs.Laws.Turns.{turn-refused, turn-formed, turn-none}
-use borrow.Author.Needs.{needs}
 use Rattle.bench_program.proofs.contracts.form_in_turn.Statement.{statement}
 use Rattle.bench_program.proofs.contracts.form_in_turn.Tie as tie
 

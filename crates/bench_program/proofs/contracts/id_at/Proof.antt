@@ -1,7 +1,6 @@
 -- `bench_program::contracts::id_at` meets its contract: 32 bytes over 32 zeros. Assumes nothing.
-use mathlib.Core.Path.{refl}
+use Rattle.lists.proofs.Kit.{refl, needs}
 use Rattle.area.proofs.Laws.Puts.{put-part}
-use borrow.Author.Needs.{needs}
 use Rattle.bench_program.proofs.contracts.id_at.Statement.{statement}
 use Rattle.bench_program.proofs.contracts.id_at.Tie as tie
 

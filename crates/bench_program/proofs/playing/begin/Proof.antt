@@ -1,6 +1,6 @@
 -- `bench_program::playing::begin` meets its contract: a refusal of the head, or what its data leaves. Assumes nothing.
 use Rattle.bench_program.proofs.Laws.Plays.{begun-refused, begun-goes}
-use borrow.Author.Needs.{needs}
+use Rattle.lists.proofs.Kit.{needs}
 use Rattle.bench_program.proofs.playing.begin.Statement.{statement}
 use Rattle.bench_program.proofs.playing.begin.Tie as tie
 

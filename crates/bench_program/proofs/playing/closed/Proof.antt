@@ -1,6 +1,5 @@
 -- `bench_program::playing::closed` meets its contract. Assumes nothing.
-use mathlib.Core.Path.{ap}
-use Prim.Native.Nat.{ℕ}
+use Rattle.lists.proofs.Kit.{ap, ℕ}
 use Rattle.bench_program.specs.declared.Outcome.{Outcome}
 use Rattle.bench_program.proofs.playing.closed.Statement.{statement}
 use Rattle.bench_program.proofs.playing.closed.Tie as tie

@@ -1,6 +1,6 @@
 -- `bench_program::playing::finish` meets its contract. Assumes nothing.
 use Rattle.bench_program.proofs.Laws.Plays.{ended-is}
-use borrow.Author.Needs.{needs}
+use Rattle.lists.proofs.Kit.{needs}
 use Rattle.bench_program.proofs.playing.finish.Statement.{statement}
 use Rattle.bench_program.proofs.playing.finish.Tie as tie
 

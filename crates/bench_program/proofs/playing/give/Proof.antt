@@ -1,6 +1,6 @@
 -- `bench_program::playing::give` meets its contract: a refusal of the piece, or what its close leaves. Assumes nothing.
 use Rattle.bench_program.proofs.Laws.Plays.{front-is, rest-is, given-refused, given-closed}
-use borrow.Author.Needs.{needs}
+use Rattle.lists.proofs.Kit.{needs}
 use Rattle.bench_program.proofs.playing.give.Statement.{statement}
 use Rattle.bench_program.proofs.playing.give.Tie as tie
 

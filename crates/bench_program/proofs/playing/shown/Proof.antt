@@ -1,6 +1,5 @@
 -- `bench_program::playing::shown` meets its contract. Assumes nothing.
-use mathlib.Core.Path.{refl}
-use borrow.Author.Tests.{eq-eqb, ne-eqb}
+use Rattle.lists.proofs.Kit.{refl, eq-eqb, ne-eqb}
 use Rattle.lists.proofs.Laws.Pick.{yes, no}
 use Rattle.bench_program.specs.Single.{shown}
 use Rattle.bench_program.proofs.playing.shown.Statement.{statement}

@@ -1,7 +1,7 @@
 -- `bench_program::reading::cut_short` meets its contract. Assumes nothing.
 use Rattle.bench_program.specs.Input.{numberAt}
 use Rattle.bench_program.proofs.Laws.Input.{ids-short, number-short, head-short}
-use borrow.Author.Needs.{needs}
+use Rattle.lists.proofs.Kit.{needs}
 use Rattle.bench_program.proofs.reading.cut_short.Statement.{statement}
 use Rattle.bench_program.proofs.reading.cut_short.Tie as tie
 

@@ -1,10 +1,7 @@
 -- `bench_program::reading::head_end` meets its contract. Assumes nothing.
-use mathlib.Core.Path.{ap, ap₂, _∙_}
-use Prim.Native.Nat.{ℕ, _+_}
-use native.Mathlib.Omega.{arith}
+use Rattle.lists.proofs.Kit.{ap, ap₂, _∙_, ℕ, _+_, arith, needs}
 use Rattle.bench_program.specs.Input.{numberAt, headEnd}
 use Rattle.bench_program.proofs.Laws.Input.{right}
-use borrow.Author.Needs.{needs}
 use Rattle.bench_program.proofs.reading.head_end.Statement.{statement}
 use Rattle.bench_program.proofs.reading.head_end.Tie as tie
 

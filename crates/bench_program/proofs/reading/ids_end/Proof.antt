@@ -1,7 +1,5 @@
 -- `bench_program::reading::ids_end` meets its contract. Assumes nothing.
-use mathlib.Core.Path.{ap}
-use Prim.Native.Nat.{ℕ, _+_, _*_}
-use native.Mathlib.Omega.{arith}
+use Rattle.lists.proofs.Kit.{ap, ℕ, _+_, _*_, arith}
 use Rattle.bench_program.specs.Input.{numberAt, idsEnd}
 use Rattle.bench_program.proofs.Laws.Input.{right}
 use Rattle.bench_program.proofs.reading.ids_end.Statement.{statement}

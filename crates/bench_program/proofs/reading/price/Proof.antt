@@ -1,7 +1,6 @@
 -- `bench_program::reading::price` meets its contract. Assumes nothing.
-use native.Mathlib.Omega.{arith}
+use Rattle.lists.proofs.Kit.{arith, needs}
 use Rattle.bench_program.specs.Input.{numberAt}
-use borrow.Author.Needs.{needs}
 use Rattle.bench_program.proofs.reading.price.Statement.{statement}
 use Rattle.bench_program.proofs.reading.price.Tie as tie
 

@@ -1,5 +1,5 @@
 -- `bench_program::reading::prices` meets its contract: each is the number at its place. Assumes nothing.
-use native.Mathlib.Omega.{arith}
+use Rattle.lists.proofs.Kit.{arith}
 use Rattle.bench_program.specs.Input.{pricesIn}
 use Rattle.bench_program.proofs.Laws.Input.{right, price-within}
 use Rattle.bench_program.proofs.reading.prices.Statement.{statement}

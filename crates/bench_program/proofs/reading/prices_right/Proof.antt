@@ -1,10 +1,6 @@
 -- `bench_program::reading::prices_right` meets its contract. The loop's invariant: the answer is that of the prices that are left to look at.
 -- Assumes nothing.
-use mathlib.Core.Path.{_≡_, refl, sym, _∙_}
-use Prim.Native.Nat.{_+_, _-_, _*_}
-use native.Mathlib.Omega.{arith}
-use lib.Dec.{leb}
-use borrow.Author.Tests.{le-leb, lt-leb}
+use Rattle.lists.proofs.Kit.{_≡_, refl, sym, _∙_, _+_, _-_, _*_, arith, leb, le-leb, lt-leb}
 use Rattle.lists.specs.Tests.{every}
 use Rattle.lists.specs.Tab.{tab}
 use Rattle.lists.proofs.Laws.Tab.{tab-stops, tab-further, tab-done}

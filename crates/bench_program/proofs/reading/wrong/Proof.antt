@@ -1,10 +1,7 @@
 -- `bench_program::reading::wrong` meets its contract: a walk down the definition. Assumes nothing.
-use mathlib.Core.Path.{refl, sym, ap, _∙_}
-use mathlib.Core.Bool.{not}
-use borrow.Author.Tests.{eq-eqb, ne-eqb, lt-ltb, le-ltb}
+use Rattle.lists.proofs.Kit.{refl, sym, ap, _∙_, not, eq-eqb, ne-eqb, lt-ltb, le-ltb, needs}
 use Rattle.lists.proofs.Laws.Pick.{yes, no}
 use Rattle.bench_program.specs.Input.{numberAt, wrong}
-use borrow.Author.Needs.{needs}
 use Rattle.bench_program.proofs.reading.wrong.Statement.{statement}
 use Rattle.bench_program.proofs.reading.wrong.Tie as tie
 

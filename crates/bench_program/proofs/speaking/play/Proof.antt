@@ -1,6 +1,5 @@
 -- `bench_program::speaking::play` meets its contract: the records stand in the output area; a number is laid over its front. Assumes nothing.
-use native.Mathlib.Omega.{arith}
-use borrow.Author.Needs.{needs}
+use Rattle.lists.proofs.Kit.{arith, needs}
 use Rattle.bench_program.proofs.Laws.Spoken.{speaks-number, speaks-records}
 use Rattle.bench_program.proofs.speaking.play.Statement.{statement}
 use Rattle.bench_program.proofs.speaking.play.Tie as tie

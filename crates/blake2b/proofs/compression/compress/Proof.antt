@@ -1,5 +1,5 @@
 -- `blake2b::compression::compress` meets its contract: the parts of F, put together. Assumes nothing.
-use borrow.Author.Needs.{needs}
+use Rattle.lists.proofs.Kit.{needs}
 use Rattle.blake2b.proofs.Laws.Steps.{whole}
 use Rattle.blake2b.proofs.compression.compress.Statement.{statement}
 use Rattle.blake2b.proofs.compression.compress.Tie as tie

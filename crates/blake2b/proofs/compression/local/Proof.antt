@@ -1,8 +1,5 @@
 -- `blake2b::compression::local` meets its contract: the counter goes into word 12, the final flag into word 14. Assumes nothing.
-use mathlib.Core.Path.{ap}
-use mathlib.Core.List.{List}
-use Prim.Native.Nat.{ℕ}
-use borrow.Author.Needs.{needs}
+use Rattle.lists.proofs.Kit.{ap, List, ℕ, needs}
 use Rattle.lists.proofs.Laws.Pick.{yes, no}
 use Rattle.blake2b.specs.Compression.{local, xorAt}
 use Rattle.blake2b.proofs.Laws.Steps.{vector}

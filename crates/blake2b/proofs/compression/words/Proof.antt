@@ -1,9 +1,5 @@
 -- `blake2b::compression::words` meets its contract. The loop's invariant: the first i words are read. Assumes nothing.
-use mathlib.Core.Path.{_≡_, refl}
-use Prim.Native.Nat.{_*_, _≤_, _-_}
-use native.Mathlib.Omega.{arith}
-use borrow.Author.Needs.{needs}
-use lib.ListN.{length, take}
+use Rattle.lists.proofs.Kit.{_≡_, refl, _*_, _≤_, _-_, arith, needs, length, take}
 use Rattle.lists.specs.Tab.{tab}
 use Rattle.lists.proofs.Laws.Tab.{fill-none, fill-one, fill-all}
 use Rattle.area.specs.Area.{part, zeros}

@@ -1,5 +1,5 @@
 -- `blake2b::mixing::g` meets its contract: the eight steps of G, one after the other. Assumes nothing.
-use borrow.Author.Needs.{needs}
+use Rattle.lists.proofs.Kit.{needs}
 use Rattle.blake2b.specs.Compression.{G}
 use Rattle.blake2b.proofs.mixing.g.Statement.{statement}
 use Rattle.blake2b.proofs.mixing.g.Tie as tie

@@ -1,5 +1,5 @@
 -- `blake2b::mixing::rotr` meets its contract: a rotation is the two shifts joined. Assumes nothing.
-use borrow.Author.Needs.{needs}
+use Rattle.lists.proofs.Kit.{needs}
 use Rattle.blake2b.specs.Compression.{rotr}
 use Rattle.blake2b.proofs.mixing.rotr.Statement.{statement}
 use Rattle.blake2b.proofs.mixing.rotr.Tie as tie

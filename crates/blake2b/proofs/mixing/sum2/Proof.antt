@@ -1,5 +1,5 @@
 -- `blake2b::mixing::sum2` meets its contract: one word of the vector is set. Assumes nothing.
-use borrow.Author.Needs.{needs}
+use Rattle.lists.proofs.Kit.{needs}
 use Rattle.blake2b.specs.Compression.{sum2}
 use Rattle.blake2b.proofs.mixing.sum2.Statement.{statement}
 use Rattle.blake2b.proofs.mixing.sum2.Tie as tie

@@ -1,5 +1,5 @@
 -- `blake2b::mixing::sum3` meets its contract: one word of the vector is set. Assumes nothing.
-use borrow.Author.Needs.{needs}
+use Rattle.lists.proofs.Kit.{needs}
 use Rattle.blake2b.specs.Compression.{sum3}
 use Rattle.blake2b.proofs.mixing.sum3.Statement.{statement}
 use Rattle.blake2b.proofs.mixing.sum3.Tie as tie

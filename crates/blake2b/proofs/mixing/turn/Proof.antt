@@ -1,5 +1,5 @@
 -- `blake2b::mixing::turn` meets its contract: one word of the vector is set. Assumes nothing.
-use borrow.Author.Needs.{needs}
+use Rattle.lists.proofs.Kit.{needs}
 use Rattle.blake2b.specs.Compression.{turn}
 use Rattle.blake2b.proofs.mixing.turn.Statement.{statement}
 use Rattle.blake2b.proofs.mixing.turn.Tie as tie

@@ -1,5 +1,5 @@
 -- `blake2b::rounds::diagonals` meets its contract: four mixings, one after the other. Assumes nothing.
-use borrow.Author.Needs.{needs}
+use Rattle.lists.proofs.Kit.{needs}
 use Rattle.blake2b.proofs.rounds.diagonals.Statement.{statement}
 use Rattle.blake2b.proofs.rounds.diagonals.Tie as tie
 

@@ -1,5 +1,5 @@
 -- `blake2b::rounds_again::rounds_again` meets its contract: twelve rounds, one after the other; `a` to `l` are the places behind them. Assumes nothing.
-use borrow.Author.Needs.{needs}
+use Rattle.lists.proofs.Kit.{needs}
 use Rattle.blake2b.proofs.Laws.Steps.{twelve}
 use Rattle.blake2b.proofs.rounds_again.rounds_again.Statement.{statement}
 use Rattle.blake2b.proofs.rounds_again.rounds_again.Tie as tie

@@ -1,6 +1,5 @@
 -- `blake2b::straight::applies` meets its contract: three tests, from the left. Assumes nothing.
-use mathlib.Core.Path.{refl}
-use borrow.Author.Tests.{eq-eqb, ne-eqb}
+use Rattle.lists.proofs.Kit.{refl, eq-eqb, ne-eqb}
 use Rattle.lists.proofs.Laws.Pick.{yes, no}
 use Rattle.blake2b.proofs.straight.applies.Statement.{statement}
 use Rattle.blake2b.proofs.straight.applies.Tie as tie

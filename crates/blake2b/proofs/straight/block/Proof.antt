@@ -1,6 +1,5 @@
 -- `blake2b::straight::block` meets its contract: each word is read, or is 0. Assumes nothing.
-use native.Mathlib.Omega.{arith}
-use borrow.Author.Needs.{needs}
+use Rattle.lists.proofs.Kit.{arith, needs}
 use Rattle.blake2b.proofs.Laws.Straight.{block-words}
 use Rattle.blake2b.proofs.straight.block.Statement.{statement}
 use Rattle.blake2b.proofs.straight.block.Tie as tie

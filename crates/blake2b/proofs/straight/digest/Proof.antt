@@ -1,9 +1,5 @@
 -- `blake2b::straight::digest` meets its contract: the first four words of the state are stored, one behind the other. Assumes nothing.
-use mathlib.Core.Path.{ap, _∙_}
-use mathlib.Core.List.{List}
-use Prim.Native.Nat.{ℕ}
-use borrow.Author.Needs.{needs}
-use lib.ListN.{length, take}
+use Rattle.lists.proofs.Kit.{ap, _∙_, List, ℕ, needs, length, take}
 use Rattle.blake2b.specs.Blake2b.{bytes}
 use Rattle.blake2b.proofs.Laws.Data.{length-absorbed}
 use Rattle.blake2b.proofs.Laws.Straight.{four-words}

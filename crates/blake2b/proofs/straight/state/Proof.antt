@@ -1,7 +1,5 @@
 -- `blake2b::straight::state` meets its contract: the parts of F, put together, and the message is one block. Assumes nothing.
-use mathlib.Core.Path.{ap, _∙_}
-use native.Mathlib.Omega.{arith}
-use borrow.Author.Needs.{needs}
+use Rattle.lists.proofs.Kit.{ap, _∙_, arith, needs}
 use Rattle.blake2b.specs.Blake2b.{finished}
 use Rattle.blake2b.proofs.Laws.Steps.{whole}
 use Rattle.blake2b.proofs.Laws.Data.{of-words, one-block}

@@ -1,11 +1,9 @@
 -- `host::Host::bare` meets its contract: 8 times no contract, and no program. Assumes nothing.
-use mathlib.Core.Path.{ap₂}
-use lib.ListN.{replicate}
+use Rattle.lists.proofs.Kit.{ap₂, replicate, needs}
 use Rattle.area.specs.Area.{zeros}
 use Rattle.host.specs.declared.Place.{Place}
 use Rattle.host.specs.declared.Program.{Program}
 use Rattle.host.specs.Empty.{bare}
-use borrow.Author.Needs.{needs}
 use Rattle.host.proofs.Host.bare.Statement.{statement}
 use Rattle.host.proofs.Host.bare.Tie as tie
 

@@ -1,5 +1,5 @@
 -- `host::Place::none` meets its contract: all zeros. Assumes nothing.
-use mathlib.Core.Path.{refl}
+use Rattle.lists.proofs.Kit.{refl}
 use Rattle.host.specs.Empty.{noPlace}
 use Rattle.host.proofs.Place.none.Statement.{statement}
 use Rattle.host.proofs.Place.none.Tie as tie

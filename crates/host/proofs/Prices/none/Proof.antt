@@ -1,5 +1,5 @@
 -- `host::Prices::none` meets its contract: all zeros. Assumes nothing.
-use mathlib.Core.Path.{refl}
+use Rattle.lists.proofs.Kit.{refl}
 use Rattle.host.specs.Empty.{noPrices}
 use Rattle.host.proofs.Prices.none.Statement.{statement}
 use Rattle.host.proofs.Prices.none.Tie as tie

@@ -1,10 +1,8 @@
 -- `host::Program::none` meets its contract: no terms and no progress. Assumes nothing.
-use mathlib.Core.Path.{ap₂}
-use mathlib.Core.Bool.{false}
+use Rattle.lists.proofs.Kit.{ap₂, false, needs}
 use Rattle.host.specs.declared.Terms.{Terms}
 use Rattle.host.specs.declared.Progress.{Progress}
 use Rattle.host.specs.Empty.{noProgram}
-use borrow.Author.Needs.{needs}
 use Rattle.host.proofs.Program.none.Statement.{statement}
 use Rattle.host.proofs.Program.none.Tie as tie
 

@@ -1,5 +1,5 @@
 -- `host::Progress::none` meets its contract: all zeros. Assumes nothing.
-use mathlib.Core.Path.{refl}
+use Rattle.lists.proofs.Kit.{refl}
 use Rattle.host.specs.Empty.{noProgress}
 use Rattle.host.proofs.Progress.none.Statement.{statement}
 use Rattle.host.proofs.Progress.none.Tie as tie

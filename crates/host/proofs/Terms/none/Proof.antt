@@ -1,9 +1,8 @@
 -- `host::Terms::none` meets its contract: the empty head, and prices of 0. Assumes nothing.
-use mathlib.Core.Path.{ap₂}
+use Rattle.lists.proofs.Kit.{ap₂, needs}
 use Rattle.sia.specs.declared.Head.{Head}
 use Rattle.host.specs.declared.Prices.{Prices}
 use Rattle.host.specs.Empty.{noTerms}
-use borrow.Author.Needs.{needs}
 use Rattle.host.proofs.Terms.none.Statement.{statement}
 use Rattle.host.proofs.Terms.none.Tie as tie
 

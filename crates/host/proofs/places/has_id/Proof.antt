@@ -1,9 +1,7 @@
 -- `host::places::has_id` meets its contract. Assumes nothing.
-use mathlib.Core.Path.{refl}
-use borrow.Author.Tests.{not-true, not-false}
+use Rattle.lists.proofs.Kit.{refl, not-true, not-false, needs}
 use Rattle.lists.proofs.Laws.Pick.{yes, no}
 use Rattle.host.specs.Places.{hasId}
-use borrow.Author.Needs.{needs}
 use Rattle.host.proofs.places.has_id.Statement.{statement}
 use Rattle.host.proofs.places.has_id.Tie as tie
 

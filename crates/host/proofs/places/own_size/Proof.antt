@@ -1,10 +1,7 @@
 -- `host::places::own_size` meets its contract. Assumes nothing.
-use mathlib.Core.Path.{refl, sym, ap, _∙_}
-use mathlib.Core.Bool.{not}
-use borrow.Author.Tests.{not-true, not-false}
+use Rattle.lists.proofs.Kit.{refl, sym, ap, _∙_, not, not-true, not-false, needs}
 use Rattle.lists.proofs.Laws.Pick.{yes, no}
 use Rattle.host.specs.Places.{ownSize}
-use borrow.Author.Needs.{needs}
 use Rattle.host.proofs.places.own_size.Statement.{statement}
 use Rattle.host.proofs.places.own_size.Tie as tie
 

@@ -1,13 +1,9 @@
 -- `host::places::place_number` meets its contract. The loop's invariant: so many places before i as are left out. Assumes nothing.
-use mathlib.Core.Path.{_≡_, sym, ap, _∙_}
-use Prim.Native.Nat.{_+_, _-_}
-use native.Mathlib.Omega.{arith}
-use lib.Seq.{slice}
+use Rattle.lists.proofs.Kit.{_≡_, sym, ap, _∙_, _+_, _-_, arith, slice, needs}
 use Rattle.lists.specs.Tests.{firstOf}
 use Rattle.lists.proofs.Laws.Slices.{slice-all, first-here, first-further, first-done}
 use Rattle.host.specs.Places.{hasId}
 use Rattle.host.proofs.Laws.Places.{blank}
-use borrow.Author.Needs.{needs}
 use Rattle.host.proofs.places.place_number.Statement.{statement}
 use Rattle.host.proofs.places.place_number.Tie as tie
 

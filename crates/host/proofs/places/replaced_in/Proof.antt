@@ -1,17 +1,12 @@
 -- `host::places::replaced_in` meets its contract. The loop's invariant: the first i places are replaced, the others as they were.
 -- Assumes nothing.
-use mathlib.Core.Path.{_≡_, ap, _∙_}
-use mathlib.Core.List.{_++_}
-use Prim.Native.Nat.{_-_}
-use native.Mathlib.Omega.{arith}
-use lib.ListN.{length, take, drop, set, length-set}
+use Rattle.lists.proofs.Kit.{_≡_, ap, _∙_, _++_, _-_, arith, length, take, drop, set, length-set, needs}
 use Rattle.lists.specs.Pick.{pick}
 use Rattle.lists.specs.Tests.{each}
 use Rattle.lists.proofs.Laws.Each.{each-none, each-one, each-all}
 use Rattle.host.specs.Places.{hasId}
 use Rattle.host.specs.Calls.{replaced}
 use Rattle.host.proofs.Laws.Places.{blank}
-use borrow.Author.Needs.{needs}
 use Rattle.host.proofs.places.replaced_in.Statement.{statement}
 use Rattle.host.proofs.places.replaced_in.Tie as tie
 
@@ -23,8 +18,9 @@ abbrev μ-loop : tie.MeasureT-loop
 
 loop-again : tie.Need-loop-again Inv-loop μ-loop
 loop-again c =
-    let l = c .before .before .before .loop in
-    let s = c .before .before .before .before in (
+    let at-loop = c .before .before .before in let s = at-loop .before in
+    let l = at-loop .loop in
+    (
       simp length-set (l .inv .0),
       ap (set (l .ps) (l .i)) (c .replacing .ensures)
           ∙ each-one (λ q. pick (hasId (s .args .id) q) (s .args .by) q) (s .args .t1) (l .ps) (l .i) blank (s .good .0 .1 .0 .1) (omega arith) (l .inv .1),

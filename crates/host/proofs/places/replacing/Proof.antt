@@ -1,7 +1,6 @@
 -- `host::places::replacing` meets its contract. Assumes nothing.
-use mathlib.Core.Path.{refl, sym, _∙_}
+use Rattle.lists.proofs.Kit.{refl, sym, _∙_, needs}
 use Rattle.lists.proofs.Laws.Pick.{yes, no}
-use borrow.Author.Needs.{needs}
 use Rattle.host.proofs.places.replacing.Statement.{statement}
 use Rattle.host.proofs.places.replacing.Tie as tie
 

@@ -1,15 +1,10 @@
 -- `host::places::sizes_fit` meets its contract. The loop's invariant: the answer is whether the sizes that are left to look at are
 -- within what is left of the limit. Assumes nothing.
-use mathlib.Core.Path.{_≡_, sym, _∙_}
-use Prim.Native.Nat.{_+_, _-_}
-use native.Mathlib.Omega.{arith}
-use lib.Seq.{slice}
-use lib.Dec.{leb}
+use Rattle.lists.proofs.Kit.{_≡_, sym, _∙_, _+_, _-_, arith, slice, leb, needs}
 use Rattle.lists.proofs.Laws.Sums.{above-first}
 use Rattle.host.specs.Places.{others}
 use Rattle.host.proofs.Laws.Places.{blank}
 use Rattle.host.proofs.Laws.Sums.{fits-first, fits-none, fits-further, fits-done}
-use borrow.Author.Needs.{needs}
 use Rattle.host.proofs.places.sizes_fit.Statement.{statement}
 use Rattle.host.proofs.places.sizes_fit.Tie as tie
 
@@ -21,14 +16,14 @@ abbrev μ-loop : tie.MeasureT-loop
 
 returns-2 : tie.Need-returns-2 Inv-loop μ-loop
 returns-2 c =
-    let l = c .before .before .before .before .loop in
-    let s = c .before .before .before .before .before .before in
+    let in-loop = c .before .before .before in let at-loop = in-loop .before in let s = at-loop .before .before in
+    let l = at-loop .loop in
     fits-none (s .args .id) (s .args .t1) (l .i) 8 (s .good .0 .1 .0 .1) blank _ _ (c .before .own-size .ensures) (omega arith) (c .if2 .taken) ∙ sym (l .inv)
 
 loop-again : tie.Need-loop-again Inv-loop μ-loop
 loop-again c =
-    let l = c .before .before .before .before .loop in
-    let s = c .before .before .before .before .before .before in
+    let in-loop = c .before .before .before in let at-loop = in-loop .before in let s = at-loop .before .before in
+    let l = at-loop .loop in
     l .inv ∙ fits-further (s .args .id) (s .args .t1) (l .i) 8 (s .good .0 .1 .0 .1) blank _ _ (c .before .own-size .ensures) (omega arith) (c .if2 .left)
 
 pub sizes-fit-spec : {M : Type 1} → statement M

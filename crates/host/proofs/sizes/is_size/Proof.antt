@@ -1,8 +1,6 @@
 -- `host::sizes::is_size` meets its contract. The loop's invariant: `at` is 4,096 doubled d times, and the number is a size exactly if it is one below
 -- that. The measure is d. Assumes nothing.
-use mathlib.Core.Path.{_≡_, refl, sym, _∙_}
-use Prim.Native.Nat.{_*_, _^_, _≤_}
-use native.Mathlib.Omega.{arith}
+use Rattle.lists.proofs.Kit.{_≡_, refl, sym, _∙_, _*_, _^_, _≤_, arith}
 use Rattle.host.specs.Sizes.{doubled, isSize}
 use Rattle.host.proofs.Laws.Sizes.{halved, here, further, none}
 use Rattle.host.proofs.sizes.is_size.Statement.{statement}

@@ -1,14 +1,8 @@
 -- `host::slots::again` meets its contract. The loop's invariant: the answer is that of the items that are left to look at.
 -- Assumes nothing.
-use mathlib.Core.Path.{_≡_, refl, sym, _∙_}
-use Prim.Native.Nat.{_-_, _≤_}
-use native.Mathlib.Omega.{arith}
-use lib.Seq.{slice}
-use lib.Dec.{eqb}
-use borrow.Author.Tests.{eq-eqb, ne-eqb}
+use Rattle.lists.proofs.Kit.{_≡_, refl, sym, _∙_, _-_, _≤_, arith, slice, eqb, eq-eqb, ne-eqb, needs}
 use Rattle.lists.specs.Tests.{some}
 use Rattle.lists.proofs.Laws.Slices.{some-here, some-further, some-done}
-use borrow.Author.Needs.{needs}
 use Rattle.host.proofs.slots.again.Statement.{statement}
 use Rattle.host.proofs.slots.again.Tie as tie
 
@@ -20,15 +14,16 @@ abbrev μ-loop : tie.MeasureT-loop
 
 returns : tie.Need-returns Inv-loop μ-loop
 returns c =
-    let l = c .before .before .before .loop in
-    let s = c .before .before .before .before in
+    let at-loop = c .before .before .before in let s = at-loop .before in
+    let l = at-loop .loop in
     some-here _ (s .args .t1) (l .i) (s .args .end) 0 (s .good .0 .1 .0 .1) (omega arith) (omega arith) (eq-eqb _ _ (c .if1 .taken ∙ c .before .wide .ensures))
     ∙ sym (l .inv .1)
 
 loop-again : tie.Need-loop-again Inv-loop μ-loop
 loop-again c =
-    let l = c .before .before .before .loop in
-    let s = c .before .before .before .before in (
+    let at-loop = c .before .before .before in let s = at-loop .before in
+    let l = at-loop .loop in
+    (
       omega arith,
       l .inv .1
           ∙ some-further _ (s .args .t1) (l .i) (s .args .end) 0 (s .good .0 .1 .0 .1) (omega arith) (omega arith)

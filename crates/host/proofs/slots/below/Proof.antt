@@ -1,15 +1,8 @@
 -- `host::slots::below` meets its contract. The loop's invariant: the answer is that of the items that are left to look at.
 -- Assumes nothing.
-use mathlib.Core.Path.{_≡_, refl, sym, _∙_}
-use Prim.Native.Nat.{_-_}
-use native.Mathlib.Omega.{arith}
-use lib.ListN.{take}
-use lib.Seq.{slice}
-use lib.Dec.{ltb}
-use borrow.Author.Tests.{lt-ltb, le-ltb}
+use Rattle.lists.proofs.Kit.{_≡_, refl, sym, _∙_, _-_, arith, take, slice, ltb, lt-ltb, le-ltb, needs}
 use Rattle.lists.specs.Tests.{every}
 use Rattle.lists.proofs.Laws.Slices.{every-stops, every-further, every-done}
-use borrow.Author.Needs.{needs}
 use Rattle.host.proofs.slots.below.Statement.{statement}
 use Rattle.host.proofs.slots.below.Tie as tie
 
@@ -21,16 +14,16 @@ abbrev μ-loop : tie.MeasureT-loop
 
 returns : tie.Need-returns Inv-loop μ-loop
 returns c =
-    let l = c .before .before .before .loop in
-    let s = c .before .before .before .before in
+    let at-loop = c .before .before .before in let s = at-loop .before in
+    let l = at-loop .loop in
     every-stops (λ n. ltb n (s .args .limit)) (s .args .t1) (l .i) (s .args .end) 0 (s .good .0 .1 .0 .1) (omega arith) (omega arith)
     (le-ltb _ (s .args .limit) (rw (sym (c .before .wide .ensures)) (c .if1 .taken)))
     ∙ sym (l .inv)
 
 loop-again : tie.Need-loop-again Inv-loop μ-loop
 loop-again c =
-    let l = c .before .before .before .loop in
-    let s = c .before .before .before .before in
+    let at-loop = c .before .before .before in let s = at-loop .before in
+    let l = at-loop .loop in
     l .inv
     ∙ every-further (λ n. ltb n (s .args .limit)) (s .args .t1) (l .i) (s .args .end) 0 (s .good .0 .1 .0 .1) (omega arith) (omega arith)
     (lt-ltb _ (s .args .limit) (rw (sym (c .before .wide .ensures)) (c .if1 .left)))

@@ -1,14 +1,8 @@
 -- `host::slots::distinct` meets its contract. The loop's invariant: the answer is that of the items that are left to look at.
 -- Assumes nothing.
-use mathlib.Core.Path.{_≡_, refl, sym, ap, _∙_}
-use Prim.Native.Nat.{ℕ, _+_, _-_}
-use native.Mathlib.Omega.{arith}
-use lib.ListN.{take}
-use lib.Seq.{slice}
-use lib.Dec.{eqb}
+use Rattle.lists.proofs.Kit.{_≡_, refl, sym, ap, _∙_, ℕ, _+_, _-_, arith, take, slice, eqb, needs}
 use Rattle.lists.specs.Tests.{some, apart}
 use Rattle.lists.proofs.Laws.Slices.{apart-stops, apart-further, apart-done}
-use borrow.Author.Needs.{needs}
 use Rattle.host.proofs.slots.distinct.Statement.{statement}
 use Rattle.host.proofs.slots.distinct.Tie as tie
 

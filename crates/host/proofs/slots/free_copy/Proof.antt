@@ -1,14 +1,9 @@
 -- `host::slots::free_copy` meets its contract. The loop's invariant: no slot below i is free. Assumes nothing.
-use mathlib.Core.Path.{_≡_, sym, ap, _∙_}
-use mathlib.Core.Bool.{not}
-use Prim.Native.Nat.{_-_, _≤_}
-use native.Mathlib.Nat.{sub-zero}
-use native.Mathlib.Omega.{arith}
+use Rattle.lists.proofs.Kit.{_≡_, sym, ap, _∙_, not, _-_, _≤_, sub-zero, arith, needs}
 use Rattle.lists.specs.Tests.{unused}
 use Rattle.lists.specs.Lowest.{lowest}
 use Rattle.lists.proofs.Laws.Lowest.{lowest-here, lowest-further, lowest-none}
 use Rattle.host.specs.Places.{freeCopy}
-use borrow.Author.Needs.{needs}
 use Rattle.host.proofs.slots.free_copy.Statement.{statement}
 use Rattle.host.proofs.slots.free_copy.Tie as tie
 
@@ -21,15 +16,16 @@ abbrev μ-loop : tie.MeasureT-loop
 returns : tie.Need-returns Inv-loop μ-loop
 unfolding freeCopy
 returns c =
-    let l = c .before .before .before .loop in
-    let s = c .before .before .before .before in
+    let at-loop = c .before .before .before in let s = at-loop .before in
+    let l = at-loop .loop in
     lowest-here (unused (s .args .staged)) (l .i) (s .args .stage) (omega arith) (ap not (sym (c .before .staged-in .ensures)) ∙ c .if1 .taken)
     ∙ sym (l .inv .1)
 
 loop-again : tie.Need-loop-again Inv-loop μ-loop
 loop-again c =
-    let l = c .before .before .before .loop in
-    let s = c .before .before .before .before in (
+    let at-loop = c .before .before .before in let s = at-loop .before in
+    let l = at-loop .loop in
+    (
       omega arith,
       l .inv .1 ∙ sym (lowest-further (unused (s .args .staged)) (l .i) (s .args .stage) (omega arith)
           (ap not (sym (c .before .staged-in .ensures)) ∙ c .if1 .left)),

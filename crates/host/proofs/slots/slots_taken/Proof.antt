@@ -1,14 +1,8 @@
 -- `host::slots::slots_taken` meets its contract. The loop's invariant: the slots of the first k places are listed. Assumes nothing.
-use mathlib.Core.Path.{_≡_, refl, sym, ap, _∙_}
-use mathlib.Core.List.{List, _++_}
-use Prim.Native.Nat.{ℕ, _-_, _*_, _≤_}
-use native.Mathlib.Omega.{arith}
-use lib.ListN.{length, take, getD}
-use lib.Seq.{take-all}
+use Rattle.lists.proofs.Kit.{_≡_, refl, sym, ap, _∙_, List, _++_, ℕ, _-_, _*_, _≤_, arith, length, take, getD, take-all, needs}
 use Rattle.host.specs.Places.{committed, taken}
 use Rattle.host.proofs.Laws.Places.{blank}
 use Rattle.host.proofs.Laws.Slots.{taken-none, taken-one}
-use borrow.Author.Needs.{needs}
 use Rattle.host.proofs.slots.slots_taken.Statement.{statement}
 use Rattle.host.proofs.slots.slots_taken.Tie as tie
 
@@ -21,10 +15,8 @@ abbrev μ-loop : tie.MeasureT-loop
 
 loop-again : tie.Need-loop-again Inv-loop μ-loop
 loop-again c =
-    let done = c .before in
-    let at-loop = done .before .before .before .before in
+    let done = c .before in let in-loop = done .before .before .before in let at-loop = in-loop .before in let s = at-loop .before in
     let l = at-loop .loop in
-    let s = at-loop .before in
     let e = done .with-slots .ensures in (
       omega arith,
       e .2 ∙ l .inv .1,

@@ -1,14 +1,8 @@
 -- `host::slots::with_slots` meets its contract. The loop's invariant: behind what was listed stand the first i slots of the place.
 -- Assumes nothing.
-use mathlib.Core.Path.{_≡_, refl, sym, ap, _∙_}
-use mathlib.Core.List.{_++_, append-nil}
-use Prim.Native.Nat.{ℕ, _+_, _-_, _≤_}
-use native.Mathlib.Omega.{arith}
-use lib.ListN.{length, take, length-set}
-use borrow.Author.Tests.{not-true, not-false}
+use Rattle.lists.proofs.Kit.{_≡_, refl, sym, ap, _∙_, _++_, append-nil, ℕ, _+_, _-_, _≤_, arith, length, take, length-set, not-true, not-false, needs}
 use Rattle.host.proofs.Laws.Slots.{grown, no-slots, its-slots}
 use Rattle.host.proofs.Laws.Lengths.{placed}
-use borrow.Author.Needs.{needs}
 use Rattle.host.proofs.slots.with_slots.Statement.{statement}
 use Rattle.host.proofs.slots.with_slots.Tie as tie
 
@@ -21,7 +15,7 @@ abbrev μ-loop : tie.MeasureT-loop
 
 loop-holds : tie.Need-loop-holds Inv-loop μ-loop
 loop-holds c =
-    let s = c .before .before .before .before .before in
+    let else1 = c .before .before in let s = else1 .before .before .before in
     let none : s .args .count + 0 ≡ s .args .count = omega arith in (
       omega arith,
       refl,
@@ -30,10 +24,9 @@ loop-holds c =
 
 loop-again : tie.Need-loop-again Inv-loop μ-loop
 loop-again c =
-    let at-loop = c .before in
+    let at-loop = c .before in let sectors = at-loop .before in let else1 = sectors .before .before in let s = else1 .before .before .before in
     let l = at-loop .loop in
-    let sectors = at-loop .before in
-    let s = sectors .before .before .before .before .before in (
+    (
       omega arith,
       simp length-set (l .inv .1),
       grown (l .items) (s .args .p .slots) (take (s .args .count) (s .args .items .now)) (s .args .count + l .i) (l .i)

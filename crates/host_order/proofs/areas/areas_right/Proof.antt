@@ -1,8 +1,6 @@
 -- `host_order::areas::areas_right` meets its contract. Assumes nothing.
-use mathlib.Core.Path.{refl, sym, _∙_}
-use borrow.Author.Tests.{not-true, not-false}
+use Rattle.lists.proofs.Kit.{refl, sym, _∙_, not-true, not-false, needs}
 use Rattle.lists.proofs.Laws.Pick.{yes, no}
-use borrow.Author.Needs.{needs}
 use Rattle.host_order.proofs.areas.areas_right.Statement.{statement}
 use Rattle.host_order.proofs.areas.areas_right.Tie as tie
 

@@ -1,7 +1,5 @@
 -- `host_order::areas::lent` meets its contract: no product wraps. Assumes nothing.
-use native.Mathlib.Nat.{mul-le-mul}
-use native.Mathlib.Omega.{arith}
-use borrow.Author.Needs.{needs}
+use Rattle.lists.proofs.Kit.{mul-le-mul, arith, needs}
 use Rattle.host_order.proofs.areas.lent.Statement.{statement}
 use Rattle.host_order.proofs.areas.lent.Tie as tie
 

@@ -1,6 +1,5 @@
 -- `host_order::areas::wrong` meets its contract. Assumes nothing.
-use mathlib.Core.Path.{refl}
-use borrow.Author.Tests.{not-true, not-false}
+use Rattle.lists.proofs.Kit.{refl, not-true, not-false}
 use Rattle.lists.proofs.Laws.Pick.{yes, no}
 use Rattle.host_order.proofs.areas.wrong.Statement.{statement}
 use Rattle.host_order.proofs.areas.wrong.Tie as tie

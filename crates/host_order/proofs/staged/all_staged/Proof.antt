@@ -1,16 +1,9 @@
 -- `host_order::staged::all_staged` meets its contract. The loop's invariant: the answer is that of the entries that are left to look at.
 -- Assumes nothing.
-use mathlib.Core.Path.{_≡_, refl, sym, ap, _∙_}
-use mathlib.Core.Bool.{not}
-use Prim.Native.Nat.{_-_}
-use native.Mathlib.Omega.{arith}
-use lib.Seq.{slice}
-use lib.Dec.{eqb}
-use borrow.Author.Tests.{eq-eqb, ne-eqb}
+use Rattle.lists.proofs.Kit.{_≡_, refl, sym, ap, _∙_, not, _-_, arith, slice, eqb, eq-eqb, ne-eqb, needs}
 use Rattle.lists.specs.Tests.{every}
 use Rattle.lists.proofs.Laws.Slices.{every-stops, every-further, every-done}
 use Rattle.host.specs.Empty.{none}
-use borrow.Author.Needs.{needs}
 use Rattle.host_order.proofs.staged.all_staged.Statement.{statement}
 use Rattle.host_order.proofs.staged.all_staged.Tie as tie
 

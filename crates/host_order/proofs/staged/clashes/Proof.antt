@@ -1,7 +1,5 @@
 -- `host_order::staged::clashes` meets its contract. Assumes nothing.
-use mathlib.Core.Path.{refl, ap}
-use mathlib.Core.Bool.{not}
-use borrow.Author.Tests.{eq-eqb, ne-eqb}
+use Rattle.lists.proofs.Kit.{refl, ap, not, eq-eqb, ne-eqb}
 use Rattle.lists.proofs.Laws.Pick.{yes, no}
 use Rattle.host.specs.Empty.{none}
 use Rattle.host.specs.Order.{clash}

@@ -1,13 +1,9 @@
 -- `host_order::staged::has_clash` meets its contract. The loop's invariant: the answer is that of the entries that are left to look at.
 -- Assumes nothing.
-use mathlib.Core.Path.{_≡_, refl, sym, _∙_}
-use Prim.Native.Nat.{_-_}
-use native.Mathlib.Omega.{arith}
-use lib.Seq.{slice}
+use Rattle.lists.proofs.Kit.{_≡_, refl, sym, _∙_, _-_, arith, slice, needs}
 use Rattle.lists.specs.Tests.{some}
 use Rattle.lists.proofs.Laws.Slices.{some-here, some-further, some-done}
 use Rattle.host.specs.Order.{clash}
-use borrow.Author.Needs.{needs}
 use Rattle.host_order.proofs.staged.has_clash.Statement.{statement}
 use Rattle.host_order.proofs.staged.has_clash.Tie as tie
 
@@ -19,15 +15,15 @@ abbrev μ-loop : tie.MeasureT-loop
 
 returns : tie.Need-returns Inv-loop μ-loop
 returns c =
-    let l = c .before .before .before .loop in
-    let s = c .before .before .before .before in
+    let at-loop = c .before .before .before in let s = at-loop .before in
+    let l = at-loop .loop in
     some-here (clash _) (s .args .t1) (l .i) 64 0 (s .good .0 .1 .0 .1) (omega arith) (omega arith)
         (sym (c .before .clashes .ensures) ∙ c .if1 .taken) ∙ sym (l .inv)
 
 loop-again : tie.Need-loop-again Inv-loop μ-loop
 loop-again c =
-    let l = c .before .before .before .loop in
-    let s = c .before .before .before .before in
+    let at-loop = c .before .before .before in let s = at-loop .before in
+    let l = at-loop .loop in
     l .inv ∙ some-further (clash _) (s .args .t1) (l .i) 64 0 (s .good .0 .1 .0 .1) (omega arith) (omega arith)
         (sym (c .before .clashes .ensures) ∙ c .if1 .left)
 

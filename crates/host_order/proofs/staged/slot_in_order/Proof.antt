@@ -1,12 +1,8 @@
 -- `host_order::staged::slot_in_order` meets its contract. Assumes nothing.
-use mathlib.Core.Path.{refl, ap}
-use Prim.Native.Nat.{ℕ}
-use lib.Dec.{ltb}
-use borrow.Author.Tests.{eq-eqb, ne-eqb}
+use Rattle.lists.proofs.Kit.{refl, ap, ℕ, ltb, eq-eqb, ne-eqb, needs}
 use Rattle.lists.proofs.Laws.Pick.{yes, no}
 use Rattle.host.specs.Empty.{none}
 use Rattle.host.specs.Order.{slotInOrder}
-use borrow.Author.Needs.{needs}
 use Rattle.host_order.proofs.staged.slot_in_order.Statement.{statement}
 use Rattle.host_order.proofs.staged.slot_in_order.Tie as tie
 

@@ -1,14 +1,9 @@
 -- `host_order::staged::slots_in_order` meets its contract. The loop's invariant: the answer is that of the entries that are left to look at.
 -- Assumes nothing.
-use mathlib.Core.Path.{_≡_, sym, ap, _∙_}
-use Prim.Native.Nat.{_-_}
-use native.Mathlib.Omega.{arith}
-use lib.Seq.{slice}
-use borrow.Author.Tests.{not-true, not-false}
+use Rattle.lists.proofs.Kit.{_≡_, sym, ap, _∙_, _-_, arith, slice, not-true, not-false, needs}
 use Rattle.lists.specs.Tests.{every}
 use Rattle.lists.proofs.Laws.Slices.{slice-all, every-stops, every-further, every-done}
 use Rattle.host.specs.Order.{slotInOrder}
-use borrow.Author.Needs.{needs}
 use Rattle.host_order.proofs.staged.slots_in_order.Statement.{statement}
 use Rattle.host_order.proofs.staged.slots_in_order.Tie as tie
 
@@ -20,15 +15,15 @@ abbrev μ-loop : tie.MeasureT-loop
 
 returns : tie.Need-returns Inv-loop μ-loop
 returns c =
-    let l = c .before .before .before .loop in
-    let s = c .before .before .before .before in
+    let at-loop = c .before .before .before in let s = at-loop .before in
+    let l = at-loop .loop in
     every-stops (slotInOrder (s .args .stage)) (s .args .t1) (l .i) 64 0 (s .good .0 .1 .0 .1) (omega arith) (omega arith)
         (sym (c .before .slot-in-order .ensures) ∙ not-true _ (c .if1 .taken)) ∙ sym (l .inv)
 
 loop-again : tie.Need-loop-again Inv-loop μ-loop
 loop-again c =
-    let l = c .before .before .before .loop in
-    let s = c .before .before .before .before in
+    let at-loop = c .before .before .before in let s = at-loop .before in
+    let l = at-loop .loop in
     l .inv ∙ every-further (slotInOrder (s .args .stage)) (s .args .t1) (l .i) 64 0 (s .good .0 .1 .0 .1) (omega arith) (omega arith)
         (sym (c .before .slot-in-order .ensures) ∙ not-false _ (c .if1 .left))
 

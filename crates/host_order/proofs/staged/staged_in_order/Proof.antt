@@ -1,7 +1,6 @@
 -- `host_order::staged::staged_in_order` meets its contract: a walk down the definition. Assumes nothing.
-use mathlib.Core.Path.{_∙_}
+use Rattle.lists.proofs.Kit.{_∙_, needs}
 use Rattle.host.specs.Order.{stagedInOrder}
-use borrow.Author.Needs.{needs}
 use Rattle.lists.proofs.Laws.Slices.{every-behind, every-between}
 use Rattle.host_order.proofs.Laws.Tests.{on, off}
 use Rattle.host_order.proofs.staged.staged_in_order.Statement.{statement}

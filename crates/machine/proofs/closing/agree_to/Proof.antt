@@ -1,7 +1,5 @@
 -- `machine::closing::agree_to` meets its contract: nothing changed, or the pair named is the running one, or the changes are dropped. Assumes nothing.
-use mathlib.Core.Path.{_≡_, refl, sym, ap, ap₂, _∙_}
-use mathlib.Core.Bool.{Bool}
-use borrow.Author.Tests.{not-true, not-false}
+use Rattle.lists.proofs.Kit.{_≡_, refl, sym, ap, ap₂, _∙_, Bool, not-true, not-false, needs}
 use Rattle.lists.proofs.Laws.Pick.{yes, no}
 use Rattle.machine_rules.specs.View.{settingOf}
 use Rattle.machine_rules.specs.Roots.{rootOf}
@@ -11,7 +9,6 @@ use Rattle.machine_rules.specs.declared.Pair.{Pair}
 use Rattle.machine_step.proofs.Laws.Hosts.{starting-any, running-any}
 use Rattle.machine.specs.Closes.{closeLeaves}
 use Rattle.machine.specs.declared.closing.Closing.{Closing}
-use borrow.Author.Needs.{needs}
 use Rattle.machine.proofs.closing.agree_to.Statement.{statement}
 use Rattle.machine.proofs.closing.agree_to.Tie as tie
 

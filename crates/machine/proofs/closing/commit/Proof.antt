@@ -3,7 +3,7 @@
 use mir.Syntax.{w64}
 use mir.Val.{ofZ, toZ}
 use mir.Facts.{toZ-ofZ}
-use mathlib.Core.Path.{sym, ap, _∙_}
+use Rattle.lists.proofs.Kit.{sym, ap, _∙_, needs}
 use Rattle.area.specs.Slots.{Size}
 use Rattle.area.proofs.Laws.Slots.{some}
 use Rattle.host.specs.With.{withPlaces, withProgram, withDiskRoots}
@@ -15,7 +15,6 @@ use Rattle.machine_rules.specs.Visit.{Declared}
 use Rattle.machine.proofs.Laws.Shapes.{sounds}
 use Rattle.machine.proofs.Callers.{few-slots, few-sectors, last-size, first-size, backs, roots-back, commit-made}
 use Rattle.host.specs.declared.Program.{Program}
-use borrow.Author.Needs.{needs}
 use Rattle.machine.proofs.closing.commit.Statement.{statement}
 use Rattle.machine.proofs.closing.commit.Tie as tie
 

@@ -1,10 +1,9 @@
 -- `machine::closing::give_up` meets its contract. Assumes nothing.
-use mathlib.Core.Path.{ap}
+use Rattle.lists.proofs.Kit.{ap, needs}
 use Rattle.host.specs.With.{withProgram}
 use lib.IntN.{pos}
 use Rattle.host.specs.declared.Program.{Program}
 use Rattle.machine.specs.declared.closing.Closing.{Closing}
-use borrow.Author.Needs.{needs}
 use Rattle.machine.proofs.closing.give_up.Statement.{statement}
 use Rattle.machine.proofs.closing.give_up.Tie as tie
 

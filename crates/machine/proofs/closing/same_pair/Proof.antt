@@ -1,9 +1,7 @@
 -- `machine::closing::same_pair` meets its contract: the sizes, then all 32 bytes. Assumes nothing.
-use mathlib.Core.Path.{refl}
-use borrow.Author.Tests.{eq-eqb, ne-eqb}
+use Rattle.lists.proofs.Kit.{refl, eq-eqb, ne-eqb, needs}
 use Rattle.lists.proofs.Laws.Pick.{yes, no}
 use Rattle.machine_rules.specs.Record.{samePair}
-use borrow.Author.Needs.{needs}
 use Rattle.machine.proofs.closing.same_pair.Statement.{statement}
 use Rattle.machine.proofs.closing.same_pair.Tie as tie
 

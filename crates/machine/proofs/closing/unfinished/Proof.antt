@@ -1,8 +1,7 @@
 -- `machine::closing::unfinished` meets its contract. Assumes nothing.
-use mathlib.Core.Path.{refl}
+use Rattle.lists.proofs.Kit.{refl, needs}
 use Rattle.lists.proofs.Laws.Pick.{yes, no}
 use Rattle.machine_rules.specs.Commit.{unfinished}
-use borrow.Author.Needs.{needs}
 use Rattle.machine.proofs.closing.unfinished.Statement.{statement}
 use Rattle.machine.proofs.closing.unfinished.Tie as tie
 

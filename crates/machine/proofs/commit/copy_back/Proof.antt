@@ -1,12 +1,7 @@
 -- `machine::commit::copy_back` meets its contract. The loop's invariant: the positions from i on are left to copy. Assumes nothing.
-use mathlib.Core.Path.{_≡_, refl, sym, ap, _∙_}
-use Prim.Native.Nat.{ℕ, _-_, _≤_}
-use native.Mathlib.Nat.{sub-zero}
-use native.Mathlib.Omega.{arith}
-use lib.ListN.{length}
+use Rattle.lists.proofs.Kit.{_≡_, refl, sym, ap, _∙_, ℕ, _-_, _≤_, sub-zero, arith, length, needs}
 use Rattle.machine_rules.specs.Commit.{copiedBack}
 use Rattle.machine.proofs.Laws.Bytes.{next-lies, back-one, back-length, back-done}
-use borrow.Author.Needs.{needs}
 use Rattle.machine.proofs.commit.copy_back.Statement.{statement}
 use Rattle.machine.proofs.commit.copy_back.Tie as tie
 

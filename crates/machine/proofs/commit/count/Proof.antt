@@ -1,7 +1,5 @@
 -- `machine::commit::count` meets its contract: as many slots as sectors, as far as there are entries. Assumes nothing.
-use native.Mathlib.Omega.{arith}
-use borrow.Author.Needs.{needs}
-use borrow.Author.Tests.{not-true, not-false}
+use Rattle.lists.proofs.Kit.{arith, needs, not-true, not-false}
 use Rattle.host.proofs.Laws.Lengths.{placed}
 use Rattle.machine.proofs.Laws.Filled.{count-free, count-held}
 use Rattle.machine.proofs.commit.count.Statement.{statement}

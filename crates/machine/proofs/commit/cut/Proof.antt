@@ -1,7 +1,5 @@
 -- `machine::commit::cut` meets its contract: the smaller of two sizes. Assumes nothing.
-use mathlib.Core.Path.{_≡_, ap}
-use Prim.Native.Nat.{min}
-use native.Mathlib.Omega.{arith}
+use Rattle.lists.proofs.Kit.{_≡_, ap, min, arith}
 use Rattle.host.specs.With.{withSize}
 use Rattle.machine_rules.specs.Commit.{cut}
 use Rattle.machine.proofs.commit.cut.Statement.{statement}

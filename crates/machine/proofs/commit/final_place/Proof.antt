@@ -1,5 +1,5 @@
 -- `machine::commit::final_place` meets its contract: two fields are changed. Assumes nothing.
-use mathlib.Core.Path.{refl}
+use Rattle.lists.proofs.Kit.{refl}
 use Rattle.host.specs.With.{withSize, withSlots}
 use Rattle.machine.proofs.commit.final_place.Statement.{statement}
 use Rattle.machine.proofs.commit.final_place.Tie as tie

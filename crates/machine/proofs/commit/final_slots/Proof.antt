@@ -1,6 +1,5 @@
 -- `machine::commit::final_slots` meets its contract: kept slots in front, new ones behind them. Assumes nothing.
-use mathlib.Core.Path.{ap, _∙_}
-use borrow.Author.Needs.{needs}
+use Rattle.lists.proofs.Kit.{ap, _∙_, needs}
 use Rattle.host.specs.Places.{taken}
 use Rattle.machine.proofs.Laws.Filled.{final-made}
 use Rattle.machine.proofs.commit.final_slots.Statement.{statement}

@@ -1,10 +1,5 @@
 -- `machine::commit::first` meets its contract. The loop's invariant: the first i slots are laid over zeros. Assumes nothing.
-use mathlib.Core.Path.{_≡_, sym, ap, _∙_}
-use Prim.Native.Nat.{ℕ, _-_, _≤_}
-use native.Mathlib.Nat.{zero-add}
-use native.Mathlib.Omega.{arith}
-use lib.ListN.{take, getD, set}
-use lib.Seq.{length-take-le, getD-take}
+use Rattle.lists.proofs.Kit.{_≡_, sym, ap, _∙_, ℕ, _-_, _≤_, zero-add, arith, take, getD, set, length-take-le, getD-take}
 use Rattle.area.specs.Area.{put}
 use Rattle.area.proofs.Laws.Puts.{put-nil}
 use Rattle.area.proofs.Laws.Loops.{one-more, all-laid}

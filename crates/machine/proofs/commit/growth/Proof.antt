@@ -1,9 +1,7 @@
 -- `machine::commit::growth` meets its contract: sizes are small, so that nothing wraps. Assumes nothing.
-use Prim.Native.Nat.{_<_, _^_}
-use native.Mathlib.Omega.{arith}
+use Rattle.lists.proofs.Kit.{_<_, _^_, arith, needs}
 use mir.Syntax.{w64}
 use mir.Facts.{toZ-pos, toZ-ofZ}
-use borrow.Author.Needs.{needs}
 use Rattle.machine.proofs.Laws.Growth.{difference, differs}
 use Rattle.machine.proofs.commit.growth.Statement.{statement}
 use Rattle.machine.proofs.commit.growth.Tie as tie

@@ -1,9 +1,5 @@
 -- `machine::commit::lowest_free` meets its contract. The loop's invariant: every slot below i has a mark. Assumes nothing.
-use mathlib.Core.Path.{_≡_, sym, ap, _∙_}
-use Prim.Native.Nat.{_-_, _≤_}
-use native.Mathlib.Nat.{sub-zero}
-use native.Mathlib.Omega.{arith}
-use borrow.Author.Tests.{eq-eqb, ne-eqb}
+use Rattle.lists.proofs.Kit.{_≡_, sym, ap, _∙_, _-_, _≤_, sub-zero, arith, eq-eqb, ne-eqb}
 use Rattle.lists.specs.Lowest.{lowest}
 use Rattle.lists.proofs.Laws.Lowest.{lowest-here, lowest-further, lowest-none}
 use Rattle.machine.specs.Marks.{unmarked}

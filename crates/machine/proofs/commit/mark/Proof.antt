@@ -1,8 +1,5 @@
 -- `machine::commit::mark` meets its contract: a slot past the entries has none. Assumes nothing.
-use mathlib.Core.Path.{sym}
-use native.Mathlib.Omega.{arith}
-use lib.Seq.{set-out}
-use borrow.Author.Needs.{needs}
+use Rattle.lists.proofs.Kit.{sym, arith, set-out, needs}
 use Rattle.machine.proofs.commit.mark.Statement.{statement}
 use Rattle.machine.proofs.commit.mark.Tie as tie
 

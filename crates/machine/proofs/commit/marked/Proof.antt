@@ -1,10 +1,5 @@
 -- `machine::commit::marked` meets its contract. The loop's invariant: the first i slots that are listed have marks. Assumes nothing.
-use mathlib.Core.Path.{_≡_, refl, sym, _∙_}
-use Prim.Native.Nat.{_-_, _≤_}
-use native.Mathlib.Omega.{arith}
-use borrow.Author.Needs.{needs}
-use lib.ListN.{take}
-use lib.Seq.{slice}
+use Rattle.lists.proofs.Kit.{_≡_, refl, sym, _∙_, _-_, _≤_, arith, needs, take, slice}
 use Rattle.host.proofs.Laws.Lengths.{listing}
 use Rattle.machine.proofs.Laws.Marks.{marks, marks-are}
 use Rattle.machine.proofs.Laws.Turns.{mark-one, mark-done}

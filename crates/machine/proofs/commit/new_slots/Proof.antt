@@ -1,7 +1,5 @@
 -- `machine::commit::new_slots` meets its contract. The loop's invariant: what is left to lay is laid from i on. Assumes nothing.
-use mathlib.Core.Path.{_≡_, refl, sym, _∙_}
-use Prim.Native.Nat.{_-_}
-use native.Mathlib.Omega.{arith}
+use Rattle.lists.proofs.Kit.{_≡_, refl, sym, _∙_, _-_, arith}
 use Rattle.area.specs.Area.{put}
 use Rattle.machine.specs.Marks.{newFrom}
 use Rattle.machine.proofs.Laws.Turns.{new-one, new-done}

@@ -1,9 +1,6 @@
 -- `machine::commit::one_back` meets its contract: nothing where nothing is staged. Assumes nothing.
-use mathlib.Core.Path.{sym}
-use native.Mathlib.Omega.{arith}
-use borrow.Author.Tests.{eq-eqb, ne-eqb}
+use Rattle.lists.proofs.Kit.{sym, arith, eq-eqb, ne-eqb, needs}
 use Rattle.machine.proofs.Laws.Bytes.{laid-none, laid-some}
-use borrow.Author.Needs.{needs}
 use Rattle.machine.proofs.commit.one_back.Statement.{statement}
 use Rattle.machine.proofs.commit.one_back.Tie as tie
 

@@ -1,7 +1,5 @@
 -- `machine::interrupting::interrupt` meets its contract: a walk down the definition. Assumes nothing.
-use mathlib.Core.Path.{refl, sym, ap, _∙_}
-use mathlib.Core.Bool.{not}
-use borrow.Author.Tests.{not-false}
+use Rattle.lists.proofs.Kit.{refl, sym, ap, _∙_, not, not-false, needs}
 use Rattle.lists.proofs.Laws.Pick.{yes, no}
 use Rattle.host.proofs.Laws.Order.{order-facts}
 use Rattle.machine_rules.specs.View.{diskRight}
@@ -9,7 +7,6 @@ use Rattle.machine_rules.specs.Calls.{outputRight, interruptBy}
 use Rattle.machine.specs.Asks.{interruptLeaves}
 use Rattle.machine.proofs.Laws.Hosts.{right-if, stopped-any}
 use Rattle.machine_rules.specs.declared.Answer.{Answer}
-use borrow.Author.Needs.{needs}
 use Rattle.machine.proofs.interrupting.interrupt.Statement.{statement}
 use Rattle.machine.proofs.interrupting.interrupt.Tie as tie
 

@@ -1,7 +1,5 @@
 -- `machine::interrupting::stop` meets its contract. Assumes nothing.
-use mathlib.Core.Path.{ap, ap₂, _∙_}
-use mathlib.Core.List.{List, []}
-use Prim.Native.Nat.{ℕ}
+use Rattle.lists.proofs.Kit.{ap, ap₂, _∙_, List, [], ℕ, needs}
 use Rattle.area.specs.Area.{put}
 use Rattle.host.specs.With.{withProgram, withCame, withProgress, withStageRoots}
 use Rattle.host.proofs.Laws.Lengths.{disk-rooted}
@@ -14,7 +12,6 @@ use Rattle.machine_step.proofs.Laws.Hosts.{stands}
 use Rattle.machine.proofs.Laws.Hosts.{room-left}
 use Rattle.host.specs.declared.Place.{Place}
 use Rattle.host.specs.declared.Progress.{Progress}
-use borrow.Author.Needs.{needs}
 use Rattle.machine.proofs.interrupting.stop.Statement.{statement}
 use Rattle.machine.proofs.interrupting.stop.Tie as tie
 

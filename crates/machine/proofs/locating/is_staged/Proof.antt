@@ -1,5 +1,5 @@
 -- `is_staged` meets its contract. Assumes nothing.
-use borrow.Author.Needs.{needs}
+use Rattle.lists.proofs.Kit.{needs}
 use Rattle.machine_rules.specs.Seats.{isStaged}
 use Rattle.machine.proofs.locating.is_staged.Statement.{statement}
 use Rattle.machine.proofs.locating.is_staged.Tie as tie

@@ -1,8 +1,5 @@
 -- `locate` meets its contract: a walk down the definition. Assumes nothing.
-use mathlib.Core.Path.{_≡_, sym, ap, _∙_}
-use mathlib.Core.Bool.{true, not}
-use borrow.Author.Needs.{needs}
-use borrow.Author.Tests.{not-false}
+use Rattle.lists.proofs.Kit.{_≡_, sym, ap, _∙_, true, not, needs, not-false}
 use Rattle.lists.proofs.Laws.Pick.{yes, no}
 use Rattle.host.specs.Order.{inOrder}
 use Rattle.machine_rules.specs.View.{settingBy}

@@ -1,7 +1,5 @@
 -- `located_at` meets its contract: the seat's numbers, or zeros. Assumes nothing.
-use mathlib.Core.Path.{sym, ap, _∙_}
-use mathlib.Core.Bool.{Bool, true}
-use borrow.Author.Needs.{needs}
+use Rattle.lists.proofs.Kit.{sym, ap, _∙_, Bool, true, needs}
 use Rattle.machine_rules.specs.Seats.{locatedAt}
 use Rattle.machine_rules.specs.declared.Located.{Located}
 use Rattle.machine.proofs.locating.located_at.Statement.{statement}

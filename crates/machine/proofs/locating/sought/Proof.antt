@@ -1,7 +1,5 @@
 -- `sought` meets its contract: of an open program what it looks through, else all committed sectors. Assumes nothing.
-use mathlib.Core.Path.{ap, _∙_}
-use borrow.Author.Needs.{needs}
-use borrow.Author.Tests.{not-true, not-false}
+use Rattle.lists.proofs.Kit.{ap, _∙_, needs, not-true, not-false}
 use Rattle.host.proofs.Laws.Lengths.{hosted, disk-rooted, stage-rooted}
 use Rattle.machine_rules.specs.Roots.{keptRoot}
 use Rattle.machine_rules.specs.Seats.{firstSeat}

@@ -1,9 +1,7 @@
 -- `machine::opening::absent` meets its contract: no contract is absent in read-only mode. Assumes nothing.
-use mathlib.Core.Path.{refl, sym, ap, _∙_}
-use mathlib.Core.Bool.{not}
+use Rattle.lists.proofs.Kit.{refl, sym, ap, _∙_, not, needs}
 use Rattle.lists.proofs.Laws.Pick.{yes, no}
 use Rattle.host.specs.declared.Place.{Place}
-use borrow.Author.Needs.{needs}
 use Rattle.machine.proofs.opening.absent.Statement.{statement}
 use Rattle.machine.proofs.opening.absent.Tie as tie
 

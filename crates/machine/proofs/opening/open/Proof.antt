@@ -1,10 +1,5 @@
 -- `machine::opening::open` meets its contract: a walk down the definition, a test at each step. Assumes nothing.
-use mathlib.Core.Path.{_≡_, sym, ap, ap₂, _∙_}
-use mathlib.Core.Bool.{true, not}
-use Prim.Native.Nat.{ℕ}
-use native.Mathlib.Omega.{arith}
-use lib.Dec.{ltb, eqb}
-use borrow.Author.Tests.{eq-eqb, ne-eqb, lt-ltb, le-ltb}
+use Rattle.lists.proofs.Kit.{_≡_, sym, ap, ap₂, _∙_, true, not, ℕ, arith, ltb, eqb, eq-eqb, ne-eqb, lt-ltb, le-ltb, needs}
 use Rattle.lists.specs.Pick.{pick, both}
 use Rattle.lists.proofs.Laws.Pick.{yes, no}
 use Rattle.area.specs.Area.{same}
@@ -20,7 +15,6 @@ use Rattle.host.specs.declared.Prices.{Prices}
 use Rattle.host.specs.declared.Progress.{Progress}
 use Rattle.host.specs.declared.Host.{Host}
 use Rattle.machine_rules.specs.declared.Answer.{Answer}
-use borrow.Author.Needs.{needs}
 use Rattle.machine.proofs.opening.open.Statement.{statement}
 use Rattle.machine.proofs.opening.open.Tie as tie
 
@@ -93,7 +87,7 @@ goes-4 c e =
     ∙ ap (after-3 (a .host) (a .budget) (a .prices) (a .room)) (c .before .before .read-head .ensures))
 
 goes-5 : (c : tie.Else5) {r : Answer} → let a = start-5 c .args in
-    r ≡ after-5 (a .host) (a .budget) (a .prices) (a .room) (told-4 (c .before .before .before .before .before))
+    r ≡ after-5 (a .host) (a .budget) (a .prices) (a .room) (told-4 ((let back-3 = c .before .before .before in back-3 .before .before)))
     → r ≡ opened (a .host) (a .bytes .now) (a .budget) (a .prices) (a .room)
 goes-5 c e =
     let at-places = c .before .before .before in let else4 = at-places .before .before in

@@ -1,6 +1,5 @@
 -- `machine::opening::room_right` meets its contract. Assumes nothing.
-use mathlib.Core.Path.{refl}
-use borrow.Author.Tests.{le-leb, lt-leb}
+use Rattle.lists.proofs.Kit.{refl, le-leb, lt-leb}
 use Rattle.lists.proofs.Laws.Pick.{yes, no}
 use Rattle.machine_rules.specs.Calls.{roomRight}
 use Rattle.machine.proofs.opening.room_right.Statement.{statement}

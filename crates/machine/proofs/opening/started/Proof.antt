@@ -1,5 +1,5 @@
 -- `machine::opening::started` meets its contract. Assumes nothing.
-use mathlib.Core.Path.{refl}
+use Rattle.lists.proofs.Kit.{refl}
 use Rattle.host.specs.Empty.{started}
 use Rattle.machine.proofs.opening.started.Statement.{statement}
 use Rattle.machine.proofs.opening.started.Tie as tie

@@ -1,7 +1,5 @@
 -- `machine::piecing::accept` meets its contract: the piece behind the bytes already come, then instructions in turn. Assumes nothing.
-use mathlib.Core.Path.{refl, sym, ap, _∙_}
-use native.Mathlib.Omega.{arith}
-use lib.ListN.{length}
+use Rattle.lists.proofs.Kit.{refl, sym, ap, _∙_, arith, length, needs}
 use Rattle.area.specs.Area.{put}
 use Rattle.area.proofs.Laws.Parts.{part-whole}
 use Rattle.area.proofs.Laws.Puts.{length-put}
@@ -10,7 +8,6 @@ use Rattle.host.proofs.Laws.Lengths.{hosted, disk-rooted, stage-rooted}
 use Rattle.machine_rules.specs.View.{settingBy, turnOf, withRun}
 use Rattle.machine_step.proofs.Laws.Hosts.{turns-right}
 use Rattle.machine.proofs.Laws.Hosts.{input-long, accepted-is, declared-most}
-use borrow.Author.Needs.{needs}
 use Rattle.machine.proofs.piecing.accept.Statement.{statement}
 use Rattle.machine.proofs.piecing.accept.Tie as tie
 

@@ -1,7 +1,6 @@
 -- `machine::piecing::either_wrong` meets its contract: the input area first. Assumes nothing.
-use mathlib.Core.Path.{sym, _∙_}
+use Rattle.lists.proofs.Kit.{sym, _∙_, needs}
 use Rattle.machine.proofs.Laws.Hosts.{wrong-first, wrong-second}
-use borrow.Author.Needs.{needs}
 use Rattle.machine.proofs.piecing.either_wrong.Statement.{statement}
 use Rattle.machine.proofs.piecing.either_wrong.Tie as tie
 

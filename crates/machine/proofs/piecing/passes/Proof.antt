@@ -1,6 +1,6 @@
 -- `machine::piecing::passes` meets its contract: no sum is made. Assumes nothing.
 use Rattle.lists.proofs.Laws.Sums.{rest-less}
-use borrow.Author.Needs.{needs}
+use Rattle.lists.proofs.Kit.{needs}
 use Rattle.machine.proofs.piecing.passes.Statement.{statement}
 use Rattle.machine.proofs.piecing.passes.Tie as tie
 

@@ -1,8 +1,5 @@
 -- `machine::piecing::piece` meets its contract: a walk down the definition. Assumes nothing.
-use mathlib.Core.Path.{sym, ap, _∙_}
-use mathlib.Core.Bool.{not}
-use native.Mathlib.Omega.{arith}
-use borrow.Author.Tests.{not-false, ltb-false}
+use Rattle.lists.proofs.Kit.{sym, ap, _∙_, not, arith, not-false, ltb-false, needs}
 use Rattle.lists.proofs.Laws.Pick.{yes, no, both-left, both-right}
 use Rattle.host.proofs.Laws.Order.{order-facts, came-within}
 use Rattle.machine_rules.specs.View.{diskRight, areasRight}
@@ -10,7 +7,6 @@ use Rattle.machine_rules.specs.Calls.{inputRight, outputRight, pieceBy}
 use Rattle.machine.specs.Asks.{pieceLeaves}
 use Rattle.machine.proofs.Laws.Hosts.{right-if}
 use Rattle.machine_rules.specs.declared.Answer.{Answer}
-use borrow.Author.Needs.{needs}
 use Rattle.machine.proofs.piecing.piece.Statement.{statement}
 use Rattle.machine.proofs.piecing.piece.Tie as tie
 

@@ -1,6 +1,5 @@
 -- `machine::reaching::reach` meets its contract: the starting pair after a failure, else the running one. Assumes nothing.
-use mathlib.Core.Path.{refl, ap, _∙_}
-use mathlib.Core.List.{[]}
+use Rattle.lists.proofs.Kit.{refl, ap, _∙_, []}
 use Rattle.lists.proofs.Laws.Pick.{yes, no}
 use Rattle.machine_rules.specs.Calls.{reachedAt, reachedPairBy}
 use Rattle.machine_step.proofs.Laws.Hosts.{running-any}

@@ -1,14 +1,10 @@
 -- `machine::reaching::reached` meets its contract: a walk down the definition. Assumes nothing.
-use mathlib.Core.Path.{sym, ap, _∙_}
-use mathlib.Core.Bool.{not}
-use native.Mathlib.Omega.{arith}
-use borrow.Author.Tests.{not-false}
+use Rattle.lists.proofs.Kit.{sym, ap, _∙_, not, arith, not-false, needs}
 use Rattle.lists.proofs.Laws.Pick.{yes, no}
 use Rattle.host.proofs.Laws.Order.{order-facts}
 use Rattle.machine_rules.specs.View.{diskRight, areasRight}
 use Rattle.machine_rules.specs.Calls.{reachedBy, reachedAt}
 use Rattle.machine.proofs.Laws.Hosts.{reached-any}
-use borrow.Author.Needs.{needs}
 use Rattle.machine.proofs.reaching.reached.Statement.{statement}
 use Rattle.machine.proofs.reaching.reached.Tie as tie
 

@@ -1,5 +1,5 @@
 -- `machine::reaching::unreached` meets its contract. Assumes nothing.
-use mathlib.Core.Path.{refl}
+use Rattle.lists.proofs.Kit.{refl}
 use Rattle.machine_rules.specs.Calls.{noPair}
 use Rattle.machine.proofs.reaching.unreached.Statement.{statement}
 use Rattle.machine.proofs.reaching.unreached.Tie as tie

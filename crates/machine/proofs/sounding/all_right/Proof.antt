@@ -1,13 +1,5 @@
 -- `all_right` meets its contract. The loop's invariant: the answer is that of the slots that are left to look at. Assumes nothing.
-use mathlib.Core.Path.{_≡_, refl, sym, ap, _∙_}
-use mathlib.Core.Bool.{Bool}
-use mathlib.Core.List.{List}
-use Prim.Native.Nat.{ℕ, _-_}
-use native.Mathlib.Omega.{arith}
-use lib.ListN.{length}
-use lib.Seq.{slice}
-use lib.Dec.{eqb}
-use borrow.Author.Tests.{not-true, not-false}
+use Rattle.lists.proofs.Kit.{_≡_, refl, sym, ap, _∙_, Bool, List, ℕ, _-_, arith, length, slice, eqb, not-true, not-false}
 use Rattle.lists.specs.Pick.{either}
 use Rattle.lists.specs.Tests.{every}
 use Rattle.lists.proofs.Laws.Slices.{slice-all, every-stops, every-further, every-done}

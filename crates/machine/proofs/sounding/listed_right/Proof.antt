@@ -1,7 +1,5 @@
 -- `listed_right` meets its contract: the array holds what it lists. Assumes nothing.
-use mathlib.Core.Path.{sym}
-use native.Mathlib.Omega.{arith}
-use lib.Seq.{length-take-le}
+use Rattle.lists.proofs.Kit.{sym, arith, length-take-le}
 use Rattle.host.proofs.Laws.Lengths.{listing}
 use Rattle.machine.proofs.sounding.listed_right.Statement.{statement}
 use Rattle.machine.proofs.sounding.listed_right.Tie as tie

@@ -1,6 +1,5 @@
 -- `position_right` meets its contract: a position with no slot, or its slot's root. Assumes nothing.
-use mathlib.Core.Path.{refl}
-use borrow.Author.Tests.{eq-eqb, ne-eqb}
+use Rattle.lists.proofs.Kit.{refl, eq-eqb, ne-eqb}
 use Rattle.lists.proofs.Laws.Pick.{yes, no}
 use Rattle.machine.proofs.Laws.Beside.{beside-holds}
 use Rattle.machine.proofs.sounding.position_right.Statement.{statement}

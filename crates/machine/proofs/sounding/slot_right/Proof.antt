@@ -1,6 +1,5 @@
 -- `slot_right` meets its contract: the root kept beside the slot against that of its bytes. Assumes nothing.
-use mathlib.Core.Path.{_∙_}
-use borrow.Author.Needs.{needs}
+use Rattle.lists.proofs.Kit.{_∙_, needs}
 use Rattle.machine_sight.specs.Seen.{lies}
 use Rattle.machine.proofs.Laws.Beside.{right-is}
 use Rattle.machine.proofs.sounding.slot_right.Statement.{statement}

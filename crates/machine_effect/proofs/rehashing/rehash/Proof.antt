@@ -1,6 +1,5 @@
 -- `machine_effect::rehashing::rehash` meets its contract: each arm does what its instruction means. Assumes nothing.
-use mathlib.Core.Path.{refl}
-use borrow.Author.Needs.{needs}
+use Rattle.lists.proofs.Kit.{refl, needs}
 use Rattle.machine_rules.specs.Plan.{touched}
 use Rattle.machine_rules.specs.Effect.{rehashed}
 use Rattle.machine_effect.proofs.Laws.KeptRoots.{new-laid}

@@ -1,9 +1,5 @@
 -- `machine_effect::rehashing::rehash_new` meets its contract: a size that does not grow has no new position. Assumes nothing.
-use mathlib.Core.Path.{refl, ap, _∙_}
-use native.Mathlib.Omega.{arith}
-use borrow.Author.Needs.{needs}
-use borrow.Author.Tests.{lt-ltb, le-ltb}
-use lib.ListN.{length}
+use Rattle.lists.proofs.Kit.{refl, ap, _∙_, arith, needs, lt-ltb, le-ltb, length}
 use Rattle.lists.proofs.Laws.Pick.{yes, no}
 use Rattle.tree.proofs.Promise.{roots}
 use Rattle.machine_effect.proofs.Laws.KeptRoots.{root-laid}

@@ -1,6 +1,5 @@
 -- `machine_effect::rehashing::rehash_one` meets its contract: a sector is whole segments, and a root is 32 bytes. Assumes nothing.
-use native.Mathlib.Omega.{arith}
-use borrow.Author.Needs.{needs}
+use Rattle.lists.proofs.Kit.{arith, needs}
 use Rattle.machine_effect.proofs.Laws.KeptRoots.{slot-root, slot-root-long, one-laid}
 use Rattle.machine_effect.proofs.Laws.Asked.{slot-lies}
 use Rattle.machine_effect.proofs.rehashing.rehash_one.Statement.{statement}

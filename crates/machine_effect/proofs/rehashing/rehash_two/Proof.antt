@@ -1,5 +1,5 @@
 -- `machine_effect::rehashing::rehash_two` meets its contract: the first position, then the second where it is another. Assumes nothing.
-use borrow.Author.Needs.{needs}
+use Rattle.lists.proofs.Kit.{needs}
 use Rattle.machine_effect.proofs.Laws.KeptRoots.{two-one, two-both}
 use Rattle.machine_effect.proofs.rehashing.rehash_two.Statement.{statement}
 use Rattle.machine_effect.proofs.rehashing.rehash_two.Tie as tie

@@ -1,6 +1,5 @@
 -- `machine_effect::rehashing::slot_of` meets its contract: there is an entry for the position. Assumes nothing.
-use native.Mathlib.Omega.{arith}
-use borrow.Author.Needs.{needs}
+use Rattle.lists.proofs.Kit.{arith, needs}
 use Rattle.lists.proofs.Laws.Entries.{any-default}
 use Rattle.machine_effect.proofs.rehashing.slot_of.Statement.{statement}
 use Rattle.machine_effect.proofs.rehashing.slot_of.Tie as tie

@@ -1,6 +1,5 @@
 -- `machine_effect::resizing::new_zeros` meets its contract: the lowest free slot lies within the stage. Assumes nothing.
-use native.Mathlib.Omega.{arith}
-use borrow.Author.Needs.{needs}
+use Rattle.lists.proofs.Kit.{arith, needs}
 use Rattle.machine_effect.proofs.Laws.Slots.{new-slot}
 use Rattle.machine_effect.proofs.Laws.Copies.{laid-zeros}
 use Rattle.machine_effect.proofs.resizing.new_zeros.Statement.{statement}

@@ -1,7 +1,5 @@
 -- `machine_effect::resizing::resized` meets its contract: a walk down the definition. Assumes nothing.
-use mathlib.Core.Path.{refl}
-use borrow.Author.Needs.{needs}
-use borrow.Author.Tests.{lt-ltb, le-ltb}
+use Rattle.lists.proofs.Kit.{refl, needs, lt-ltb, le-ltb}
 use Rattle.lists.proofs.Laws.Pick.{yes, no}
 use Rattle.machine_rules.specs.Effect.{resized}
 use Rattle.machine_effect.specs.Parts.{grown}

@@ -1,8 +1,6 @@
 -- `machine_effect::spans::copy` meets its contract: once the target has its copy, the source reads as before, in the stage or on the disk.
 -- Assumes nothing.
-use mathlib.Core.Path.{sym, _∙_}
-use native.Mathlib.Omega.{arith}
-use borrow.Author.Needs.{needs}
+use Rattle.lists.proofs.Kit.{sym, _∙_, arith, needs}
 use Rattle.machine_effect.specs.Asks.{bare}
 use Rattle.machine_effect.proofs.Laws.Spans.{written-fits, moved-fits, moved, fetched-fits, fetched}
 use Rattle.machine_effect.proofs.spans.copy.Statement.{statement}

@@ -1,7 +1,6 @@
 -- `machine_effect::spans::swap` meets its contract: once both sectors have their copies both spans read as before, and are exchanged in place.
 -- Assumes nothing.
-use native.Mathlib.Omega.{arith}
-use borrow.Author.Needs.{needs}
+use Rattle.lists.proofs.Kit.{arith, needs}
 use Rattle.machine_rules.specs.Effect.{Ground}
 use Rattle.machine_effect.specs.Parts.{ground}
 use Rattle.machine_effect.proofs.Laws.Spans.{lent-made, over-first, one-fits, two-fits, swapped}

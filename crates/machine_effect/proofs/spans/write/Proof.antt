@@ -1,7 +1,6 @@
 -- `machine_effect::spans::write` meets its contract: the sector has a copy, and the span lies within it. Assumes nothing.
 use Rattle.machine_effect.proofs.Laws.Spans.{written, written-fits}
-use native.Mathlib.Omega.{arith}
-use borrow.Author.Needs.{needs}
+use Rattle.lists.proofs.Kit.{arith, needs}
 use Rattle.machine_effect.proofs.spans.write.Statement.{statement}
 use Rattle.machine_effect.proofs.spans.write.Tie as tie
 

@@ -1,8 +1,5 @@
 -- `machine_effect::staging::copied` meets its contract: the position has a copy, or gets the disk's sector in the lowest free slot. Assumes nothing.
-use mathlib.Core.Path.{sym, _∙_}
-use native.Mathlib.Omega.{arith}
-use borrow.Author.Needs.{needs}
-use borrow.Author.Tests.{not-true, not-false}
+use Rattle.lists.proofs.Kit.{sym, _∙_, arith, needs, not-true, not-false}
 use Rattle.machine_effect.specs.Asks.{bare}
 use Rattle.machine_effect.proofs.Laws.Slots.{new-slot}
 use Rattle.machine_effect.proofs.Laws.Copies.{copied-old, laid-copy}

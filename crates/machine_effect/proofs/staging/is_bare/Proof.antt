@@ -1,9 +1,5 @@
 -- `machine_effect::staging::is_bare` meets its contract: there is an entry for the position. Assumes nothing.
-use mathlib.Core.Path.{ap}
-use Prim.Native.Nat.{ℕ}
-use native.Mathlib.Omega.{arith}
-use lib.Dec.{eqb}
-use borrow.Author.Needs.{needs}
+use Rattle.lists.proofs.Kit.{ap, ℕ, arith, eqb, needs}
 use Rattle.lists.proofs.Laws.Entries.{any-default}
 use Rattle.machine_effect.proofs.staging.is_bare.Statement.{statement}
 use Rattle.machine_effect.proofs.staging.is_bare.Tie as tie

@@ -1,6 +1,5 @@
 -- `machine_effect::staging::place` meets its contract: the slot is one that there is an entry for. Assumes nothing.
-use native.Mathlib.Omega.{arith}
-use borrow.Author.Needs.{needs}
+use Rattle.lists.proofs.Kit.{arith, needs}
 use Rattle.area.proofs.Laws.Slots.{slot-near, offset-less}
 use Rattle.machine_effect.proofs.Laws.Slots.{place-is}
 use Rattle.machine_effect.proofs.staging.place.Statement.{statement}

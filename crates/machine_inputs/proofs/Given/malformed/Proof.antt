@@ -1,10 +1,8 @@
 -- `machine_inputs::Given::malformed` meets its contract. Assumes nothing.
-use mathlib.Core.Path.{ap}
-use mathlib.Core.Bool.{false}
+use Rattle.lists.proofs.Kit.{ap, false, needs}
 use Rattle.machine_rules.specs.Inputs.{told}
 use Rattle.machine_inputs.specs.Given.{malformed}
 use Rattle.machine_rules.specs.declared.Args.{Args}
-use borrow.Author.Needs.{needs}
 use Rattle.machine_inputs.proofs.Given.malformed.Statement.{statement}
 use Rattle.machine_inputs.proofs.Given.malformed.Tie as tie
 

@@ -1,11 +1,9 @@
 -- `machine_inputs::decoding::data_of` meets its contract: fewer than 8 bytes, another count, or the length of the rest. Assumes nothing.
-use mathlib.Core.Path.{refl}
-use borrow.Author.Tests.{lt-leb}
+use Rattle.lists.proofs.Kit.{refl, lt-leb, needs}
 use Rattle.lists.proofs.Laws.Pick.{no, both-not-left}
 use Rattle.machine_rules.specs.Inputs.{isData}
 use Rattle.machine_inputs.specs.Given.{dataOf}
 use Rattle.machine_inputs.proofs.Laws.Given.{data-other, data-right}
-use borrow.Author.Needs.{needs}
 use Rattle.machine_inputs.proofs.decoding.data_of.Statement.{statement}
 use Rattle.machine_inputs.proofs.decoding.data_of.Tie as tie
 

@@ -1,7 +1,5 @@
 -- `machine_inputs::decoding::decoded` meets its contract, arm by arm. Assumes nothing.
-use mathlib.Core.Path.{sym, ap, _∙_}
-use mathlib.Core.List.{List}
-use Prim.Native.Nat.{ℕ}
+use Rattle.lists.proofs.Kit.{sym, ap, _∙_, List, ℕ, needs}
 use Rattle.lists.proofs.Laws.Pick.{never}
 use Rattle.machine_rules.specs.Inputs.{inputsOf}
 use Rattle.machine_rules.specs.Kinds.{known, operandsOf, kind}
@@ -10,7 +8,6 @@ use Rattle.machine_inputs.proofs.Laws.Given.{count-right, reads-alike, 
 use Rattle.sia.specs.declared.Op.{Op}
 use Rattle.sia.specs.declared.Op.the-variants.{Read, ReadSector, Write, Copy, Swap, Truncate}
 use Rattle.sia.proofs.Laws.Known.{known-instruction}
-use borrow.Author.Needs.{needs}
 use Rattle.machine_inputs.proofs.decoding.decoded.Statement.{statement}
 use Rattle.machine_inputs.proofs.decoding.decoded.Tie as tie
 

@@ -1,8 +1,7 @@
 -- `machine_inputs::decoding::key_at` meets its contract. Assumes nothing.
-use mathlib.Core.Path.{refl, ap, _∙_}
+use Rattle.lists.proofs.Kit.{refl, ap, _∙_, needs}
 use Rattle.area.proofs.Laws.Parts.{part-is}
 use Rattle.machine_inputs.specs.Given.{keyOf}
-use borrow.Author.Needs.{needs}
 use Rattle.machine_inputs.proofs.decoding.key_at.Statement.{statement}
 use Rattle.machine_inputs.proofs.decoding.key_at.Tie as tie
 

@@ -1,16 +1,10 @@
 -- `machine_inputs::decoding::key_of` meets its contract: 32 bytes are laid over all of 32. Assumes nothing.
-use mathlib.Core.Path.{refl, sym, ap, _∙_}
-use mathlib.Core.Bool.{true}
-use mathlib.Core.List.{List}
-use Prim.Native.Nat.{ℕ}
-use native.Mathlib.Omega.{arith}
-use borrow.Author.Tests.{eq-eqb, ne-eqb}
+use Rattle.lists.proofs.Kit.{refl, sym, ap, _∙_, true, List, ℕ, arith, eq-eqb, ne-eqb, needs}
 use Rattle.lists.proofs.Laws.Pick.{yes, no}
 use Rattle.area.proofs.Laws.Puts.{put-part}
 use Rattle.area.proofs.Laws.Parts.{part-whole}
 use Rattle.machine_rules.specs.Inputs.{told, isKey}
 use Rattle.machine_inputs.specs.Given.{keyOf}
-use borrow.Author.Needs.{needs}
 use Rattle.machine_inputs.proofs.decoding.key_of.Statement.{statement}
 use Rattle.machine_inputs.proofs.decoding.key_of.Tie as tie
 

@@ -1,14 +1,11 @@
 -- `machine_inputs::decoding::read_args` meets its contract: the three inputs in turn. Assumes nothing.
-use mathlib.Core.Path.{sym, ap, _∙_}
-use native.Mathlib.Omega.{arith}
-use borrow.Author.Tests.{not-true, not-false}
+use Rattle.lists.proofs.Kit.{sym, ap, _∙_, arith, not-true, not-false, needs}
 use Rattle.lists.proofs.Laws.Pick.{both-not-left, both-not-right}
 use Rattle.sia.specs.Number.{numberGiven}
 use Rattle.machine_rules.specs.Inputs.{wellFormed}
 use Rattle.machine_inputs.specs.Given.{inputAt, three}
 use Rattle.machine_inputs.proofs.Laws.Given.{key-told, number-refused, read-accepted, refused, ends-within}
 use Rattle.sia.specs.declared.Op.the-variants.{Read}
-use borrow.Author.Needs.{needs}
 use Rattle.machine_inputs.proofs.decoding.read_args.Statement.{statement}
 use Rattle.machine_inputs.proofs.decoding.read_args.Tie as tie
 

@@ -1,12 +1,10 @@
 -- `machine_inputs::decoding::size_args` meets its contract. Assumes nothing.
-use mathlib.Core.Path.{sym, ap, _∙_}
-use native.Mathlib.Omega.{arith}
+use Rattle.lists.proofs.Kit.{sym, ap, _∙_, arith, needs}
 use Rattle.sia.specs.Number.{numberGiven}
 use Rattle.machine_rules.specs.Inputs.{wellFormed}
 use Rattle.machine_inputs.specs.Given.{inputAt, one}
 use Rattle.machine_inputs.proofs.Laws.Given.{number-refused, size-accepted, refused, ends-within}
 use Rattle.sia.specs.declared.Op.the-variants.{Truncate}
-use borrow.Author.Needs.{needs}
 use Rattle.machine_inputs.proofs.decoding.size_args.Statement.{statement}
 use Rattle.machine_inputs.proofs.decoding.size_args.Tie as tie
 

@@ -1,13 +1,11 @@
 -- `machine_inputs::decoding::span_args` meets its contract: the three inputs in turn. Assumes nothing.
-use mathlib.Core.Path.{sym, ap, _∙_}
-use native.Mathlib.Omega.{arith}
+use Rattle.lists.proofs.Kit.{sym, ap, _∙_, arith, needs}
 use Rattle.lists.proofs.Laws.Pick.{both-not-left, both-not-right}
 use Rattle.sia.specs.Number.{numberGiven}
 use Rattle.machine_rules.specs.Inputs.{wellFormed}
 use Rattle.machine_inputs.specs.Given.{inputAt, three}
 use Rattle.machine_inputs.proofs.Laws.Given.{number-refused, span-accepted, refused, ends-within}
 use Rattle.sia.specs.declared.Op.the-variants.{Copy}
-use borrow.Author.Needs.{needs}
 use Rattle.machine_inputs.proofs.decoding.span_args.Statement.{statement}
 use Rattle.machine_inputs.proofs.decoding.span_args.Tie as tie
 

@@ -1,7 +1,5 @@
 -- `machine_inputs::decoding::write_args` meets its contract: the two inputs in turn. Assumes nothing.
-use mathlib.Core.Path.{sym, ap, _∙_}
-use native.Mathlib.Omega.{arith}
-use lib.ListN.{getD}
+use Rattle.lists.proofs.Kit.{sym, ap, _∙_, arith, getD, needs}
 use Rattle.lists.proofs.Laws.Pick.{both-not-left, both-not-right}
 use Rattle.area.proofs.Laws.Parts.{length-part}
 use Rattle.sia.specs.Empty.{noOperand}
@@ -10,7 +8,6 @@ use Rattle.machine_rules.specs.Inputs.{wellFormed}
 use Rattle.machine_inputs.specs.Given.{inputAt, two}
 use Rattle.machine_inputs.proofs.Laws.Given.{number-refused, data-refused, data-told, data-long, write-accepted, refused, ends-within}
 use Rattle.sia.specs.declared.Op.the-variants.{Write}
-use borrow.Author.Needs.{needs}
 use Rattle.machine_inputs.proofs.decoding.write_args.Statement.{statement}
 use Rattle.machine_inputs.proofs.decoding.write_args.Tie as tie
 

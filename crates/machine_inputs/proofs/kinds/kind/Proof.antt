@@ -1,6 +1,6 @@
 -- `machine_inputs::kinds::kind` meets its contract, row by row. Assumes nothing.
 use Rattle.machine_rules.specs.Kinds.{kind}
-use borrow.Author.Needs.{needs}
+use Rattle.lists.proofs.Kit.{needs}
 use Rattle.machine_inputs.proofs.kinds.kind.Statement.{statement}
 use Rattle.machine_inputs.proofs.kinds.kind.Tie as tie
 

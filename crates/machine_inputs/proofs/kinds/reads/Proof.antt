@@ -1,7 +1,6 @@
 -- `machine_inputs::kinds::reads` meets its contract. Assumes nothing.
-use mathlib.Core.Path.{ap}
+use Rattle.lists.proofs.Kit.{ap, needs}
 use Rattle.machine_rules.specs.declared.Kind.{Kind}
-use borrow.Author.Needs.{needs}
 use Rattle.machine_inputs.proofs.kinds.reads.Statement.{statement}
 use Rattle.machine_inputs.proofs.kinds.reads.Tie as tie
 

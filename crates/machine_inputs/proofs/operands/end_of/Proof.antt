@@ -1,8 +1,6 @@
 -- `machine_inputs::operands::end_of` meets its contract. Assumes nothing.
-use mathlib.Core.Path.{refl}
-use borrow.Author.Tests.{eq-eqb, ne-eqb}
+use Rattle.lists.proofs.Kit.{refl, eq-eqb, ne-eqb, needs}
 use Rattle.lists.proofs.Laws.Pick.{yes, no}
-use borrow.Author.Needs.{needs}
 use Rattle.machine_inputs.proofs.operands.end_of.Statement.{statement}
 use Rattle.machine_inputs.proofs.operands.end_of.Tie as tie
 

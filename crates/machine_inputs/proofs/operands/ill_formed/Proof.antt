@@ -1,13 +1,10 @@
 -- `machine_inputs::operands::ill_formed` meets its contract: a walk down the definition. Assumes nothing.
-use mathlib.Core.Path.{_≡_, refl, sym, ap, _∙_}
-use mathlib.Core.Bool.{not}
-use lib.Dec.{eqb}
+use Rattle.lists.proofs.Kit.{_≡_, refl, sym, ap, _∙_, not, eqb, needs}
 use Rattle.lists.proofs.Laws.Pick.{yes, no}
 use Rattle.sia.specs.Names.{opOf}
 use Rattle.machine_rules.specs.Inputs.{illFormed}
 use Rattle.machine_rules.specs.Kinds.{kind}
 use Rattle.machine_rules.specs.declared.Kind.{Kind}
-use borrow.Author.Needs.{needs}
 use Rattle.machine_inputs.proofs.operands.ill_formed.Statement.{statement}
 use Rattle.machine_inputs.proofs.operands.ill_formed.Tie as tie
 

@@ -1,16 +1,10 @@
 -- `machine_inputs::operands::largest_end` meets its contract. The loop's invariant: what is found so far and the operands that are left give the
 -- largest. Assumes nothing.
-use mathlib.Core.Path.{_≡_, ap, _∙_}
-use mathlib.Core.Bool.{false}
-use Prim.Native.Nat.{ℕ, _+_, _-_, _≤_, max}
-use native.Mathlib.Omega.{arith}
-use lib.ListN.{take}
-use lib.Seq.{slice}
+use Rattle.lists.proofs.Kit.{_≡_, ap, _∙_, false, ℕ, _+_, _-_, _≤_, max, arith, take, slice, needs}
 use Rattle.lists.specs.Tests.{some}
 use Rattle.machine_rules.specs.Inputs.{largest}
 use Rattle.machine_inputs.specs.Ends.{endsPast}
 use Rattle.machine_inputs.proofs.Laws.Ends.{largest-first, largest-further, largest-done, past-further, past-not}
-use borrow.Author.Needs.{needs}
 use Rattle.machine_inputs.proofs.operands.largest_end.Statement.{statement}
 use Rattle.machine_inputs.proofs.operands.largest_end.Tie as tie
 

@@ -1,12 +1,11 @@
 -- `machine_inputs::operands::need` meets its contract: a walk down the definition. Assumes nothing.
-use mathlib.Core.Path.{refl, sym, ap, _∙_}
+use Rattle.lists.proofs.Kit.{refl, sym, ap, _∙_, needs}
 use Rattle.lists.specs.Tests.{some}
 use Rattle.lists.proofs.Laws.Pick.{yes, no}
 use Rattle.machine_rules.specs.Inputs.{pastEnd, largest, need}
 use Rattle.sia.proofs.Laws.Known.{known-instruction}
 use Rattle.machine_inputs.specs.Ends.{endsPast}
 use Rattle.machine_inputs.proofs.Laws.Ends.{listed-all}
-use borrow.Author.Needs.{needs}
 use Rattle.machine_inputs.proofs.operands.need.Statement.{statement}
 use Rattle.machine_inputs.proofs.operands.need.Tie as tie
 

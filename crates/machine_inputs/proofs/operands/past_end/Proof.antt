@@ -1,11 +1,10 @@
 -- `machine_inputs::operands::past_end` meets its contract. Assumes nothing.
-use mathlib.Core.Path.{ap, _∙_}
+use Rattle.lists.proofs.Kit.{ap, _∙_, needs}
 use Rattle.lists.specs.Tests.{some}
 use Rattle.machine_rules.specs.Inputs.{pastEnd}
 use Rattle.sia.proofs.Laws.Known.{known-instruction}
 use Rattle.machine_inputs.specs.Ends.{endsPast}
 use Rattle.machine_inputs.proofs.Laws.Ends.{listed-all}
-use borrow.Author.Needs.{needs}
 use Rattle.machine_inputs.proofs.operands.past_end.Statement.{statement}
 use Rattle.machine_inputs.proofs.operands.past_end.Tie as tie
 

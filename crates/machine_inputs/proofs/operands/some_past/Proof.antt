@@ -1,14 +1,9 @@
 -- `machine_inputs::operands::some_past` meets its contract. The loop's invariant: the answer is that of the operands that are left to look at. Assumes nothing.
-use mathlib.Core.Path.{_≡_, refl, sym, _∙_}
-use Prim.Native.Nat.{_-_, _≤_}
-use native.Mathlib.Omega.{arith}
-use lib.ListN.{take}
-use lib.Seq.{slice}
+use Rattle.lists.proofs.Kit.{_≡_, refl, sym, _∙_, _-_, _≤_, arith, take, slice, needs}
 use Rattle.lists.specs.Tests.{some}
 use Rattle.lists.proofs.Laws.Slices.{some-here, some-further, some-done}
 use Rattle.sia.specs.Empty.{noOperand}
 use Rattle.machine_inputs.specs.Ends.{endsPast}
-use borrow.Author.Needs.{needs}
 use Rattle.machine_inputs.proofs.operands.some_past.Statement.{statement}
 use Rattle.machine_inputs.proofs.operands.some_past.Tie as tie
 

@@ -1,8 +1,5 @@
 -- `machine_inputs::sums::above` meets its contract. Assumes nothing.
-use mathlib.Core.Path.{sym}
-use Prim.Native.Nat.{_+_, _-_}
-use native.Mathlib.Omega.{arith}
-use borrow.Author.Tests.{ltb-true, ltb-false, lt-ltb}
+use Rattle.lists.proofs.Kit.{sym, _+_, _-_, arith, ltb-true, ltb-false, lt-ltb}
 use Rattle.machine_inputs.proofs.Laws.Sums.{over}
 use Rattle.machine_inputs.proofs.sums.above.Statement.{statement}
 use Rattle.machine_inputs.proofs.sums.above.Tie as tie

@@ -1,6 +1,6 @@
 -- `machine_plan::Source::missing` meets its contract. Assumes nothing.
 use Rattle.machine_plan.proofs.Laws.Lookup.{shows-missing}
-use borrow.Author.Needs.{needs}
+use Rattle.lists.proofs.Kit.{needs}
 use Rattle.machine_plan.proofs.Source.missing.Statement.{statement}
 use Rattle.machine_plan.proofs.Source.missing.Tie as tie
 

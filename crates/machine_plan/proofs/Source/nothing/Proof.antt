@@ -1,6 +1,6 @@
 -- `machine_plan::Source::nothing` meets its contract. Assumes nothing.
 use Rattle.machine_plan.proofs.Laws.Lookup.{shows-seen}
-use borrow.Author.Needs.{needs}
+use Rattle.lists.proofs.Kit.{needs}
 use Rattle.machine_plan.proofs.Source.nothing.Statement.{statement}
 use Rattle.machine_plan.proofs.Source.nothing.Tie as tie
 

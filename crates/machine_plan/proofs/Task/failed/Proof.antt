@@ -1,6 +1,6 @@
 -- `machine_plan::Task::failed` meets its contract. Assumes nothing.
 use Rattle.machine_plan.specs.Planned.{failed}
-use borrow.Author.Needs.{needs}
+use Rattle.lists.proofs.Kit.{needs}
 use Rattle.machine_plan.proofs.Task.failed.Statement.{statement}
 use Rattle.machine_plan.proofs.Task.failed.Tie as tie
 

@@ -1,11 +1,5 @@
 -- `machine_plan::chain::argued` meets its contract: a walk down the definition. Assumes nothing.
-use mathlib.Core.Path.{ap₂, _≡_, sym, ap, _∙_, refl}
-use mathlib.Core.Bool.{false, not}
-use mathlib.Core.List.{List, []}
-use Prim.Native.Nat.{ℕ}
-use native.Mathlib.Omega.{arith}
-use lib.ListN.{length}
-use borrow.Author.Tests.{not-true, not-false}
+use Rattle.lists.proofs.Kit.{ap₂, _≡_, sym, ap, _∙_, refl, false, not, List, [], ℕ, arith, length, not-true, not-false, needs}
 use Rattle.lists.specs.Pick.{both}
 use Rattle.lists.proofs.Laws.Pick.{yes, no}
 use Rattle.machine_rules.specs.View.{Setting, setting, readOnlyMode}
@@ -20,7 +14,6 @@ use Rattle.machine_plan.specs.Planned.{says, failed, argued}
 use Rattle.machine_plan.proofs.Laws.Planned.{fails, says-can, says-failed, source-same, length-most, room-most}
 use Rattle.machine_rules.proofs.Laws.Effects.{few-sectors}
 use Rattle.machine_plan.proofs.Laws.Lookup.{shows-as}
-use borrow.Author.Needs.{needs}
 use Rattle.machine_plan.proofs.chain.argued.Statement.{statement}
 use Rattle.machine_rules.specs.declared.Plan.{Plan}
 use Rattle.machine_plan.proofs.chain.argued.Tie as tie

@@ -1,9 +1,7 @@
 -- `machine_plan::chain::changes_nothing` meets its contract. Assumes nothing.
-use mathlib.Core.Path.{refl, sym, _∙_, ap}
-use borrow.Author.Tests.{not-true, not-false}
+use Rattle.lists.proofs.Kit.{refl, sym, _∙_, ap, not-true, not-false, needs}
 use Rattle.lists.proofs.Laws.Pick.{yes, no}
 use Rattle.machine_rules.specs.declared.Kind.{Kind}
-use borrow.Author.Needs.{needs}
 use Rattle.machine_plan.proofs.chain.changes_nothing.Statement.{statement}
 use Rattle.machine_plan.proofs.chain.changes_nothing.Tie as tie
 

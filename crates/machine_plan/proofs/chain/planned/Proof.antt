@@ -1,9 +1,5 @@
 -- `machine_plan::chain::planned` meets its contract: a walk down the definition. Assumes nothing.
-use mathlib.Core.Path.{_≡_, sym, ap, _∙_, refl}
-use mathlib.Core.Bool.{not, true, false}
-use mathlib.Core.List.{List, []}
-use Prim.Native.Nat.{suc, ℕ}
-use borrow.Author.Tests.{not-true, not-false}
+use Rattle.lists.proofs.Kit.{_≡_, sym, ap, _∙_, refl, not, true, false, List, [], suc, ℕ, not-true, not-false, needs}
 use Rattle.lists.proofs.Laws.Pick.{yes, no}
 use Rattle.sia.specs.Names.{opOf}
 use Rattle.machine_rules.specs.View.{Setting, setting}
@@ -16,7 +12,6 @@ use Rattle.machine_inputs.proofs.Laws.Given.{told-is, args-are, from-is}
 use Rattle.machine_plan.specs.Planned.{planOf, failed, argued}
 use Rattle.machine_plan.proofs.Laws.Planned.{fails, argued-is}
 use Rattle.machine_rules.specs.Plan.{refused, planned, plannedInputs}
-use borrow.Author.Needs.{needs}
 use Rattle.machine_plan.proofs.chain.planned.Statement.{statement}
 use Rattle.machine_rules.specs.declared.Plan.{Plan}
 use Rattle.machine_plan.proofs.chain.planned.Tie as tie

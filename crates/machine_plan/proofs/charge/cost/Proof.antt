@@ -1,10 +1,7 @@
 -- `machine_plan::charge::cost` meets its contract. Assumes nothing.
-use mathlib.Core.Path.{ap₂}
-use Prim.Native.Nat.{ℕ, _+_, _*_}
-use native.Mathlib.Omega.{arith}
+use Rattle.lists.proofs.Kit.{ap₂, ℕ, _+_, _*_, arith, needs}
 use Rattle.machine_rules.specs.Plan.{cost}
 use Rattle.machine_plan.proofs.Laws.Costs.{timed, charged-memory}
-use borrow.Author.Needs.{needs}
 use Rattle.machine_plan.proofs.charge.cost.Statement.{statement}
 use Rattle.machine_plan.proofs.charge.cost.Tie as tie
 

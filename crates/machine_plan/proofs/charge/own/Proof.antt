@@ -1,12 +1,9 @@
 -- `machine_plan::charge::own` meets its contract, arm by arm. Assumes nothing.
-use mathlib.Core.Path.{_≡_, sym, ap, ap₂, _∙_}
-use Prim.Native.Nat.{ℕ, _+_, _*_}
-use native.Mathlib.Omega.{arith}
+use Rattle.lists.proofs.Kit.{_≡_, sym, ap, ap₂, _∙_, ℕ, _+_, _*_, arith, needs}
 use Rattle.machine_rules.specs.Plan.{readPrice, writePrice, own}
 use Rattle.machine_plan.specs.Numbers.{Small}
 use Rattle.machine_plan.proofs.Laws.Costs.{small-as}
 use Rattle.sia.specs.declared.Op.{Op}
-use borrow.Author.Needs.{needs}
 use Rattle.machine_plan.proofs.charge.own.Statement.{statement}
 use Rattle.machine_plan.proofs.charge.own.Tie as tie
 

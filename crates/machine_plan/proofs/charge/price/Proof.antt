@@ -1,6 +1,5 @@
 -- `machine_plan::charge::price` meets its contract. Assumes nothing.
-use mathlib.Core.Path.{refl}
-use native.Mathlib.Omega.{arith}
+use Rattle.lists.proofs.Kit.{refl, arith}
 use Rattle.machine_plan.proofs.Laws.Costs.{priced}
 use Rattle.machine_plan.proofs.charge.price.Statement.{statement}
 use Rattle.machine_plan.proofs.charge.price.Tie as tie

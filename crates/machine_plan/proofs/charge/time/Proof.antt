@@ -1,12 +1,9 @@
 -- `machine_plan::charge::time` meets its contract: no time passes 30. Assumes nothing.
-use mathlib.Core.Path.{ap}
-use Prim.Native.Nat.{_≤_}
-use native.Mathlib.Omega.{arith}
+use Rattle.lists.proofs.Kit.{ap, _≤_, arith, needs}
 use Rattle.machine_rules.specs.Kinds.{kind, time}
 use Rattle.machine_rules.specs.declared.Kind.{Kind}
 use Rattle.sia.specs.declared.Op.{Op}
 use Rattle.sia.specs.declared.Op.the-variants.{Read, ReadSector, Write, Copy, Swap, Truncate, Unknown}
-use borrow.Author.Needs.{needs}
 use Rattle.machine_plan.proofs.charge.time.Statement.{statement}
 use Rattle.machine_plan.proofs.charge.time.Tie as tie
 

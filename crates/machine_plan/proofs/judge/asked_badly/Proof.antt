@@ -1,8 +1,6 @@
 -- `machine_plan::judge::asked_badly` meets its contract. Assumes nothing.
-use mathlib.Core.Path.{refl}
-use borrow.Author.Tests.{not-true, not-false}
+use Rattle.lists.proofs.Kit.{refl, not-true, not-false, needs}
 use Rattle.lists.proofs.Laws.Pick.{yes, no}
-use borrow.Author.Needs.{needs}
 use Rattle.machine_plan.proofs.judge.asked_badly.Statement.{statement}
 use Rattle.machine_plan.proofs.judge.asked_badly.Tie as tie
 

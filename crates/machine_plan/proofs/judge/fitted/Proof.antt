@@ -1,18 +1,10 @@
 -- `machine_plan::judge::fitted` meets its contract: a walk down the definition. Assumes nothing.
-use mathlib.Core.Path.{_≡_, sym, ap, ap₂, _∙_}
-use mathlib.Core.Bool.{not, false}
-use mathlib.Core.List.{[]}
-use Prim.Native.Nat.{ℕ, _+_, _*_, _≤_}
-use native.Mathlib.Nat.{mul-le-mul}
-use native.Mathlib.Omega.{arith}
-use lib.Dec.{ltb}
-use borrow.Author.Tests.{ltb-false}
+use Rattle.lists.proofs.Kit.{_≡_, sym, ap, ap₂, _∙_, not, false, [], ℕ, _+_, _*_, _≤_, mul-le-mul, arith, ltb, ltb-false, needs}
 use Rattle.lists.proofs.Laws.Pick.{yes, no}
 use Rattle.host.specs.Places.{others}
 use Rattle.machine_rules.specs.View.{freeCopies, setting}
 use Rattle.machine_rules.specs.Plan.{fitted, wanted, newSize, recordCount}
 use Rattle.machine_plan.proofs.Laws.Weighed.{not-leb}
-use borrow.Author.Needs.{needs}
 use Rattle.machine_plan.proofs.judge.fitted.Statement.{statement}
 use Rattle.machine_plan.proofs.judge.fitted.Tie as tie
 

@@ -1,5 +1,5 @@
 -- `machine_plan::judge::refused` meets its contract. Assumes nothing.
-use mathlib.Core.Path.{refl}
+use Rattle.lists.proofs.Kit.{refl}
 use Rattle.machine_rules.specs.Plan.{refused}
 use Rattle.machine_plan.proofs.judge.refused.Statement.{statement}
 use Rattle.machine_plan.proofs.judge.refused.Tie as tie

@@ -1,15 +1,10 @@
 -- `machine_plan::judge::weighed` meets its contract: a walk down the definition. Assumes nothing.
-use mathlib.Core.List.{[]}
-use mathlib.Core.Path.{_≡_, sym, ap, _∙_}
-use mathlib.Core.Bool.{false}
-use Prim.Native.Nat.{ℕ, _+_}
-use lib.Dec.{ltb}
+use Rattle.lists.proofs.Kit.{[], _≡_, sym, ap, _∙_, false, ℕ, _+_, ltb, needs}
 use Rattle.lists.specs.Pick.{both}
 use Rattle.lists.proofs.Laws.Pick.{yes, no}
 use Rattle.machine_rules.specs.Plan.{fitted, weighed, badSpans, badProof, cost}
 use Rattle.machine_plan.proofs.Laws.Numbers.{charged}
 use Rattle.machine_plan.proofs.Laws.Weighed.{provable}
-use borrow.Author.Needs.{needs}
 use Rattle.machine_plan.proofs.judge.weighed.Statement.{statement}
 use Rattle.machine_rules.specs.View.{setting}
 use Rattle.machine_plan.proofs.judge.weighed.Tie as tie
@@ -21,7 +16,7 @@ right-spans : (c : tie.Else1) → let a = c .before .before .args in badSpans (a
 right-spans c = sym (c .before .bad-spans .ensures) ∙ c .if1 .left
 
 -- 27
-asked-well : (c : tie.Else2) → let a = c .before .before .before .before .args in both (a .asked) (badProof (a .op) (a .args)) ≡ false
+asked-well : (c : tie.Else2) → let a-3 = c .before .before .before in let a = a-3 .before .args in both (a .asked) (badProof (a .op) (a .args)) ≡ false
 asked-well c = sym (c .before .asked-badly .ensures) ∙ c .if2 .left
 
 -- 28

@@ -1,6 +1,5 @@
 -- `machine_plan::lookup::contract_source` meets its contract: a walk down the definition. Assumes nothing.
-use mathlib.Core.Path.{sym, ap, _∙_}
-use borrow.Author.Tests.{not-true, not-false}
+use Rattle.lists.proofs.Kit.{sym, ap, _∙_, not-true, not-false, needs}
 use Rattle.area.specs.Area.{same}
 use Rattle.machine_plan.specs.Source.{looking}
 use Rattle.machine_sight.proofs.Callers.{parent-spots}
@@ -9,7 +8,6 @@ use Rattle.host.proofs.Laws.Whose.{whose-order}
 use Rattle.machine_rules.specs.View.{committedSpots}
 use Rattle.host.specs.declared.Place.{Place}
 use Rattle.host.specs.Order.{placeInOrder}
-use borrow.Author.Needs.{needs}
 use Rattle.machine_plan.proofs.lookup.contract_source.Statement.{statement}
 use Rattle.machine_plan.proofs.lookup.contract_source.Tie as tie
 

@@ -1,5 +1,5 @@
 -- `machine_plan::lookup::no_sectors` meets its contract. Assumes nothing.
-use mathlib.Core.Path.{refl}
+use Rattle.lists.proofs.Kit.{refl}
 use Rattle.lists.specs.Tab.{tab}
 use Rattle.machine_sight.specs.Seen.{spotsOf}
 use Rattle.machine_plan.proofs.lookup.no_sectors.Statement.{statement}

@@ -1,5 +1,5 @@
 -- `machine_plan::lookup::sector_source` meets its contract: the sector that the look-up finds, or none. Assumes nothing.
-use borrow.Author.Needs.{needs}
+use Rattle.lists.proofs.Kit.{needs}
 use Rattle.machine_plan.proofs.Laws.Lookup.{sought-narrow, shows-sought, not-sought}
 use Rattle.machine_plan.proofs.lookup.sector_source.Statement.{statement}
 use Rattle.machine_plan.proofs.lookup.sector_source.Tie as tie

@@ -1,12 +1,11 @@
 -- `machine_plan::lookup::source_of` meets its contract, arm by arm. Assumes nothing.
-use mathlib.Core.Path.{sym, ap}
+use Rattle.lists.proofs.Kit.{sym, ap, needs}
 use Rattle.machine_plan.specs.Source.{looking}
 use Rattle.machine_plan.proofs.Laws.Lookup.{shows-as}
 use Rattle.machine_rules.specs.View.{parent, parentSpots}
 use Rattle.machine_rules.specs.Roots.{keptRoot}
 use Rattle.machine_rules.specs.Plan.{Source, contractSource, sourceOf}
 use Rattle.sia.specs.declared.Op.{Op}
-use borrow.Author.Needs.{needs}
 use Rattle.machine_plan.proofs.lookup.source_of.Statement.{statement}
 use Rattle.machine_plan.proofs.lookup.source_of.Tie as tie
 

@@ -1,9 +1,6 @@
 -- `machine_plan::room::free_at` meets its contract. Assumes nothing.
-use mathlib.Core.Path.{refl, sym, ap, _∙_}
-use mathlib.Core.Bool.{not}
-use native.Mathlib.Omega.{arith}
+use Rattle.lists.proofs.Kit.{refl, sym, ap, _∙_, not, arith, needs}
 use Rattle.lists.proofs.Laws.Pick.{yes, no}
-use borrow.Author.Needs.{needs}
 use Rattle.machine_plan.proofs.room.free_at.Statement.{statement}
 use Rattle.machine_plan.proofs.room.free_at.Tie as tie
 

@@ -1,11 +1,8 @@
 -- `machine_plan::room::free_copies` meets its contract. The loop's invariant: what is counted and the slots that are left give the count. Assumes
 -- nothing.
-use mathlib.Core.Path.{_≡_}
-use Prim.Native.Nat.{_+_, _-_, _≤_}
-use native.Mathlib.Omega.{arith}
+use Rattle.lists.proofs.Kit.{_≡_, _+_, _-_, _≤_, arith, needs}
 use Rattle.lists.specs.Tests.{count, unused}
 use Rattle.machine_plan.proofs.Laws.Room.{count-first, count-one, count-done}
-use borrow.Author.Needs.{needs}
 use Rattle.machine_plan.proofs.room.free_copies.Statement.{statement}
 use Rattle.machine_plan.proofs.room.free_copies.Tie as tie
 

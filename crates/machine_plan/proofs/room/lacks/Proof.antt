@@ -1,7 +1,6 @@
 -- `machine_plan::room::lacks` meets its contract. Assumes nothing.
-use native.Mathlib.Omega.{arith}
+use Rattle.lists.proofs.Kit.{arith, needs}
 use Rattle.machine_plan.proofs.Laws.Room.{past-lacks, none-lacks, has-one}
-use borrow.Author.Needs.{needs}
 use Rattle.machine_plan.proofs.room.lacks.Statement.{statement}
 use Rattle.machine_plan.proofs.room.lacks.Tie as tie
 

@@ -1,8 +1,7 @@
 -- `machine_plan::room::new_size` meets its contract, arm by arm. Assumes nothing.
-use mathlib.Core.Path.{sym, ap}
+use Rattle.lists.proofs.Kit.{sym, ap, needs}
 use Rattle.machine_rules.specs.Plan.{newSize}
 use Rattle.sia.specs.declared.Op.{Op}
-use borrow.Author.Needs.{needs}
 use Rattle.machine_plan.proofs.room.new_size.Statement.{statement}
 use Rattle.machine_plan.proofs.room.new_size.Tie as tie
 

@@ -1,9 +1,8 @@
 -- `machine_plan::room::output_count` meets its contract. Assumes nothing.
-use mathlib.Core.Path.{refl, sym, _∙_, ap}
+use Rattle.lists.proofs.Kit.{refl, sym, _∙_, ap, needs}
 use Rattle.lists.proofs.Laws.Pick.{yes, no}
 use Rattle.machine_rules.specs.Plan.{outputCount}
 use Rattle.machine_rules.specs.declared.Kind.{Kind}
-use borrow.Author.Needs.{needs}
 use Rattle.machine_plan.proofs.room.output_count.Statement.{statement}
 use Rattle.machine_plan.proofs.room.output_count.Tie as tie
 

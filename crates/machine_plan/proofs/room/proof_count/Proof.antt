@@ -1,6 +1,5 @@
 -- `machine_plan::room::proof_count` meets its contract. Assumes nothing.
-use mathlib.Core.Path.{refl, _∙_}
-use borrow.Author.Tests.{not-true, not-false}
+use Rattle.lists.proofs.Kit.{refl, _∙_, not-true, not-false}
 use Rattle.lists.proofs.Laws.Pick.{yes, no}
 use Rattle.machine_rules.specs.Plan.{proofCount}
 use Rattle.machine_sight.proofs.Callers.{count-range}

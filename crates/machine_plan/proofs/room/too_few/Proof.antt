@@ -1,9 +1,5 @@
 -- `machine_plan::room::too_few` meets its contract: no number of free slots is below 0. Assumes nothing.
-use mathlib.Core.Path.{sym, ap, ap₂, _∙_}
-use native.Mathlib.Omega.{arith}
-use lib.Dec.{ltb}
-use borrow.Author.Tests.{le-ltb}
-use borrow.Author.Needs.{needs}
+use Rattle.lists.proofs.Kit.{sym, ap, ap₂, _∙_, arith, ltb, le-ltb, needs}
 use Rattle.lists.specs.Tests.{count, unused}
 use Rattle.machine_plan.proofs.room.too_few.Statement.{statement}
 use Rattle.machine_plan.proofs.room.too_few.Tie as tie

@@ -1,12 +1,9 @@
 -- `machine_plan::room::wanted` meets its contract, arm by arm. Assumes nothing.
-use mathlib.Core.Path.{sym, ap, _∙_}
-use lib.ListN.{getD}
-use lib.Dec.{eqb}
+use Rattle.lists.proofs.Kit.{sym, ap, _∙_, getD, eqb, needs}
 use Rattle.host.specs.Empty.{none}
 use Rattle.machine_rules.specs.Plan.{touched, wanted}
 use Rattle.machine_plan.proofs.Laws.Room.{none-those, one-those}
 use Rattle.sia.specs.declared.Op.{Op}
-use borrow.Author.Needs.{needs}
 use Rattle.machine_plan.proofs.room.wanted.Statement.{statement}
 use Rattle.machine_plan.proofs.room.wanted.Tie as tie
 

@@ -1,16 +1,10 @@
 -- `machine_plan::room::wanted_size` meets its contract. Assumes nothing.
-use mathlib.Core.Path.{refl, ap, _∙_}
-use mathlib.Core.List.{List}
-use Prim.Native.Nat.{ℕ}
-use lib.ListN.{length, getD}
-use lib.Dec.{eqb}
-use borrow.Author.Tests.{lt-ltb, le-ltb}
+use Rattle.lists.proofs.Kit.{refl, ap, _∙_, List, ℕ, length, getD, eqb, lt-ltb, le-ltb, needs}
 use Rattle.lists.specs.Tests.{those}
 use Rattle.lists.proofs.Laws.Pick.{yes, no}
 use Rattle.host.specs.Empty.{none}
 use Rattle.machine_rules.specs.Plan.{touched, wanted}
 use Rattle.machine_plan.proofs.Laws.Room.{none-those, one-those}
-use borrow.Author.Needs.{needs}
 use Rattle.machine_plan.proofs.room.wanted_size.Statement.{statement}
 use Rattle.machine_plan.proofs.room.wanted_size.Tie as tie
 

@@ -1,17 +1,10 @@
 -- `machine_plan::room::wanted_swap` meets its contract. Assumes nothing.
-use mathlib.Core.Path.{refl, ap, ap₂, _∙_}
-use mathlib.Core.List.{List}
-use Prim.Native.Nat.{ℕ, _+_}
-use native.Mathlib.Omega.{arith}
-use lib.ListN.{length, getD}
-use lib.Dec.{eqb}
-use borrow.Author.Tests.{eq-eqb, ne-eqb}
+use Rattle.lists.proofs.Kit.{refl, ap, ap₂, _∙_, List, ℕ, _+_, arith, length, getD, eqb, eq-eqb, ne-eqb, needs}
 use Rattle.lists.specs.Tests.{those}
 use Rattle.lists.proofs.Laws.Pick.{yes, no}
 use Rattle.host.specs.Empty.{none}
 use Rattle.machine_rules.specs.Plan.{touched, wanted}
 use Rattle.machine_plan.proofs.Laws.Room.{one-those, two-those}
-use borrow.Author.Needs.{needs}
 use Rattle.machine_plan.proofs.room.wanted_swap.Statement.{statement}
 use Rattle.machine_plan.proofs.room.wanted_swap.Tie as tie
 

@@ -1,7 +1,6 @@
 -- `machine_plan::spans::bad_pair` meets its contract. Assumes nothing.
-use mathlib.Core.Path.{refl, sym, _∙_}
+use Rattle.lists.proofs.Kit.{refl, sym, _∙_, needs}
 use Rattle.lists.proofs.Laws.Pick.{yes, no}
-use borrow.Author.Needs.{needs}
 use Rattle.machine_plan.proofs.spans.bad_pair.Statement.{statement}
 use Rattle.machine_plan.proofs.spans.bad_pair.Tie as tie
 

@@ -1,10 +1,7 @@
 -- `machine_plan::spans::bad_size` meets its contract: a walk down the definition. Assumes nothing.
-use mathlib.Core.Path.{refl, sym, ap, _∙_}
-use mathlib.Core.Bool.{not}
-use borrow.Author.Tests.{eq-eqb, ne-eqb}
+use Rattle.lists.proofs.Kit.{refl, sym, ap, _∙_, not, eq-eqb, ne-eqb, needs}
 use Rattle.lists.proofs.Laws.Pick.{yes, no}
 use Rattle.machine_rules.specs.Plan.{badSize}
-use borrow.Author.Needs.{needs}
 use Rattle.machine_plan.proofs.spans.bad_size.Statement.{statement}
 use Rattle.machine_plan.proofs.spans.bad_size.Tie as tie
 

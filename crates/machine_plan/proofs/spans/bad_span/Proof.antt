@@ -1,12 +1,7 @@
 -- `machine_plan::spans::bad_span` meets its contract: a walk down the definition. Assumes nothing.
-use mathlib.Core.Path.{refl, sym, _∙_}
-use Prim.Native.Nat.{_+_}
-use native.Mathlib.Nat.{mod-le}
-use native.Mathlib.Omega.{arith}
-use borrow.Author.Tests.{ltb-false, eq-eqb, ne-eqb}
+use Rattle.lists.proofs.Kit.{refl, sym, _∙_, _+_, mod-le, arith, ltb-false, eq-eqb, ne-eqb, needs}
 use Rattle.lists.proofs.Laws.Pick.{yes, no}
 use Rattle.machine_rules.specs.Plan.{badSpan}
-use borrow.Author.Needs.{needs}
 use Rattle.machine_plan.proofs.spans.bad_span.Statement.{statement}
 use Rattle.machine_plan.proofs.spans.bad_span.Tie as tie
 

@@ -1,8 +1,5 @@
 -- `machine_plan::spans::bad_spans` meets its contract, arm by arm. Assumes nothing.
-use mathlib.Core.Path.{sym, ap, _∙_}
-use native.Mathlib.Nat.{mul-le-mul}
-use native.Mathlib.Omega.{arith}
-use borrow.Author.Needs.{needs}
+use Rattle.lists.proofs.Kit.{sym, ap, _∙_, mul-le-mul, arith, needs}
 use Rattle.machine_rules.specs.Plan.{badSpans}
 use Rattle.sia.specs.declared.Op.{Op}
 use Rattle.machine_plan.proofs.spans.bad_spans.Statement.{statement}

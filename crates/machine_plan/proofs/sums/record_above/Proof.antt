@@ -1,7 +1,6 @@
 -- `machine_plan::sums::record_above` meets its contract: what is left of the room is counted down. Assumes nothing.
-use native.Mathlib.Omega.{arith}
+use Rattle.lists.proofs.Kit.{arith, needs}
 use Rattle.machine_plan.proofs.Laws.Sums.{all-written, no-counts, no-output, hashes-left}
-use borrow.Author.Needs.{needs}
 use Rattle.machine_plan.proofs.sums.record_above.Statement.{statement}
 use Rattle.machine_plan.proofs.sums.record_above.Tie as tie
 

@@ -1,9 +1,6 @@
 -- `machine_rules::class::class_of` meets its contract: each answer is that of the first test of the definition that holds, and the comparisons that
 -- led to it say so of the tests before. Assumes nothing.
-use mathlib.Core.Path.{refl}
-use native.Mathlib.Nat.{lt-of-lt-of-le}
-use borrow.Author.Tests.{eq-eqb, ne-eqb}
-use lib.Dec.{lit≤}
+use Rattle.lists.proofs.Kit.{refl, lt-of-lt-of-le, eq-eqb, ne-eqb, lit≤}
 use Rattle.lists.proofs.Laws.Pick.{yes, no}
 use Rattle.machine_rules.specs.Class.{classOf}
 use Rattle.machine_rules.proofs.Laws.Classes.{below, above, failed, is-invalid, is-host}

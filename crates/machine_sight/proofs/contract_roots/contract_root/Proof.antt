@@ -1,7 +1,5 @@
 -- `contract_root` meets its contract: zeros of nothing, one sector's own root, else the join of the kept roots. Assumes nothing.
-use mathlib.Core.Path.{sym, _∙_}
-use native.Mathlib.Omega.{arith}
-use borrow.Author.Needs.{needs}
+use Rattle.lists.proofs.Kit.{sym, _∙_, arith, needs}
 use Rattle.tree.proofs.Promise.{calls}
 use Rattle.machine_rules.specs.Roots.{keptRoot}
 use Rattle.machine_sight.proofs.Laws.Roots.{seen-none, seen-alone, seen-roots, seen-join}

@@ -1,7 +1,5 @@
 -- `first_root` meets its contract: the root kept beside the first spot, all of it. Assumes nothing.
-use mathlib.Core.Path.{refl, sym, ap, _∙_}
-use native.Mathlib.Omega.{arith}
-use borrow.Author.Needs.{needs}
+use Rattle.lists.proofs.Kit.{refl, sym, ap, _∙_, arith, needs}
 use Rattle.area.proofs.Laws.Parts.{part-whole}
 use Rattle.area.proofs.Laws.Puts.{put-part}
 use Rattle.machine_rules.specs.Roots.{keptRoot}

@@ -1,8 +1,5 @@
 -- `kept_roots` meets its contract. The loop's invariant: the roots kept beside the first i sectors stand in the array. Assumes nothing.
-use mathlib.Core.Path.{_≡_, refl, sym, ap, _∙_}
-use Prim.Native.Nat.{ℕ, _-_, _*_, _≤_}
-use native.Mathlib.Omega.{arith}
-use lib.ListN.{length, take}
+use Rattle.lists.proofs.Kit.{_≡_, refl, sym, ap, _∙_, ℕ, _-_, _*_, _≤_, arith, length, take}
 use Rattle.lists.specs.Tab.{tab}
 use Rattle.sia.specs.Encode.{joined}
 use Rattle.machine_rules.specs.View.{spotOf}

@@ -1,10 +1,6 @@
 -- `range_proof` meets its contract: hashes of the sector that the range is in, and kept roots of the others; of one sector its own proof.
 -- Assumes nothing.
-use mathlib.Core.Path.{_≡_, sym, ap, _∙_}
-use Prim.Native.Nat.{_/_}
-use native.Mathlib.Omega.{arith}
-use lib.ListN.{length}
-use borrow.Author.Needs.{needs}
+use Rattle.lists.proofs.Kit.{_≡_, sym, ap, _∙_, _/_, arith, length, needs}
 use Rattle.area.specs.Area.{put}
 use Rattle.machine_rules.specs.View.{sector, spotOf}
 use Rattle.tree.proofs.Promise.{calls}

@@ -1,6 +1,5 @@
 -- `machine_sight::lookup::find_for` meets its contract: by the mode of the program. Assumes nothing.
-use mathlib.Core.Path.{sym, ap, _∙_}
-use borrow.Author.Needs.{needs}
+use Rattle.lists.proofs.Kit.{sym, ap, _∙_, needs}
 use Rattle.lists.proofs.Laws.Pick.{picks, skips}
 use Rattle.machine_rules.specs.Seats.{firstSeat}
 use Rattle.machine_sight.proofs.lookup.find_for.Statement.{statement}

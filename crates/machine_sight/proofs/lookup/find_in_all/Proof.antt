@@ -1,5 +1,5 @@
 -- `machine_sight::lookup::find_in_all` meets its contract: no contract is the parent, so that none is left out. Assumes nothing.
-use mathlib.Core.Path.{ap, _∙_}
+use Rattle.lists.proofs.Kit.{ap, _∙_}
 use Rattle.machine_rules.specs.Roots.{keptRoot}
 use Rattle.machine_rules.specs.Seats.{firstSeat}
 use Rattle.machine_sight.proofs.Laws.Lookup.{seeks-none, seats-none}

@@ -1,9 +1,5 @@
 -- `machine_sight::lookup::find_root` meets its contract: a sector of the contract of that id, or else one of the others. Assumes nothing.
-use mathlib.Core.Path.{_≡_, sym, ap, ap₂, _∙_}
-use mathlib.Core.List.{List}
-use Prim.Native.Nat.{ℕ, _/_}
-use native.Mathlib.Omega.{arith}
-use borrow.Author.Needs.{needs}
+use Rattle.lists.proofs.Kit.{_≡_, sym, ap, ap₂, _∙_, List, ℕ, _/_, arith, needs}
 use Rattle.lists.specs.Tests.{every, firstOf}
 use Rattle.lists.specs.Tab.{tab}
 use Rattle.host.specs.Places.{hasId}

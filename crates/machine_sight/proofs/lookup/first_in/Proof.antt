@@ -1,8 +1,6 @@
 -- `machine_sight::lookup::first_in` meets its contract. The loop's invariant: the answer is that of the positions that are left to look at. Assumes
 -- nothing.
-use mathlib.Core.Path.{_≡_, sym, ap, _∙_}
-use Prim.Native.Nat.{_-_}
-use native.Mathlib.Omega.{arith}
+use Rattle.lists.proofs.Kit.{_≡_, sym, ap, _∙_, _-_, arith}
 use Rattle.lists.specs.Tab.{tab}
 use Rattle.area.specs.Area.{same}
 use Rattle.machine_rules.specs.View.{spotOf}

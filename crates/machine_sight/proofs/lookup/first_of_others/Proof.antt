@@ -1,11 +1,6 @@
 -- `machine_sight::lookup::first_of_others` meets its contract. The loop's invariant: the answer is that of the places that are left to look at. Assumes
 -- nothing.
-use mathlib.Core.Path.{_≡_, sym, ap, _∙_}
-use Prim.Native.Nat.{_-_}
-use native.Mathlib.Omega.{arith}
-use lib.ListN.{length}
-use lib.Seq.{slice}
-use borrow.Author.Needs.{needs}
+use Rattle.lists.proofs.Kit.{_≡_, sym, ap, _∙_, _-_, arith, length, slice, needs}
 use Rattle.lists.proofs.Laws.Slices.{slice-all}
 use Rattle.host.specs.Places.{hasId}
 use Rattle.host.proofs.Laws.Places.{blank}

@@ -1,7 +1,5 @@
 -- `machine_sight::lookup::first_unless` meets its contract: the place is left out, or its committed sectors are looked at. Assumes nothing.
-use mathlib.Core.Path.{sym, ap, _∙_}
-use mathlib.Core.List.{List}
-use borrow.Author.Needs.{needs}
+use Rattle.lists.proofs.Kit.{sym, ap, _∙_, List, needs}
 use Rattle.lists.proofs.Laws.Pick.{picks, skips}
 use Rattle.machine_rules.specs.Roots.{keptRoot}
 use Rattle.machine_rules.specs.Seats.{seated, firstSeat}

@@ -1,8 +1,5 @@
 -- `machine_sight::lookup::has_root` meets its contract. Assumes nothing.
-use mathlib.Core.Path.{ap, _∙_}
-use mathlib.Core.List.{List}
-use Prim.Native.Nat.{ℕ}
-use borrow.Author.Needs.{needs}
+use Rattle.lists.proofs.Kit.{ap, _∙_, List, ℕ, needs}
 use Rattle.area.specs.Area.{same}
 use Rattle.machine_sight.proofs.lookup.has_root.Statement.{statement}
 use Rattle.machine_sight.proofs.lookup.has_root.Tie as tie

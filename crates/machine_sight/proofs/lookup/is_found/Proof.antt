@@ -1,5 +1,5 @@
 -- `machine_sight::lookup::is_found` meets its contract. Assumes nothing.
-use borrow.Author.Needs.{needs}
+use Rattle.lists.proofs.Kit.{needs}
 use Rattle.machine_sight.specs.Lookup.{isFound}
 use Rattle.machine_sight.proofs.lookup.is_found.Statement.{statement}
 use Rattle.machine_sight.proofs.lookup.is_found.Tie as tie

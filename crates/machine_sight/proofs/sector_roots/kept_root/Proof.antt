@@ -1,5 +1,5 @@
 -- `kept_root` meets its contract: kept roots are an area with slots of 32 bytes. Assumes nothing.
-use borrow.Author.Needs.{needs}
+use Rattle.lists.proofs.Kit.{needs}
 use Rattle.machine_rules.specs.Roots.{keptRoot}
 use Rattle.machine_sight.proofs.sector_roots.kept_root.Statement.{statement}
 use Rattle.machine_sight.proofs.sector_roots.kept_root.Tie as tie

@@ -1,7 +1,5 @@
 -- `range_count` meets its contract: the range lies within the segments. Assumes nothing.
-use native.Mathlib.Omega.{arith}
-use Prim.Native.Nat.{_+_, _/_, _≤_, _<_}
-use borrow.Author.Needs.{needs}
+use Rattle.lists.proofs.Kit.{arith, _+_, _/_, _≤_, _<_, needs}
 use Rattle.area.proofs.Laws.Slots.{span-ends, segments-all, segments-few}
 use Rattle.tree.proofs.Promise.{calls}
 use Rattle.machine_rules.specs.Roots.{segments}

@@ -1,6 +1,5 @@
 -- `sector_root` meets its contract: a sector is whole segments. Assumes nothing.
-use native.Mathlib.Omega.{arith}
-use borrow.Author.Needs.{needs}
+use Rattle.lists.proofs.Kit.{arith, needs}
 use Rattle.tree.proofs.Promise.{calls}
 use Rattle.machine_sight.proofs.Laws.Roots.{root-is}
 use Rattle.machine_sight.proofs.sector_roots.sector_root.Statement.{statement}

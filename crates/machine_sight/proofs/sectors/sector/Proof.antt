@@ -1,8 +1,5 @@
 -- `sector` meets its contract: the part of the area that holds it. Assumes nothing.
-use Prim.Native.Nat.{_+_, _*_, _≤_}
-use native.Mathlib.Omega.{arith}
-use lib.ListN.{length}
-use borrow.Author.Needs.{needs}
+use Rattle.lists.proofs.Kit.{_+_, _*_, _≤_, arith, length, needs}
 use Rattle.machine_sight.proofs.Laws.Sectors.{on-disk, in-stage, disk-sector, stage-sector}
 use Rattle.machine_sight.proofs.sectors.sector.Statement.{statement}
 use Rattle.machine_sight.proofs.sectors.sector.Tie as tie

@@ -1,8 +1,5 @@
 -- `span` meets its contract: a part of the sector that holds it. Assumes nothing.
-use mathlib.Core.Path.{ap, _∙_}
-use Prim.Native.Nat.{_%_}
-use native.Mathlib.Omega.{arith}
-use borrow.Author.Needs.{needs}
+use Rattle.lists.proofs.Kit.{ap, _∙_, _%_, arith, needs}
 use Rattle.machine_rules.specs.View.{sector}
 use Rattle.machine_sight.proofs.Laws.Sectors.{seen-lies, sector-span}
 use Rattle.machine_sight.proofs.sectors.span.Statement.{statement}

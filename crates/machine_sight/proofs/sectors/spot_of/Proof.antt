@@ -1,5 +1,5 @@
 -- `spot_of` meets its contract: the stage where it has a copy, else the disk. Assumes nothing.
-use borrow.Author.Needs.{needs}
+use Rattle.lists.proofs.Kit.{needs}
 use Rattle.machine_sight.proofs.Laws.Sectors.{spot-disk, spot-stage}
 use Rattle.machine_sight.proofs.sectors.spot_of.Statement.{statement}
 use Rattle.machine_sight.proofs.sectors.spot_of.Tie as tie

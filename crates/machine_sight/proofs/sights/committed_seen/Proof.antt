@@ -1,9 +1,5 @@
 -- `committed_seen` meets its contract: of a contract in order, its slots; else none. Assumes nothing.
-use mathlib.Core.Path.{_∙_, refl}
-use native.Mathlib.Omega.{arith}
-use lib.ListN.{replicate}
-use borrow.Author.Needs.{needs}
-use borrow.Author.Tests.{not-true, not-false}
+use Rattle.lists.proofs.Kit.{_∙_, refl, arith, replicate, needs, not-true, not-false}
 use Rattle.host.specs.Empty.{none}
 use Rattle.host.proofs.Laws.Lengths.{placed}
 use Rattle.machine_rules.proofs.Laws.Sizes.{place-size}

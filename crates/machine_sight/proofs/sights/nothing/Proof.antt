@@ -1,6 +1,5 @@
 -- `nothing` meets its contract. Assumes nothing.
-use mathlib.Core.Path.{refl}
-use native.Mathlib.Omega.{arith}
+use Rattle.lists.proofs.Kit.{refl, arith}
 use Rattle.lists.specs.Tab.{tab}
 use Rattle.machine_sight.specs.Seen.{spotsOf}
 use Rattle.machine_sight.proofs.sights.nothing.Statement.{statement}

@@ -1,8 +1,5 @@
 -- `machine_sight::seen::one` meets its contract: the first entry is the sector's, by where it is. Assumes nothing.
-use mathlib.Core.Path.{sym, ap, subst, _∙_}
-use mathlib.Core.List.{[], _∷_}
-use native.Mathlib.Omega.{arith}
-use borrow.Author.Needs.{needs}
+use Rattle.lists.proofs.Kit.{sym, ap, subst, _∙_, [], _∷_, arith, needs}
 use Rattle.lists.specs.Tab.{tab}
 use Rattle.machine_sight.specs.Seen.{spotsOf}
 use Rattle.machine_rules.specs.declared.Spot.{Spot}

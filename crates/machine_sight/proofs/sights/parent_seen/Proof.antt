@@ -1,6 +1,5 @@
 -- `parent_seen` meets its contract. Assumes nothing.
-use mathlib.Core.Path.{refl}
-use borrow.Author.Needs.{needs}
+use Rattle.lists.proofs.Kit.{refl, needs}
 use Rattle.machine_sight.specs.Seen.{spotsOf}
 use Rattle.machine_sight.proofs.sights.parent_seen.Statement.{statement}
 use Rattle.machine_sight.proofs.sights.parent_seen.Tie as tie

@@ -1,12 +1,10 @@
 -- `machine_step::pairs::starting_pair` meets its contract: the parent's size, and the root of its committed sectors. Assumes nothing.
-use mathlib.Core.Path.{ap, _∙_}
-use mathlib.Core.List.{[]}
+use Rattle.lists.proofs.Kit.{ap, _∙_, [], needs}
 use Rattle.host.proofs.Laws.Lengths.{disk-rooted}
 use Rattle.machine_rules.specs.View.{settingBy, parent}
 use Rattle.machine_rules.specs.Roots.{keptRoot, rootBy, rootOf}
 use Rattle.machine_rules.specs.Record.{pairing, pairOf, startingPair}
 use Rattle.machine_step.proofs.Laws.Hosts.{stands}
-use borrow.Author.Needs.{needs}
 use Rattle.machine_step.proofs.pairs.starting_pair.Statement.{statement}
 use Rattle.machine_step.proofs.pairs.starting_pair.Tie as tie
 

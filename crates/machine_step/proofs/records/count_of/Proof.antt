@@ -1,5 +1,5 @@
 -- `machine_step::records::count_of` meets its contract. Assumes nothing.
-use mathlib.Core.Path.{refl}
+use Rattle.lists.proofs.Kit.{refl}
 use Rattle.lists.proofs.Laws.Pick.{yes, no}
 use Rattle.machine_step.proofs.records.count_of.Statement.{statement}
 use Rattle.machine_step.proofs.records.count_of.Tie as tie

@@ -1,16 +1,11 @@
 -- `machine_step::records::put_bytes` meets its contract: nothing is laid where nothing is read. Assumes nothing.
-use mathlib.Core.Path.{sym, ap, subst, _∙_}
-use mathlib.Core.List.{[]}
-use Prim.Native.Nat.{ℕ, _≤_}
-use native.Mathlib.Omega.{arith}
-use lib.ListN.{length}
+use Rattle.lists.proofs.Kit.{sym, ap, subst, _∙_, [], ℕ, _≤_, arith, length, needs}
 use Rattle.lists.proofs.Laws.Pick.{picks, skips}
 use Rattle.area.specs.Area.{put}
 use Rattle.area.proofs.Laws.Parts.{part-whole}
 use Rattle.area.proofs.Laws.Puts.{put-nil}
 use Rattle.sia.proofs.Laws.Joined.{lay-same}
 use Rattle.machine_step.specs.Shown.{shownBytes}
-use borrow.Author.Needs.{needs}
 use Rattle.machine_step.proofs.records.put_bytes.Statement.{statement}
 use Rattle.machine_step.proofs.records.put_bytes.Tie as tie
 

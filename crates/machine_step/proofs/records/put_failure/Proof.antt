@@ -1,13 +1,10 @@
 -- `machine_step::records::put_failure` meets its contract: the front, then a count of 0. Assumes nothing.
-use mathlib.Core.Path.{refl, sym, ap, _∙_}
-use mathlib.Core.List.{List, [], _++_, append-nil}
-use Prim.Native.Nat.{ℕ}
+use Rattle.lists.proofs.Kit.{refl, sym, ap, _∙_, List, [], _++_, append-nil, ℕ, needs}
 use Rattle.area.specs.Little.{le8}
 use Rattle.sia.proofs.Laws.Joined.{lay-same, lay-two}
 use Rattle.machine_rules.specs.Record.{pairing, recordBytes}
 use Rattle.machine_step.specs.Front.{front}
 use Rattle.machine_step.proofs.Laws.Parts.{record-front, length-front}
-use borrow.Author.Needs.{needs}
 use Rattle.machine_step.proofs.records.put_failure.Statement.{statement}
 use Rattle.machine_step.proofs.records.put_failure.Tie as tie
 

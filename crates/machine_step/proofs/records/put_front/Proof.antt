@@ -1,11 +1,9 @@
 -- `machine_step::records::put_front` meets its contract: five parts, one behind the other. Assumes nothing.
-use mathlib.Core.Path.{_≡_, refl, sym}
-use lib.ListN.{length}
+use Rattle.lists.proofs.Kit.{_≡_, refl, sym, length, needs}
 use Rattle.area.proofs.Laws.Parts.{part-whole}
 use Rattle.area.proofs.Laws.Little.{length-bytes}
 use Rattle.sia.proofs.Laws.Joined.{lay-same, lay-two}
 use Rattle.machine_step.specs.Front.{front}
-use borrow.Author.Needs.{needs}
 use Rattle.machine_step.proofs.records.put_front.Statement.{statement}
 use Rattle.machine_step.proofs.records.put_front.Tie as tie
 

@@ -1,14 +1,10 @@
 -- `machine_step::records::put_proof` meets its contract: nothing is laid where no proof is asked. Assumes nothing.
-use mathlib.Core.Path.{sym, ap, subst, _∙_}
-use mathlib.Core.List.{List, []}
-use Prim.Native.Nat.{ℕ, _≤_}
-use lib.ListN.{length}
+use Rattle.lists.proofs.Kit.{sym, ap, subst, _∙_, List, [], ℕ, _≤_, length, needs}
 use Rattle.lists.proofs.Laws.Pick.{picks, skips}
 use Rattle.area.specs.Area.{put}
 use Rattle.area.proofs.Laws.Puts.{put-nil}
 use Rattle.sia.proofs.Laws.Joined.{lay-same}
 use Rattle.machine_step.specs.Shown.{shownProof}
-use borrow.Author.Needs.{needs}
 use Rattle.machine_step.proofs.records.put_proof.Statement.{statement}
 use Rattle.machine_step.proofs.records.put_proof.Tie as tie
 

@@ -1,12 +1,8 @@
 -- `machine_step::records::put_success` meets its contract: the front, the proof, the count and the bytes, one behind the other. Assumes nothing.
-use mathlib.Core.Path.{_≡_}
-use Prim.Native.Nat.{_+_, _*_}
-use native.Mathlib.Omega.{arith}
-use lib.ListN.{length}
+use Rattle.lists.proofs.Kit.{_≡_, _+_, _*_, arith, length, needs}
 use Rattle.sia.proofs.Laws.Joined.{lay-same}
 use Rattle.machine_rules.specs.Record.{pairing}
 use Rattle.machine_step.proofs.Laws.Parts.{length-front, rest-long, record-parts, length-two, length-three, behind, lay-behind}
-use borrow.Author.Needs.{needs}
 use Rattle.machine_step.proofs.records.put_success.Statement.{statement}
 use Rattle.machine_step.proofs.records.put_success.Tie as tie
 

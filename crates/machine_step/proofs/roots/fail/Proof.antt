@@ -1,12 +1,9 @@
 -- `machine_step::pairs::fail` meets its contract: the record stands behind those written. Assumes nothing.
-use mathlib.Core.Path.{refl, ap, _∙_}
-use mathlib.Core.List.{List, []}
-use Prim.Native.Nat.{ℕ}
+use Rattle.lists.proofs.Kit.{refl, ap, _∙_, List, [], ℕ, needs}
 use Rattle.area.specs.Area.{put}
 use Rattle.area.proofs.Laws.Lent.{lent}
 use Rattle.machine_rules.specs.Record.{pairing, pairOf, recordBytes}
 use Rattle.machine_rules.specs.Run.{failedProgress}
-use borrow.Author.Needs.{needs}
 use Rattle.machine_step.proofs.roots.fail.Statement.{statement}
 use Rattle.machine_step.proofs.roots.fail.Tie as tie
 

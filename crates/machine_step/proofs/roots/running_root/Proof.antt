@@ -1,8 +1,7 @@
 -- `machine_step::pairs::running_root` meets its contract. Assumes nothing.
-use mathlib.Core.Path.{ap, _∙_}
+use Rattle.lists.proofs.Kit.{ap, _∙_, needs}
 use Rattle.machine_rules.specs.Roots.{contractRoot}
 use Rattle.machine_step.proofs.Laws.Sights.{running-known}
-use borrow.Author.Needs.{needs}
 use Rattle.machine_step.proofs.roots.running_root.Statement.{statement}
 use Rattle.machine_step.proofs.roots.running_root.Tie as tie
 

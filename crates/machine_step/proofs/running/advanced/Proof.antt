@@ -1,7 +1,6 @@
 -- `machine_step::running::advanced` meets its contract. Assumes nothing.
-use mathlib.Core.Path.{refl}
+use Rattle.lists.proofs.Kit.{refl, needs}
 use Rattle.machine_rules.specs.Run.{ranProgress}
-use borrow.Author.Needs.{needs}
 use Rattle.machine_step.proofs.running.advanced.Statement.{statement}
 use Rattle.machine_step.proofs.running.advanced.Tie as tie
 

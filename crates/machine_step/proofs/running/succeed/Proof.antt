@@ -1,12 +1,8 @@
 -- `machine_step::running::succeed` meets its contract: the effect, the roots, the progress, the root, then the record behind those written. Assumes nothing.
-use mathlib.Core.Path.{refl}
-use Prim.Native.Nat.{_≤_}
-use native.Mathlib.Omega.{arith}
-use lib.ListN.{length}
+use Rattle.lists.proofs.Kit.{refl, _≤_, arith, length, needs}
 use Rattle.area.proofs.Laws.Lent.{lent}
 use Rattle.machine_step.specs.Ran.{stageAfter, rootsAfter}
 use Rattle.machine_step.proofs.Laws.Running.{run-rehashes, run-reads, run-shows, ran-is}
-use borrow.Author.Needs.{needs}
 use Rattle.machine_step.proofs.running.succeed.Statement.{statement}
 use Rattle.machine_step.proofs.running.succeed.Tie as tie
 
@@ -58,7 +54,8 @@ running-root-requires c κs =
     run-reads _ (s .args .copies) (s .args .parent) (s .args .diskroots .now) _ _ (s .args .task) (s .args .asked) _ _ (left .effect .ensures) _
     (rooted .rehash .ensures) (s .pre) (c .before .advanced .ensures)
 
-within : (c : tie.After-put-success-arg2) → let s = at-start (at-effect (at-rehash (at-advanced (c .before .before .before .before)))) in
+within : (c : tie.After-put-success-arg2) → let s =
+    at-start (at-effect (at-rehash (at-advanced ((let back-3 = c .before .before .before in back-3 .before))))) in
     s .args .progress .written ≤ length (s .args .output .now)
 within c =
     let at-reads = c .before .before .before in let at-running-root = at-reads .before in

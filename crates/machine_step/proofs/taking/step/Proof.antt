@@ -1,8 +1,5 @@
 -- `machine_step::taking::step` meets its contract: a failure by its number, or what the plan leaves. Assumes nothing.
-use mathlib.Core.Path.{_≡_, refl, sym, ap, _∙_}
-use mathlib.Core.List.{List}
-use Prim.Native.Nat.{ℕ}
-use lib.ListN.{length}
+use Rattle.lists.proofs.Kit.{_≡_, refl, sym, ap, _∙_, List, ℕ, length, needs}
 use Rattle.sia.proofs.Laws.Known.{known-instruction}
 use Rattle.machine_rules.specs.View.{Setting, setting, Turn, turn, parent}
 use Rattle.machine_rules.specs.Roots.{keptRoot, rootAt}
@@ -15,7 +12,6 @@ use Rattle.machine_step.proofs.Laws.Readers.{reads-kept}
 use Rattle.machine_step.proofs.Laws.Known.{known-terms}
 use Rattle.machine_step.proofs.Laws.Planned.{number-is, runs-right, ran-succeeds}
 use Rattle.machine_step.proofs.Laws.Taking.{plans, plans-good, parent-stands, failure-fits, step-fails, step-succeeds}
-use borrow.Author.Needs.{needs}
 use Rattle.machine_step.proofs.taking.step.Statement.{statement}
 use Rattle.machine_step.proofs.taking.step.Tie as tie
 

@@ -1,6 +1,5 @@
 -- `machine_step::running::goes_on` meets its contract: a failure first, then the count. Assumes nothing.
-use mathlib.Core.Path.{refl, ap}
-use mathlib.Core.Bool.{not}
+use Rattle.lists.proofs.Kit.{refl, ap, not}
 use Rattle.lists.proofs.Laws.Pick.{yes, no}
 use Rattle.machine_step.proofs.turns.goes_on.Statement.{statement}
 use Rattle.machine_step.proofs.turns.goes_on.Tie as tie

@@ -1,8 +1,5 @@
 -- `machine_step::running::ready` meets its contract: the need against what has come. Assumes nothing.
-use mathlib.Core.Path.{ap}
-use Prim.Native.Nat.{ℕ}
-use lib.Dec.{leb}
-use borrow.Author.Needs.{needs}
+use Rattle.lists.proofs.Kit.{ap, ℕ, leb, needs}
 use Rattle.machine_step.proofs.turns.ready.Statement.{statement}
 use Rattle.machine_step.proofs.turns.ready.Tie as tie
 

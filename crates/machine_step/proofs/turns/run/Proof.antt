@@ -1,16 +1,10 @@
 -- `machine_step::running::run` meets its contract: each turn is the run's next, and as many are left as there are instructions. Assumes nothing.
-use mathlib.Core.Path.{_≡_, refl, sym, _∙_}
-use mathlib.Core.Bool.{true}
-use Prim.Native.Nat.{_<_}
-use native.Mathlib.Omega.{arith}
-use lib.ListN.{getD}
-use borrow.Author.Tests.{not-true, not-false}
+use Rattle.lists.proofs.Kit.{_≡_, refl, sym, _∙_, true, _<_, arith, getD, not-true, not-false, needs}
 use Rattle.machine_rules.specs.View.{Setting, setting, Turn, turn}
 use Rattle.machine_rules.specs.Run.{current, going, ready}
 use Rattle.machine_rules.proofs.Laws.Steps.{left}
 use Rattle.machine_step.proofs.Laws.Known.{known-terms}
 use Rattle.machine_step.proofs.Laws.Turns.{turn-is, steps-turn, goes, waits, ends, few-ran, Reached, steps, further, fewer, ended}
-use borrow.Author.Needs.{needs}
 use Rattle.sia.specs.declared.Instruction.{Instruction}
 use Rattle.machine_step.proofs.turns.run.Statement.{statement}
 use Rattle.machine_step.proofs.turns.run.Tie as tie
@@ -27,7 +21,8 @@ abbrev μ-loop : tie.MeasureT-loop
 -- ---- where an instruction has its turn, and what is known there
 
 abbrev at-start : tie.Then1 Inv-loop μ-loop → tie.Start Inv-loop μ-loop
-at-start c = let head = c .before .before .before in head .before .before .before .before .before .before .before
+at-start c = let head = c .before .before .before in (let back-3 = head .before .before .before in let back-6 = back-3 .before .before .before in
+    back-6 .before)
 
 abbrev the-set : tie.Then1 Inv-loop μ-loop → Setting
 the-set c = let a = at-start c .args in setting (a .sectors) (a .copies) (a .places) (a .terms) (a .disk .now) (a .diskroots .now)
@@ -88,7 +83,9 @@ step-requires c κs =
 
 -- after the step
 abbrev at-test : tie.After-step Inv-loop μ-loop → tie.Else2 Inv-loop μ-loop
-at-test c = c .before .before .before .before
+at-test c =
+    let back-3 = c .before .before .before in let back-4 = back-3 .before in
+    back-4
 
 loop-less : tie.Need-loop-less Inv-loop μ-loop
 loop-less c =
@@ -107,7 +104,8 @@ loop-again c =
 
 -- at the end of the loop
 abbrev start-of : tie.Else1 Inv-loop μ-loop → tie.Start Inv-loop μ-loop
-start-of c = let head = c .before .before .before in head .before .before .before .before .before .before .before
+start-of c = let head = c .before .before .before in (let back-3 = head .before .before .before in let back-6 = back-3 .before .before .before in
+    back-6 .before)
 
 returns-2 : tie.Need-returns-2 Inv-loop μ-loop
 unfolding going

@@ -1,7 +1,5 @@
 -- `showing::lines::hash_lines` is safe and ends: a hash is read where 32 bytes are left. Assumes nothing.
-use Prim.Native.Nat.{_-_, _≤_}
-use borrow.Author.Needs.{needs}
-use lib.ListN.{length}
+use Rattle.lists.proofs.Kit.{_-_, _≤_, needs, length}
 use Rattle.showing.proofs.lines.hash_lines.Statement.{statement}
 use Rattle.showing.proofs.lines.hash_lines.Tie as tie
 

@@ -1,5 +1,5 @@
 -- `showing::parts::missing` meets its contract: it is the definition's own record. Assumes nothing.
-use mathlib.Core.Path.{refl}
+use Rattle.lists.proofs.Kit.{refl}
 use Rattle.showing.specs.Whole.{lacking}
 use Rattle.showing.proofs.parts.missing.Statement.{statement}
 use Rattle.showing.proofs.parts.missing.Tie as tie

@@ -1,12 +1,6 @@
 -- `showing::parts::parts_at` meets its contract: each test in turn finds what is missing, and past them all the parts stand where the two
 -- counts, as they were read, put them. Assumes nothing.
-use mathlib.Core.Path.{_≡_, refl, ap, _∙_}
-use mathlib.Core.List.{List}
-use Prim.Native.Nat.{ℕ, _+_, _-_, _*_, _/_, _≤_, _<_}
-use native.Mathlib.Omega.{arith}
-use lib.ListN.{length}
-use borrow.Author.Needs.{needs}
-use borrow.Author.Tests.{lt-ltb, le-ltb}
+use Rattle.lists.proofs.Kit.{_≡_, refl, ap, _∙_, List, ℕ, _+_, _-_, _*_, _/_, _≤_, _<_, arith, length, needs, lt-ltb, le-ltb}
 use Rattle.lists.proofs.Laws.Pick.{yes, no}
 use Rattle.showing.specs.Whole.{numberAt, lacking, standing, outputAt, partsAt}
 use Rattle.showing.specs.declared.parts.Parts.{Parts}

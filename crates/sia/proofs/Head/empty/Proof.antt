@@ -1,7 +1,5 @@
 -- `sia::Head::empty` meets its contract: 32 times the empty instruction. Assumes nothing.
-use mathlib.Core.Path.{ap}
-use lib.ListN.{replicate}
-use borrow.Author.Needs.{needs}
+use Rattle.lists.proofs.Kit.{ap, replicate, needs}
 use Rattle.area.specs.Area.{zeros}
 use Rattle.sia.specs.declared.Instruction.{Instruction}
 use Rattle.sia.proofs.Head.empty.Statement.{statement}

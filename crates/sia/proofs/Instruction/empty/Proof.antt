@@ -1,8 +1,5 @@
 -- `sia::Instruction::empty` meets its contract: four times the empty operand. Assumes nothing.
-use mathlib.Core.Path.{ap}
-use mathlib.Core.Bool.{false}
-use lib.ListN.{replicate}
-use borrow.Author.Needs.{needs}
+use Rattle.lists.proofs.Kit.{ap, false, replicate, needs}
 use Rattle.area.specs.Area.{zeros}
 use Rattle.sia.specs.declared.Operand.{Operand}
 use Rattle.sia.proofs.Instruction.empty.Statement.{statement}

@@ -1,6 +1,5 @@
 -- `sia::Op::name` meets its contract: each arm gives the name of its case. Assumes nothing.
-use mathlib.Core.Path.{sym, ap}
-use borrow.Author.Needs.{needs}
+use Rattle.lists.proofs.Kit.{sym, ap, needs}
 use Rattle.sia.specs.Names.{nameOf}
 use Rattle.sia.proofs.Op.name.Statement.{statement}
 use Rattle.sia.proofs.Op.name.Tie as tie

@@ -1,15 +1,10 @@
 -- `sia::limits::few` meets its contract. The loop's invariant: the answer is that of the instructions that are left to look at.
 -- Assumes nothing.
-use mathlib.Core.Path.{_≡_, refl, sym, _∙_}
-use Prim.Native.Nat.{_-_, _≤_}
-use native.Mathlib.Omega.{arith}
-use lib.ListN.{take, drop}
-use borrow.Author.Tests.{le-leb, lt-leb}
+use Rattle.lists.proofs.Kit.{_≡_, refl, sym, _∙_, _-_, _≤_, arith, take, drop, le-leb, lt-leb, needs}
 use Rattle.lists.specs.Tests.{every}
 use Rattle.lists.proofs.Laws.Every.{every-not, every-next, every-end}
 use Rattle.sia.specs.Empty.{noInstruction}
 use Rattle.sia.specs.Encode.{fewOperands}
-use borrow.Author.Needs.{needs}
 use Rattle.sia.proofs.limits.few.Statement.{statement}
 use Rattle.sia.proofs.limits.few.Tie as tie
 
@@ -21,16 +16,16 @@ abbrev μ-loop : tie.MeasureT-loop
 
 returns : tie.Need-returns Inv-loop μ-loop
 returns c =
-    let l = c .before .before .before .before .loop in
-    let s = c .before .before .before .before .before in
-    sym (l .inv .1 ∙ every-not fewOperands _ _ (l .i) _ (c .before .before .before .loop-test .taken) (omega (arith, s .good .0 .1 .0 .1))
+    let in-loop = c .before .before .before in let at-loop = in-loop .before in let s = at-loop .before in
+    let l = at-loop .loop in
+    sym (l .inv .1 ∙ every-not fewOperands _ _ (l .i) _ (in-loop .loop-test .taken) (omega (arith, s .good .0 .1 .0 .1))
         (lt-leb _ _ (c .if1 .taken)))
 
 loop-again : tie.Need-loop-again Inv-loop μ-loop
 loop-again c =
-    let l = c .before .before .before .before .loop in
-    let s = c .before .before .before .before .before in
-    (omega arith, l .inv .1 ∙ every-next fewOperands _ _ (l .i) _ (c .before .before .before .loop-test .taken)
+    let in-loop = c .before .before .before in let at-loop = in-loop .before in let s = at-loop .before in
+    let l = at-loop .loop in
+    (omega arith, l .inv .1 ∙ every-next fewOperands _ _ (l .i) _ (in-loop .loop-test .taken)
         (omega (arith, s .good .0 .1 .0 .1)) (le-leb _ _ (c .if1 .left)))
 
 pub few-spec : {M : Type 1} → statement M

@@ -1,8 +1,6 @@
 -- `asked::is_power` meets its contract. The loop's invariant: n is a power of two below 2 ^ 64 exactly if it is one below 2 ^ d. The measure
 -- is d. Assumes nothing.
-use mathlib.Core.Path.{_≡_, refl, sym, _∙_}
-use Prim.Native.Nat.{_≤_}
-use native.Mathlib.Omega.{arith}
+use Rattle.lists.proofs.Kit.{_≡_, refl, sym, _∙_, _≤_, arith}
 use Rattle.tree.specs.Answers.{isPower}
 use Rattle.tree.proofs.Laws.Powers.{power-here, power-further, power-none}
 use Rattle.tree.proofs.asked.is_power.Statement.{statement}

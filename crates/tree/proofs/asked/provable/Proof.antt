@@ -1,9 +1,7 @@
 -- `asked::provable` meets its contract, test by test. Assumes nothing.
-use mathlib.Core.Path.{refl}
-use borrow.Author.Tests.{eq-eqb, ne-eqb}
+use Rattle.lists.proofs.Kit.{refl, eq-eqb, ne-eqb, needs}
 use Rattle.lists.proofs.Laws.Pick.{yes, no}
 use Rattle.tree.specs.Answers.{provable, wholes}
-use borrow.Author.Needs.{needs}
 use Rattle.tree.proofs.asked.provable.Statement.{statement}
 use Rattle.tree.proofs.asked.provable.Tie as tie
 

@@ -1,9 +1,6 @@
 -- `hashes::walk` meets its contract, by the depth, which is the measure: outside the part's root is laid, wholly inside nothing, else
 -- the calls one level down lay the left and then the right. Assumes nothing.
-use mathlib.Core.Path.{sym, _∙_}
-use Prim.Native.Nat.{_+_, _-_, ℕ, _<_}
-use native.Mathlib.Omega.{arith}
-use borrow.Author.Needs.{needs}
+use Rattle.lists.proofs.Kit.{sym, _∙_, _+_, _-_, ℕ, _<_, arith, needs}
 use Rattle.tree.proofs.Laws.Levels.{Level, level, told-in, room-out, half-deep}
 use Rattle.tree.proofs.Laws.Laid.{root-long, laid-out, laid-in, laid-less, laid-more, written-less, written-left, written-right}
 use borrow.Fn.Kinds.{In}
@@ -34,7 +31,7 @@ abbrev Past : ℕ → Type 0
 Past t = lts.Else2 (calls t) (here t) walk.Post
 
 abbrev start : (t : ℕ) → Past t → lts.Start (calls t) (here t) walk.Post
-start t c = let out = c .before .before in out .before .before .before .before
+start t c = let out = c .before .before in let back-3 = out .before .before .before in back-3 .before
 
 past : (t : ℕ) (c : Past t) → let a = start t c .args in Level (a .at) (a .n) (a .depth) (a .first) (a .end)
 past t c =
@@ -79,10 +76,11 @@ pub +walk-spec : {M : Type 1} → statement M
     (λ c. past t (c .before .before) .deep)
     (λ c κs. let half = c .before .before in let l = past t (half .before) in
         (omega (arith, l .deep), written-left _ l (half .power .ensures) (c .before .if3 .left) (start t (half .before) .pre .1)))
-    (λ c. let test = c .before .before .before .before in past t (test .before .before) .deep)
+    (λ c. let back-3 = c .before .before .before in let back-4 = back-3 .before in let test = back-4 in past t (test .before .before) .deep)
     (λ c κs. let one = c .before .before .before in let test = one .before .before in let half = test .before in let l = past t (half .before) in
         (omega (arith, l .deep), written-right _ l (half .power .ensures) (test .if3 .left) (start t (half .before) .pre .1) (one .walk2 .ensures)))
     (λ c. search needs)
-    (λ c. let two = c .before .before in let one = two .before .before .before .before in let test = one .before .before in let half = test .before in
+    (λ c. let two = c .before .before in let one-3 = two .before .before .before in let one = one-3 .before in let test = one .before .before in
+        let half = test .before in
         laid-more _ _ _ _ _ (past t (half .before)) (half .power .ensures) (start t (half .before) .pre .1 .all) (test .if3 .left)
             (one .walk2 .ensures) (two .walk3 .ensures))

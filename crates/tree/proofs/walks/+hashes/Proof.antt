@@ -1,8 +1,6 @@
 -- `walks::hashes` meets its contract, by the depth, which is the measure: outside 1, wholly inside 0, else the sum of what the calls one
 -- level down give. Assumes nothing.
-use mathlib.Core.Path.{sym, _∙_}
-use Prim.Native.Nat.{_+_, _-_, ℕ, _<_}
-use native.Mathlib.Omega.{arith}
+use Rattle.lists.proofs.Kit.{sym, _∙_, _+_, _-_, ℕ, _<_, arith}
 use Rattle.tree.proofs.Laws.Counts.{hashes-out, hashes-in, hashes-less, hashes-more}
 use Rattle.tree.proofs.Laws.Levels.{Level, level, told-in, few, half-deep, walked-less, walked-left, walked-right}
 use borrow.Fn.Kinds.{In}
@@ -28,7 +26,7 @@ calls t = (outside-reads.Asked, outside-reads.Learnt, inside-reads.Asked, inside
 
 -- past both tests
 past : (t : ℕ) (c : lts.Else2 (calls t) (here t) hashes.Post)
-    → let a = c .before .before .before .before .args in Level (a .at) (a .n) (a .depth) (a .first) (a .end)
+    → let a-3 = c .before .before .before in let a = a-3 .before .args in Level (a .at) (a .n) (a .depth) (a .first) (a .end)
 past t c =
     let out = c .before .before in
     level _ _ _ _ _ (out .before .before .pre .1) (out .before .outside .ensures) (out .if1 .left) (c .before .inside .ensures) (c .if2 .left)

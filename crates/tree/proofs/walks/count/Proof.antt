@@ -1,6 +1,5 @@
 -- `walks::count` meets its contract: the hashes from the least depth that holds the leaves are those from depth 64. Assumes nothing.
-use native.Mathlib.Omega.{arith}
-use borrow.Author.Needs.{needs}
+use Rattle.lists.proofs.Kit.{arith, needs}
 use Rattle.tree.proofs.Laws.Counts.{count-deep}
 use Rattle.tree.proofs.Laws.Levels.{walked-deep}
 use Rattle.tree.proofs.Laws.Answered.{from-top}

@@ -1,7 +1,6 @@
 -- `walks::depth` meets its contract. The loop's invariant: d is at most 64, and no depth below it holds the n leaves. The measure is what
 -- is left to 64. Assumes nothing.
-use Prim.Native.Nat.{ℕ, _+_, _-_, _^_, _≤_, _<_}
-use native.Mathlib.Omega.{arith}
+use Rattle.lists.proofs.Kit.{ℕ, _+_, _-_, _^_, _≤_, _<_, arith}
 use lib.Pow.{pow-mono}
 use Rattle.tree.proofs.Laws.Sides.{split}
 use Rattle.tree.proofs.walks.depth.Statement.{statement}
