@@ -1,5 +1,5 @@
 // Lent bytes. Each function lays bytes over an area that its caller lends, or reads one, and its contract is one equation on
-// lists. These functions serve the layers above, which have tested every length: what they require, their callers prove.
+// lists. Rests on `lists`. These functions serve the layers above, which have tested every length: what they require, their callers prove.
 ghost use mathlib.Core.Path.{_≡_};
 ghost use mathlib.Core.Logic.{_⊎_};
 ghost use Prim.Native.Nat.{_+_, _*_, _^_, _≤_, _<_};

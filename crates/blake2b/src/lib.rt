@@ -1,4 +1,4 @@
-// RFC 7693 BLAKE2b: a digest of 1 to 64 bytes, keyed by 0 to 64 or unkeyed, of any message.
+// RFC 7693 BLAKE2b, whole: a digest of 1 to 64 bytes, keyed by 0 to 64 or unkeyed, of any message. Rests on `area` for bytes and numbers in them.
 ghost use mathlib.Core.Path.{_≡_};
 ghost use Rattle.blake2b.specs.Answers.{left, digested};
 

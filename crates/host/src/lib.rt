@@ -1,6 +1,6 @@
 // The record of a host: plain data, so that a damaged record is a value like any other; where its contracts and slots are. What it means
-// that a host is in order, and what the calls answer that make a host, form a contract and drop one, stands here; crate order decides the
-// one, crate forming makes the others.
+// that a host is in order, and what the calls answer that make a host, form a contract and drop one, stands here; `host_order` decides the
+// one, `host_contracts` makes the others. Rests on `sia` for heads and on `area`.
 // These are inner functions: what they require, their callers prove.
 ghost use mathlib.Core.Path.{_≡_};
 ghost use Rattle.host.specs.Empty.{noPlace, noPrices, noTerms, noProgress, noProgram};

@@ -1,5 +1,5 @@
-// Making a host, forming a contract and dropping one: what each call answers and leaves is crate host's definition of it. A refusal of
-// forming or dropping leaves the host as it was.
+// Making a host, forming a contract and dropping one: what each call answers and leaves is `host`'s definition of it. A refusal of
+// forming or dropping leaves the host as it was. Rests on `host_order` (whether a host is in order) and `host`.
 ghost use mathlib.Core.Path.{_≡_};
 ghost use mathlib.Core.Bool.{not};
 ghost use Prim.Native.Nat.{_<_};

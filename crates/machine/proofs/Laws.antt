@@ -1,7 +1,4 @@
--- The laws, a file for each subject.
--- The laws, a file for each subject.
--- The laws, a file for each subject.
--- The laws, a file for each subject.
+-- The laws that the proofs of the calls share, a file for each subject.
 pub mod Marks
 pub mod Filled
 pub mod Turns

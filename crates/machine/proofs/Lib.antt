@@ -1,6 +1,3 @@
--- The laws that tie the code to the definitions, and those that callers use.
--- The laws that the proofs cite.
--- The laws that the proofs cite.
--- The laws that the proofs of the calls share.
+-- The laws that tie the calls to their definitions; what close asks of a commit.
 pub mod Laws
 pub mod Callers

@@ -1,7 +1,4 @@
--- What closing leaves. What it means is crate rules'.
--- What the code of a commit works with, and what it asks of its callers.
--- What the functions that look at kept roots ask of their callers.
--- What the code asks of its callers, and what the calls leave. What they mean is crate rules'.
+-- What inner functions ask of their callers, and what the calls leave beside their answers. What the calls mean stands in machine_rules.
 pub mod Closes
 pub mod Marks
 pub mod Back

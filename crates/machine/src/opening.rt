@@ -1,4 +1,4 @@
-// Opening a program. What it answers and leaves is crate rules' definition of it.
+// Opening a program. What it answers and leaves is the definition `opened` of `machine_rules`.
 ghost use mathlib.Core.Path.{_≡_};
 ghost use mathlib.Core.Bool.{not};
 ghost use Rattle.lists.specs.Pick.{both};

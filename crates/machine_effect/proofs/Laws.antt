@@ -1,7 +1,4 @@
 -- The laws, a file for each subject.
--- The laws, a file for each subject.
--- The laws, a file for each subject.
--- The laws, a file for each subject.
 pub mod Cases
 pub mod Passed
 pub mod KeptRoots

@@ -1,6 +1,3 @@
--- The laws that tie the code to the definitions.
--- The laws that tie the code to the definitions, and those that callers use.
--- The laws that tie the code to the definitions.
--- The laws that tie the code to the definitions.
+-- The laws that the proofs cite, and what callers use.
 pub mod Laws
 pub mod Callers

@@ -1,5 +1,4 @@
--- What the code asks of its callers.
--- What effects look at and change, as the code has it, and what the code asks of its callers.
+-- What effects and rehashing ask of their callers, and the parts that they are given.
 pub mod Rehashes
 pub mod Parts
 pub mod Asks

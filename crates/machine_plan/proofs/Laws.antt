@@ -1,6 +1,4 @@
 -- The laws, a file for each subject.
--- The laws, a file for each subject.
--- The laws, a file for each subject.
 pub mod Weighed
 pub mod Lookup
 pub mod Planned

@@ -1,5 +1,4 @@
--- What the code of plan means, where the machine's definitions have no name for it.
--- What the code that counts looks at.
+-- What planning asks of its callers, and what goes with a plan.
 pub mod Source
 pub mod Planned
 pub mod Numbers

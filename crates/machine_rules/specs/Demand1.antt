@@ -1,5 +1,5 @@
 -- Demand 1: "No input breaks it." The definitions of the calls are total and check in document 01's order, and each call's code is proved
--- equal to its definition for every host record and all areas (crates forming to machine). Here: what refusals and failures leave. Assumes
+-- equal to its definition for every host record and all areas (crates host_contracts to machine). Here: what refusals and failures leave. Assumes
 -- nothing.
 use mathlib.Core.Path.{_≡_}
 use mathlib.Core.Bool.{true, false}

@@ -1,5 +1,5 @@
 -- The three demands, and what document 02's requests promise besides, as one statement over the definitions; `demands` in
--- proofs/Demands.antt is its proof. Each call's code is proved equal to its definition (crates forming to machine), so what is said here
+-- proofs/Demands.antt is its proof. Each call's code is proved equal to its definition (crates host_contracts to machine), so what is said here
 -- holds of the calls. Assumes nothing.
 use Rattle.machine_rules.specs.Demand1.{Demand1}
 use Rattle.machine_rules.specs.Demand2.{Demand2}

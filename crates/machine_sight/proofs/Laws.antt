@@ -1,6 +1,4 @@
 -- The laws, a file for each subject.
--- The laws, a file for each subject.
--- The laws, a file for each subject.
 pub mod Gathered
 pub mod Sights
 pub mod Lookup

@@ -1,6 +1,4 @@
--- The laws that the proofs cite.
--- The laws that the proofs cite, and those that callers use.
--- The laws that the proofs cite, and what callers use.
+-- The laws that the proofs cite, and those that callers use: of what is seen, and of look-ups.
 pub mod Laws
 pub mod Looks
 pub mod Callers

@@ -1,6 +1,4 @@
 -- The laws, a file for each subject.
--- The laws, a file for each subject.
--- The laws, a file for each subject.
 pub mod Parts
 pub mod Known
 pub mod Sights

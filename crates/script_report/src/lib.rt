@@ -1,5 +1,5 @@
 // The bytes of a report on an item of a script: the answer, the host, and digests of the whole areas and of the kept roots. Each function
-// writes from `at` on, and answers where it ended. An inner crate: its caller proves what it requires.
+// writes from `at` on, and answers where it ended. Rests on `host` and `blake2b`. An inner crate: its caller proves what it requires.
 ghost use mathlib.Core.Path.{_≡_};
 ghost use Prim.Native.Nat.{_+_, _≤_};
 ghost use lib.ListN.{length};

@@ -1,5 +1,6 @@
 // Heads in Sia encoding: a contract's id, the instructions of a program with their operands, and the length of its data. Numbers
-// are 8 bytes, the lowest first. What a head's bytes are, and how they are read, stands here; crate reading reads them, crate writing writes them.
+// are 8 bytes, the lowest first. What a head's bytes are, and how they are read, stands here; `sia_read` reads them, `sia_write` writes them.
+// Rests on `area`.
 ghost use mathlib.Core.Path.{_≡_};
 ghost use lib.ListN.{length};
 ghost use Rattle.area.specs.Area.{same};

@@ -1,5 +1,5 @@
 // Reading a head, left to right, up to the first fault. Each section is read from a place of the bytes on: its reader answers document 01's
-// number (0: it read its section), the place behind the section, and the value; on a fault the other two say nothing.
+// number (0: it read its section), the place behind the section, and the value; on a fault the other two say nothing. Rests on `sia`'s definitions.
 ghost use mathlib.Core.Path.{_≡_};
 ghost use Prim.Native.Nat.{_≤_};
 ghost use lib.ListN.{length, drop, replicate};

@@ -1,4 +1,4 @@
-// Writing a head: the length of its bytes, and its bytes laid over an area that has room for them.
+// Writing a head: the length of its bytes, and its bytes laid over an area that has room for them. Rests on `sia`'s definitions.
 ghost use mathlib.Core.Path.{_≡_};
 ghost use mathlib.Core.Bool.{true};
 ghost use Prim.Native.Nat.{_+_, _*_, _≤_};

@@ -87,7 +87,7 @@ goes-4 c e =
     ∙ ap (after-3 (a .host) (a .budget) (a .prices) (a .room)) (c .before .before .read-head .ensures))
 
 goes-5 : (c : tie.Else5) {r : Answer} → let a = start-5 c .args in
-    r ≡ after-5 (a .host) (a .budget) (a .prices) (a .room) (told-4 ((let back-3 = c .before .before .before in back-3 .before .before)))
+    r ≡ after-5 (a .host) (a .budget) (a .prices) (a .room) (told-4 (let back-3 = c .before .before .before in back-3 .before .before))
     → r ≡ opened (a .host) (a .bytes .now) (a .budget) (a .prices) (a .room)
 goes-5 c e =
     let at-places = c .before .before .before in let else4 = at-places .before .before in

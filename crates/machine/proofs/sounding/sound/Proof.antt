@@ -10,7 +10,7 @@ use Rattle.machine.proofs.sounding.sound.Tie as tie
 
 -- ---- what the tests told
 
-in-order : (c : tie.Else1) → inOrder ((let back-3 = c .before .before .before in back-3 .before .args .host)) ≡ true
+in-order : (c : tie.Else1) → inOrder (let back-3 = c .before .before .before in back-3 .before .args .host) ≡ true
 in-order c = sym (c .before .in-order .ensures) ∙ not-false _ (c .if1 .left)
 
 abbrev at-start : tie.After-areas-right → tie.Start

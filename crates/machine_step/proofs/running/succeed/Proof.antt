@@ -55,7 +55,7 @@ running-root-requires c κs =
     (rooted .rehash .ensures) (s .pre) (c .before .advanced .ensures)
 
 within : (c : tie.After-put-success-arg2) → let s =
-    at-start (at-effect (at-rehash (at-advanced ((let back-3 = c .before .before .before in back-3 .before))))) in
+    at-start (at-effect (at-rehash (at-advanced (let back-3 = c .before .before .before in back-3 .before)))) in
     s .args .progress .written ≤ length (s .args .output .now)
 within c =
     let at-reads = c .before .before .before in let at-running-root = at-reads .before in
