@@ -19,6 +19,7 @@ use Rattle.machine_step.specs.Ran.{stageAfter, progressAfter, rootsAfter
 use Rattle.host.specs.declared.Place.{Place}
 use Rattle.sia.specs.declared.Op.the-variants.{Write}
 use Rattle.host.specs.declared.Progress.{Progress}
+use Rattle.lists.specs.Tests.{every}
 use Rattle.machine_plan.specs.declared.Task.{Task}
 
 -- the parent's sectors up to its running size, a root kept beside each

@@ -49,6 +49,7 @@ use Rattle.host.specs.declared.Progress.{Progress}
 use Rattle.machine_rules.specs.declared.Spot.{Spot}
 use Rattle.machine_plan.specs.declared.Task.{Task}
 use Rattle.machine_inputs.proofs.Laws.Given.{data-given, count-right}
+use Rattle.lists.specs.Tests.{every}
 use Rattle.machine_rules.specs.declared.Plan.{Plan}
 
 -- a root is kept beside each sector of the parent of a program in order
