@@ -46,7 +46,7 @@ module _ (all : List ℕ) (front : 80 ≤ length all) (whole : cutShort all ≡ 
       let given = data-kept all front whole in
       (λ j. run z (prices j) (budget j) (idsBytes (kept all)) (headBytes (kept all)) (given j) disk stage input output)
       ∙ run-alike z (pricesIn all) (budgetIn all) (idsBytes (kept all)) (idsBytes all) (headBytes (kept all)) (headBytes all)
-          (dataBytes all) disk stage input output
+      (dataBytes all) disk stage input output
       (same-ids z (length disk) (length stage)) same-head
 
   same-answer : (z : ℕ) (disk stage input output : List ℕ) → answered z (kept all) disk stage input output ≡ answered z all disk stage input output

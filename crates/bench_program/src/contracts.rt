@@ -4,8 +4,8 @@ ghost use Prim.Native.Nat.{_+_, _≤_};
 ghost use lib.ListN.{length};
 ghost use Rattle.area.specs.Area.{part};
 ghost use Rattle.bench_program.specs.Single.{idsIn, formedInTurn};
-use machine::Made;
 use machine::Host;
+use machine::Made;
 use machine::Place;
 
 // The id that stands at a place.

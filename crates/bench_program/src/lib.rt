@@ -45,7 +45,7 @@ pub fn run(
 ) -> Outcome
     ensures { λ r. ⌜ leaves r (now (disk .exit)) (now (stage .exit)) (now (input .exit)) (now (output .exit)) ≡
         Says.run sector prices budget (now (ids .entry)) (now (head .entry)) (now (bytes .entry)) (now (disk .entry)) (now (stage .entry))
-            (now (input .entry)) (now (output .entry)) ⌝ }
+        (now (input .entry)) (now (output .entry)) ⌝ }
 {
     let fresh = machine::fresh(sector, disk.len() as u64, stage.len() as u64);
     let empty = fresh.host;

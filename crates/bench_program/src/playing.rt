@@ -103,7 +103,7 @@ pub fn begin(
 ) -> Outcome
     ensures { λ r. ⌜ leaves r (now (disk .exit)) (now (stage .exit)) (now (input .exit)) (now (output .exit)) ≡
         begun host prices budget (now (head .entry)) (now (bytes .entry)) (now (disk .entry)) (now (stage .entry)) (now (input .entry))
-            (now (output .entry)) ⌝ }
+        (now (output .entry)) ⌝ }
 {
     let opened = machine::open(host, head, budget, prices, output.len() as u64);
     if opened.number != 0 {

@@ -1,8 +1,8 @@
 // An input of `depot`, which has 8 sectors of disk, 4 of stage, and an output of 16,384 bytes.
 ghost use Prim.Native.Nat.{_≤_};
 ghost use lib.ListN.{length};
-use host::Host;
 use bench_input::Reader;
+use host::Host;
 
 // Reads an input of so many bytes and plays it; answers how many bytes `depot` writes, which stand at the front of `shown`.
 pub fn play(many: u64, shown: &mut [u8]) -> usize

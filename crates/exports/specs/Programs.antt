@@ -30,8 +30,13 @@ told r = shown (r .number) (r .disk) (r .stage) (r .input) (r .output) (le8 (r .
 -- the prices, in the order of the bench line
 abbrev pub priced : ℕ → ℕ → ℕ → ℕ → ℕ → ℕ → ℕ → Prices
 priced init memory readbase readlength writebase writelength truncatebase = record {
-  init = init; memory = memory; readbase = readbase; readlength = readlength;
-  writebase = writebase; writelength = writelength; truncatebase = truncatebase;
+  init = init;
+  memory = memory;
+  readbase = readbase;
+  readlength = readlength;
+  writebase = writebase;
+  writelength = writelength;
+  truncatebase = truncatebase;
 }
 
 -- 2 for an area of another length than 8, and all is as it was

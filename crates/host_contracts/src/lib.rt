@@ -6,8 +6,8 @@ ghost use Prim.Native.Nat.{_<_};
 ghost use Rattle.lists.specs.Tests.{some};
 ghost use Rattle.host.specs.Empty.{newPlace, bare};
 ghost use Rattle.host.specs.Calls.{answered, lengthRight, freshed, padded, formedAt, formed, dropped};
-use host::Made;
 use host::Host;
+use host::Made;
 use host::Place;
 
 // Whether an area of n bytes can be lent: whole sectors, one at least.

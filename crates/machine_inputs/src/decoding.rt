@@ -1,8 +1,8 @@
 // What an instruction's inputs say, and check 23. An operand selects a part of the input area, which is passed on to the decoder of its kind.
 // These are inner functions: what they require, their callers prove.
-use machine_rules::Args;
 use crate::Given;
 use crate::Key;
+use machine_rules::Args;
 use sia::Instruction;
 use sia::Number;
 use sia::Op;

@@ -11,11 +11,11 @@ mod sums; // sums.rt: a sum against a limit
 pub use decoding::decoded;
 pub use kinds::kind;
 pub use kinds::reads;
+use machine_rules::Args;
 pub use operands::ill_formed;
 pub use operands::need;
 pub use operands::past_end;
 pub use sums::above;
-use machine_rules::Args;
 
 // No arguments.
 pub fn no_args() -> Args

@@ -1,19 +1,19 @@
 // Checks 21 to 42, in order, of one instruction, and its plan.
 use crate::Task;
+use crate::judge::refused;
+use crate::judge::weighed;
 use crate::lookup::no_sectors;
 use crate::lookup::source_of;
-use machine_inputs::decoded;
 use host::Place;
 use host::Progress;
 use host::Terms;
+use machine_inputs::decoded;
+use machine_inputs::ill_formed;
+use machine_inputs::kind;
 use machine_inputs::no_args;
+use machine_inputs::past_end;
 use machine_rules::Args;
 use machine_rules::Plan;
-use machine_inputs::ill_formed;
-use machine_inputs::past_end;
-use crate::judge::refused;
-use crate::judge::weighed;
-use machine_inputs::kind;
 use sia::Instruction;
 use sia::Op;
 ghost use mathlib.Core.Path.{_≡_};

@@ -1,18 +1,18 @@
 // Checks 26 to 42, in order, of an instruction whose inputs are told and whose sectors are found.
-use crate::spans::bad_proof;
-use crate::spans::bad_spans;
-use host::Place;
-use host::Progress;
-use host::Terms;
-use machine_rules::Args;
-use machine_rules::Plan;
-use machine_inputs::above;
 use crate::charge::cost;
 use crate::room::new_size;
 use crate::room::output_count;
 use crate::room::proof_count;
-use crate::sums::record_above;
 use crate::room::too_few;
+use crate::spans::bad_proof;
+use crate::spans::bad_spans;
+use crate::sums::record_above;
+use host::Place;
+use host::Progress;
+use host::Terms;
+use machine_inputs::above;
+use machine_rules::Args;
+use machine_rules::Plan;
 use sia::Op;
 ghost use mathlib.Core.Path.{_≡_};
 ghost use mathlib.Core.Bool.{true};

@@ -1,6 +1,6 @@
 // What checks 40, 41 and 42 count: stage slots, the new size, and the record's length.
-use machine_inputs::kind;
 use host::Progress;
+use machine_inputs::kind;
 use machine_rules::Args;
 use sia::Op;
 ghost use mathlib.Core.Path.{_≡_};

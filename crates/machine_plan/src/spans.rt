@@ -1,8 +1,8 @@
 // Checks 26 and 27: the spans that an instruction names. Offsets and lengths are any numbers.
-use machine_rules::Args;
-use machine_inputs::above;
 use crate::sums::far_above;
+use machine_inputs::above;
 use machine_inputs::kind;
+use machine_rules::Args;
 use sia::Op;
 ghost use mathlib.Core.Path.{_≡_};
 ghost use Prim.Native.Nat.{_≤_};

@@ -217,7 +217,7 @@ module _ (disk : List ℕ) (h : Host) (stage : List ℕ) (r : Ready h) (live : h
       let long = ap (λ (x : Place). length (finalSlots (h .sector) (h .disk) (h .places) x size)) (s .whose-is) ∙ ap length (f .is) ∙ f .long in
       let few : size / h .sector ≤ h .disk =
       le-of-mul-le-mul-right {m = size / h .sector} {n = h .disk} {k = (h .sector)}
-          (omega (arith, whole-sectors (h .sector) size (g .whole), g .within)) (order-some h (r .order)) in
+      (omega (arith, whole-sectors (h .sector) size (g .whole), g .within)) (order-some h (r .order)) in
       shaped-replaced id _ (h .places) (final-long _ size _ (omega (arith, long, few, q .1))) (d .places))
       (λ e. subst Shaped (sym (replaced-none id _ (h .places) (none-of id (h .places) e))) (d .places))
 

@@ -61,7 +61,7 @@ unfoldable open-host : ℕ
 unfolding HostSizes.doubled HostSizes.isSize HostEmpty.noPlace HostEmpty.noPrices HostEmpty.noTerms HostEmpty.noProgress HostEmpty.noProgram
     HostEmpty.bare HostEmpty.newPlace HostEmpty.started HostWith.withPlaces
     HostWith.withProgram HostWith.withStageRoots HostWith.withCame HostWith.withProgress HostWith.withRunning HostWith.withStaged HostPlaces.hasId
-        HostPlaces.whose
+    HostPlaces.whose
     HostPlaces.ownSize HostPlaces.others HostPlaces.committed HostPlaces.taken HostPlaces.freeCopy HostOrder.lent HostOrder.placeInOrder
     HostOrder.twins HostOrder.placesInOrder HostOrder.slotInOrder HostOrder.clash HostOrder.stagedInOrder HostOrder.parentInOrder
     HostOrder.termsInOrder HostOrder.progressInOrder HostOrder.programInOrder HostOrder.inOrder HostCalls.lengthRight HostCalls.freshed
@@ -80,7 +80,7 @@ unfolding RulesView.settingBy RulesView.turnOf RulesView.withRun RulesView.diskR
     RulesPlan.sectorSource RulesPlan.sourceOf RulesPlan.badSpan RulesPlan.badSize RulesPlan.badSpans RulesPlan.badProof
     RulesPlan.own RulesPlan.cost RulesPlan.touched RulesPlan.wanted RulesPlan.newSize RulesPlan.proofCount
     RulesPlan.outputCount RulesPlan.recordCount RulesPlan.refused RulesPlan.fitted RulesPlan.weighed RulesPlan.plannedInputs RulesPlan.plannedArgs
-        RulesPlan.planned RulesPlan.judged RulesEffect.newCopy
+    RulesPlan.planned RulesPlan.judged RulesEffect.newCopy
     RulesEffect.sectorAt RulesEffect.copied RulesEffect.spanRead RulesEffect.laid RulesEffect.spanWritten RulesEffect.resized
     RulesEffect.effect RulesRecord.pairOf RulesRecord.startingPair RulesRecord.runningPair RulesRecord.recordBytes RulesRecord.failureBytes
     RulesRecord.outputOf RulesRecord.successBytes RulesRun.failedProgress RulesRun.failing RulesRun.ranProgress RulesRun.succeeding

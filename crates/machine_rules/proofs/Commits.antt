@@ -91,7 +91,7 @@ module _ (disk : List ℕ) (h : Host) (stage : List ℕ) (sound : Declared h) (o
   few =
       let q : h .program .progress .size / z ≤ h .disk =
       le-of-mul-le-mul-right {m = h .program .progress .size / z} {n = h .disk} {k = z}
-          (omega (arith, whole-sectors z (h .program .progress .size) (good .orderly .whole), good .orderly .within)) (order-some h o) in
+      (omega (arith, whole-sectors z (h .program .progress .size) (good .orderly .whole), good .orderly .within)) (order-some h o) in
       omega (arith, order-places h o .1, sound .staged)
 
   module _ (s : Split id (h .places)) (f : Final z (h .disk) size id (h .places) s) where
@@ -115,8 +115,8 @@ module _ (disk : List ℕ) (h : Host) (stage : List ℕ) (sound : Declared h) (o
     own : apart eqb (f .slots) ≡ true
     own = let a = apart-out eqb [] (taken z (s .before)) (f .slots ++ taken z (s .behind)) (f .own) in
         subst (λ (l : List ℕ). apart eqb l ≡ true) (append-nil (f .slots))
-            (apart-out eqb (f .slots) (taken z (s .behind)) [] (subst (λ (l : List ℕ). apart eqb l ≡ true)
-            (ap (λ (l : List ℕ). f .slots ++ l) (sym (append-nil (taken z (s .behind))))) a))
+        (apart-out eqb (f .slots) (taken z (s .behind)) [] (subst (λ (l : List ℕ). apart eqb l ≡ true)
+        (ap (λ (l : List ℕ). f .slots ++ l) (sym (append-nil (taken z (s .behind))))) a))
 
     below : (j : ℕ) → j < size / z → getD (f .slots) j 0 < h .disk
     below j lt = ltb-true _ _ (every-get (λ n. ltb n (h .disk)) (f .slots) j 0 (omega (arith, f .long))
@@ -146,13 +146,13 @@ module _ (disk : List ℕ) (h : Host) (stage : List ℕ) (sound : Declared h) (o
     unfolding held sector spotOf
     position y area copies room full j lt =
         filling-inside y copies staged (f .slots) 0 (size / z) area (λ a b lo m hi. distinct (f .slots) own a b m (omega (arith, f .long))) j
-            (omega arith) (omega arith)
+        (omega arith) (omega arith)
         (room (getD (f .slots) j 0) (below j lt)) (λ e. length-part copies _ y (full (getD staged j none) (staged-below j e)))
         ∙ by (eqb (getD staged j none) none)
         (λ e. picks (eqb (getD staged j none) none) _ _ e ∙ ap (λ (n : ℕ). part area (n * y) y) (f .kept j lt (kept-below j lt e))
         ∙ sym (ap (sector y area copies) (picks (eqb (getD staged j none) none) (OnDisk (getD (s .it .slots) j 0)) (InStage (getD staged j none)) e)))
         (λ e. skips (eqb (getD staged j none) none) _ _ e
-            ∙ sym (ap (sector y area copies) (skips (eqb (getD staged j none) none) (OnDisk (getD (s .it .slots) j 0)) (InStage (getD staged j none)) e)))
+        ∙ sym (ap (sector y area copies) (skips (eqb (getD staged j none) none) (OnDisk (getD (s .it .slots) j 0)) (InStage (getD staged j none)) e)))
 
     sectors-back : (j : ℕ) → j < size / z → part after (getD (f .slots) j 0 * z) z ≡ sector z disk stage (spotOf (s .it .slots) staged j)
     unfolding after
@@ -195,9 +195,9 @@ module _ (disk : List ℕ) (h : Host) (stage : List ℕ) (sound : Declared h) (o
     own-root =
         ap (contractRoot (sector 32 afterRoots [])) own-spots
         ∙ roots-alike (sector 32 afterRoots []) (sector 32 (h .diskroots) (h .stageroots)) (each OnDisk (f .slots))
-            (tab 0 (size / z) (spotOf (s .it .slots) staged))
+        (tab 0 (size / z) (spotOf (s .it .slots) staged))
         (omega (arith, length-each OnDisk (f .slots), f .long, length-tab 0 (size / z) (spotOf (s .it .slots) staged)))
-            (alike-are 32 afterRoots (h .diskroots) (h .stageroots) roots-back)
+        (alike-are 32 afterRoots (h .diskroots) (h .stageroots) roots-back)
         ∙ ap (contractRoot (sector 32 (h .diskroots) (h .stageroots))) (sym spots-are)
 
     own-pair : pairOf z (sector 32 afterRoots []) x ≡ running h (lends disk stage)
@@ -239,10 +239,10 @@ module _ (disk : List ℕ) (h : Host) (stage : List ℕ) (sound : Declared h) (o
         → every (right z disk (h .diskroots)) (taken z (h .places)) ≡ true → every (right z after afterRoots) (taken z (replaced id x (h .places))) ≡ true
     held-right agrees before =
         let was = subst (λ (l : List ℕ). every (right z disk (h .diskroots)) l ≡ true) (ap (taken z) (s .is)
-            ∙ taken-split z (s .before) (s .it) (s .behind)) before in
+        ∙ taken-split z (s .before) (s .it) (s .behind)) before in
         ap (every (right z after afterRoots)) taken-after
         ∙ every-and _ (taken z (s .before)) _ (still-right _ (fore-unused (taken z (s .before)) (f .slots) (taken z (s .behind)) (f .own))
-            (every-fore _ (taken z (s .before)) _ was))
+        (every-fore _ (taken z (s .before)) _ was))
         (every-and _ (f .slots) _ (own-right agrees)
         (still-right _ (aft-unused (f .slots) (taken z (s .behind)) (apart-out eqb [] (taken z (s .before)) (f .slots ++ taken z (s .behind)) (f .own)))
         (every-aft _ (committed z (s .it)) _ (every-aft _ (taken z (s .before)) _ was))))
@@ -251,7 +251,7 @@ module _ (disk : List ℕ) (h : Host) (stage : List ℕ) (sound : Declared h) (o
     others-unused =
         ap (λ (l : List Place). every (unused (f .slots)) (taken z l)) (replaced-split id noPlace (h .places) s)
         ∙ ap (every (unused (f .slots))) (taken-split z (s .before) noPlace (s .behind)
-            ∙ ap (λ (l : List ℕ). taken z (s .before) ++ (l ++ taken z (s .behind))) (none-bare z))
+        ∙ ap (λ (l : List ℕ). taken z (s .before) ++ (l ++ taken z (s .behind))) (none-bare z))
         ∙ every-and _ (taken z (s .before)) (taken z (s .behind)) (fore-unused (taken z (s .before)) (f .slots) (taken z (s .behind)) (f .own))
         (aft-unused (f .slots) (taken z (s .behind)) (apart-out eqb [] (taken z (s .before)) (f .slots ++ taken z (s .behind)) (f .own)))
 
@@ -345,18 +345,20 @@ module _ (disk : List ℕ) (h : Host) (stage : List ℕ) (sound : Declared h) (o
   nobody-commits e l =
       let x = whose (h .program .terms .head .contract) (h .places) in
       let same-places = replaced-none (h .program .terms .head .contract) (finalPlace x (h .program .progress .size) l) (h .places)
-          (none-of (h .program .terms .head .contract) (h .places) e) in
+      (none-of (h .program .terms .head .contract) (h .places) e) in
       let same-disk : copiedBack z stage (h .program .progress .staged) l 0 (h .program .progress .size / z) disk ≡ disk = nothing-back l e in
       let same-roots : copiedBack 32 (h .stageroots) (h .program .progress .staged) l 0 (h .program .progress .size / z) (h .diskroots)
-          ≡ h .diskroots = nothing-back-roots l e in
+      ≡ h .diskroots = nothing-back-roots l e in
       record {
         parent = ap₂ (λ (r : List ℕ) (ps : List Place). pairOf z (sector 32 r []) (whose (h .program .terms .head .contract) ps)) same-roots
             same-places ∙ nobody-pair e;
         sectors = ap₂ (λ (d : List ℕ) (ps : List Place). sectorsOf z d (whose (h .program .terms .head .contract) ps)) same-disk same-places ∙ nobody-sectors e;
         others = λ other ne. (
           ap (whose other) same-places,
-          (ap (λ (d : List ℕ). sectorsOf z d (whose other (h .places))) same-disk,
-              ap (λ (r : List ℕ). pairOf z (sector 32 r []) (whose other (h .places))) same-roots),
+          (
+            ap (λ (d : List ℕ). sectorsOf z d (whose other (h .places))) same-disk,
+            ap (λ (r : List ℕ). pairOf z (sector 32 r []) (whose other (h .places))) same-roots,
+          ),
         );
         slots = λ n out. (ap (λ (d : List ℕ). part d (n * z) z) same-disk, ap (λ (r : List ℕ). part r (n * 32) 32) same-roots);
         stage = refl;
@@ -377,7 +379,7 @@ module _ (disk : List ℕ) (h : Host) (stage : List ℕ) (sound : Declared h) (o
       let new = finalPlace x (h .program .progress .size) l in
       let same-places = replaced-none (h .program .terms .head .contract) new (h .places) (none-of (h .program .terms .head .contract) (h .places) e) in
       ap₂ (λ (d r : List ℕ). every (right z d r) (taken z (replaced (h .program .terms .head .contract) new (h .places)))) (nothing-back l e)
-          (nothing-back-roots l e)
+      (nothing-back-roots l e)
       ∙ ap (λ (ps : List Place). every (right z disk (h .diskroots)) (taken z ps)) same-places ∙ before
 
   -- the root kept beside a spot is that of its sector
@@ -392,9 +394,9 @@ module _ (disk : List ℕ) (h : Host) (stage : List ℕ) (sound : Declared h) (o
       let spots = tab 0 (size / z) (spotOf (s .it .slots) staged) in
       held-right s f
       (λ j lt. subst (λ (y : Spot). agrees y ≡ true) (getD-tab 0 (size / z) (spotOf (s .it .slots) staged) j (OnDisk 0) lt
-          ∙ ap (spotOf (s .it .slots) staged) (let e : 0 + j ≡ j = omega arith in e))
+      ∙ ap (spotOf (s .it .slots) staged) (let e : 0 + j ≡ j = omega arith in e))
       (every-get agrees spots j (OnDisk 0) (omega (arith, length-tab 0 (size / z) (spotOf (s .it .slots) staged)))
-          (subst (λ (l : List Spot). every agrees l ≡ true) (spots-are s f) now)))
+      (subst (λ (l : List Spot). every agrees l ≡ true) (spots-are s f) now)))
       before
 
   -- a commit leaves roots that are right, where they were right of all that is committed and of the parent as it is read
@@ -408,7 +410,7 @@ module _ (disk : List ℕ) (h : Host) (stage : List ℕ) (sound : Declared h) (o
       let s = split id (h .places) (place-twins z (h .disk) (h .places) (q .0)) e in
       let f = final z (h .disk) size id (h .places) s (order-some h o) (q .1) (q .0) (sound .places) (good .orderly .whole) (good .orderly .within) in
       subst Right (sym (commit-left ∙ ap (λ (x : Place). left x (finalSlots z (h .disk) (h .places) x size)) (s .whose-is)
-          ∙ ap (left (s .it)) (f .is))) (held-left s f now before))
+      ∙ ap (left (s .it)) (f .is))) (held-left s f now before))
       (λ e. subst Right (sym commit-left) (nobody-right e _ _ before))
 
   commits : Committed h (lends disk stage) (commit disk h stage)

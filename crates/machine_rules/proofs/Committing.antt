@@ -93,15 +93,21 @@ module _ (z disk size : ℕ) (id : List ℕ) (ps : List Place) (s : Split id ps)
   enough =
       let a = others-none z id (s .before) (s .not-before) (every-fore _ (s .before) _ each-place) (shaped-fore (s .before) _ shape-split) in
       let b = others-none z id (s .behind) (s .not-behind) (every-rest _ (s .it) (s .behind) (every-aft _ (s .before) _ each-place))
-          (shaped-aft (s .before) _ shape-split .1) in
+      (shaped-aft (s .before) _ shape-split .1) in
       let c : others id ps ≡ length (taken z (s .before)) * z + length (taken z (s .behind)) * z =
       ap (others id) (s .is) ∙ others-append id (s .before) (s .it ∷ s .behind)
-          ∙ omega (arith, a, b, others-left id (s .it) (s .behind) (keeps-not (s .it .held) (same (s .it .id) id) (has-same id (s .it) (s .here)))) in
+      ∙ omega (arith, a, b, others-left id (s .it) (s .behind) (keeps-not (s .it .held) (same (s .it .id) id) (has-same id (s .it) (s .here)))) in
       let w = whole-sectors z size whole in
       let d : size / z + (length (taken z (s .before)) + length (taken z (s .behind))) ≤ disk =
       le-of-mul-le-mul-right {m = size / z + (length (taken z (s .before)) + length (taken z (s .behind)))} {n = disk} {k = z}
-      (omega (arith, fits, c, w, add-mul (size / z) (length (taken z (s .before)) + length (taken z (s .behind))) z,
-          add-mul (length (taken z (s .before))) (length (taken z (s .behind))) z)) pos in
+      (omega (
+        arith,
+        fits,
+        c,
+        w,
+        add-mul (size / z) (length (taken z (s .before)) + length (taken z (s .behind))) z,
+        add-mul (length (taken z (s .before))) (length (taken z (s .behind))) z,
+      )) pos in
       omega (
         arith,
         d,
@@ -143,7 +149,7 @@ module _ (z disk size : ℕ) (id : List ℕ) (ps : List Place) (s : Split id ps)
   apart-final =
       subst (λ (l : List ℕ). apart eqb l ≡ true)
       (append-assoc (taken z (s .before)) keep (new ++ taken z (s .behind)) ∙ ap (λ (l : List ℕ). taken z (s .before) ++ l)
-          (sym (append-assoc keep new (taken z (s .behind)))))
+      (sym (append-assoc keep new (taken z (s .behind)))))
       (apart-in (taken z (s .before) ++ keep) new (taken z (s .behind))
       (subst (λ (l : List ℕ). apart eqb l ≡ true) (sym (append-assoc (taken z (s .before)) keep (taken z (s .behind)))) apart-used) (is-fresh .own)
       (subst (λ (l : List ℕ). every (unused l) new ≡ true) (sym (append-assoc (taken z (s .before)) keep (taken z (s .behind)))) (is-fresh .unused)))
@@ -155,7 +161,7 @@ module _ (z disk size : ℕ) (id : List ℕ) (ps : List Place) (s : Split id ps)
       let mine = subst (λ (l : List ℕ). every (λ x. ltb x disk) l ≡ true) (cut-prefix z size old pos held) (every-fore _ (committed z old) _ rest) in
       every-and _ (taken z (s .before)) _ (every-fore _ (taken z (s .before)) _ below-taken)
       (every-and _ (keep ++ new) _ (every-and _ keep new (every-fore _ keep (cut-rest z size old) mine) (is-fresh .within))
-          (every-aft _ (committed z old) _ rest))
+      (every-aft _ (committed z old) _ rest))
 
   old-order : placeInOrder z old ≡ true
   unfolding old
@@ -167,7 +173,7 @@ module _ (z disk size : ℕ) (id : List ℕ) (ps : List Place) (s : Split id ps)
       let w = whole-sectors z size whole in
       let q : size / z ≤ disk = le-of-mul-le-mul-right {m = size / z} {n = disk} {k = z} (omega (arith, fits)) pos in
       skips (not (old .held)) true _ (ap not held) ∙ both-join _ _ (ap not (place-size z old old-order held .2))
-          (both-join _ _ (eq-eqb _ 0 whole) (le-leb (size / z) 64 (omega arith)))
+      (both-join _ _ (eq-eqb _ 0 whole) (le-leb (size / z) 64 (omega arith)))
 
   -- "positions past the final size free their slots; kept positions keep theirs; new ones, ascending, take the lowest free": the places are in order
   pub committed-order : placesInOrder z disk (replaced id place ps) ≡ true
@@ -175,13 +181,13 @@ module _ (z disk size : ℕ) (id : List ℕ) (ps : List Place) (s : Split id ps)
   committed-order =
       let e = replaced-split id place ps s in
       let t = ap (taken z) e ∙ taken-split z (s .before) place (s .behind)
-          ∙ ap (λ (l : List ℕ). taken z (s .before) ++ (l ++ taken z (s .behind))) committed-place in
+      ∙ ap (λ (l : List ℕ). taken z (s .before) ++ (l ++ taken z (s .behind))) committed-place in
       both-join _ _
       (ap (every (placeInOrder z)) e ∙ every-and _ (s .before) (place ∷ s .behind) (every-fore _ (s .before) _ each-place)
-          (every-cons _ place (s .behind) place-order (every-rest _ (s .it) (s .behind) (every-aft _ (s .before) _ each-place))))
+      (every-cons _ place (s .behind) place-order (every-rest _ (s .it) (s .behind) (every-aft _ (s .before) _ each-place))))
       (both-join _ _
       (ap (apart twins) e ∙ apart-alike (s .before) place (s .it) (s .behind) place-held place-id ∙ sym (ap (apart twins) (s .is))
-          ∙ both-left _ _ (both-right _ _ o))
+      ∙ both-left _ _ (both-right _ _ o))
       (both-join _ _ (ap (apart eqb) t ∙ apart-final) (ap (every (λ x. ltb x disk)) t ∙ below-final)))
 
   -- the slots that `commit` works out are these
@@ -191,7 +197,7 @@ module _ (z disk size : ℕ) (id : List ℕ) (ps : List Place) (s : Split id ps)
       let e : s .it .id ≡ id = same-eq (s .it .id) id (has-same id (s .it) (s .here)) in
       ap (λ (l : List ℕ). committed z (cut size (s .it)) ++ newSlots disk l (size / z - length (committed z (cut size (s .it)))))
       (ap (λ (i : List ℕ). taken z (replaced i (cut size (s .it)) ps)) e ∙ ap (taken z) (replaced-split id (cut size (s .it)) ps s)
-          ∙ taken-split z (s .before) (cut size (s .it)) (s .behind))
+      ∙ taken-split z (s .before) (cut size (s .it)) (s .behind))
 
   length-old : length (old .slots) ≡ 64
   unfolding old
@@ -204,9 +210,9 @@ module _ (z disk size : ℕ) (id : List ℕ) (ps : List Place) (s : Split id ps)
       let n = cut-within z size (old .size) j pos lo hi in
       let small = place-size z old old-order held .1 in
       let long : j < length (take (min (old .size) size / z) (old .slots)) =
-          omega (arith, length-take (min (old .size) size / z) (old .slots), length-old, n, small) in
+      omega (arith, length-take (min (old .size) size / z) (old .slots), length-old, n, small) in
       List·getD-append (committed z (cut size old)) new 0 j (omega (arith, ap length e)) ∙ ap (λ (l : List ℕ). getD l j 0) e
-          ∙ getD-take (min (old .size) size / z) (old .slots) j 0 n
+      ∙ getD-take (min (old .size) size / z) (old .slots) j 0 n
 
   pub final : Final z disk size id ps s
   unfolding old place n
@@ -217,10 +223,10 @@ module _ (z disk size : ℕ) (id : List ℕ) (ps : List Place) (s : Split id ps)
 commit-places : (disk : List ℕ) (h : Host) (stage : List ℕ) → let old = whose (h .program .terms .head .contract) (h .places) in
     commit disk h stage .host
     ≡ withDiskRoots (withProgram
-        (withPlaces h (replaced (h .program .terms .head .contract) (finalPlace old (h .program .progress .size)
-        (finalSlots (h .sector) (h .disk) (h .places) old (h .program .progress .size))) (h .places))) noProgram)
+    (withPlaces h (replaced (h .program .terms .head .contract) (finalPlace old (h .program .progress .size)
+    (finalSlots (h .sector) (h .disk) (h .places) old (h .program .progress .size))) (h .places))) noProgram)
     (copiedBack 32 (h .stageroots) (h .program .progress .staged) (finalSlots (h .sector) (h .disk) (h .places) old (h .program .progress .size)) 0
-        (h .program .progress .size / h .sector) (h .diskroots))
+    (h .program .progress .size / h .sector) (h .diskroots))
 unfolding commit parent settingBy
 commit-places disk h stage = refl
 
@@ -262,6 +268,6 @@ commit-order disk h stage sound o live =
     (λ e. let s = split id (h .places) (place-twins (h .sector) (h .disk) (h .places) (q .0)) e in
     ap (λ (x : Place). placesInOrder (h .sector) (h .disk) (replaced id x (h .places)))
     (final-place (h .sector) (h .disk) size id (h .places) (s .it) _ (s .whose-is)
-        (final-is (h .sector) (h .disk) size id (h .places) s (order-some h o) (q .1) (q .0) (sound .places) (g .whole) (g .within)))
+    (final-is (h .sector) (h .disk) size id (h .places) s (order-some h o) (q .1) (q .0) (sound .places) (g .whole) (g .within)))
     ∙ committed-order (h .sector) (h .disk) size id (h .places) s (order-some h o) (q .1) (q .0) (sound .places) (g .whole) (g .within))
     (λ e. ap (placesInOrder (h .sector) (h .disk)) (replaced-none id _ (h .places) (none-of id (h .places) e)) ∙ q .0))

@@ -39,7 +39,7 @@ same-made h k m t u a b p q r = rw (p, q, r)
 
 accepted-made : (disk : List ℕ) (h : Host) (stage input output b : List ℕ) (c : ℕ) → h .program .came ≡ c
     → accepted disk h stage input output b ≡ made h (c + length b) (run (h .sector) (settingOf h disk) (put input c b) (c + length b)
-        (turnOf h stage output)) (put input c b)
+    (turnOf h stage output)) (put input c b)
 unfolding acceptedBy made
 accepted-made disk h stage input output b c e =
     ap (λ (n : ℕ). made h (n + length b) (run (h .sector) (settingOf h disk) (put input n b) (n + length b) (turnOf h stage output)) (put input n b)) e
@@ -47,7 +47,7 @@ accepted-made disk h stage input output b c e =
 -- a piece after others looks at the host only by what stays and by what they left
 accepted-again : (disk : List ℕ) (h : Host) (k : ℕ) (t : Turn) (area b : List ℕ)
     → accepted disk (withRun h k (t .progress) (t .roots)) (t .stage) area (t .output) b
-        ≡ made h (k + length b) (run (h .sector) (settingOf h disk) (put area k b) (k + length b) t) (put area k b)
+    ≡ made h (k + length b) (run (h .sector) (settingOf h disk) (put area k b) (k + length b) t) (put area k b)
 unfolding acceptedBy made withRun withStageRoots withProgram withProgress withCame settingBy turnOf
 accepted-again disk h k t area b = refl
 
@@ -59,11 +59,11 @@ module _ (h : Host) (a : Areas) (all : List ℕ) (roomy : length all ≤ length 
       let area : put (a .input) 0 b ≡ put (a .input) 0 (take (length b) all) = ap (λ (x : List ℕ). put (a .input) 0 x) (sym g) in
       let k : 0 + length b ≡ length b = omega arith in
       let u : take (length b) (put (a .input) 0 b) ≡ take (length b) all = take-put (a .input) 0 b (length b) (omega arith)
-          (omega (arith, length-append b rest, ap length e)) ∙ sym g in
+      (omega (arith, length-append b rest, ap length e)) ∙ sym g in
       let r : run (h .sector) (settingOf h (a .disk)) (put (a .input) 0 b) (0 + length b) (turnOf h (a .stage) (a .output))
-          ≡ run (h .sector) (settingOf h (a .disk)) all (length b) (turnOf h (a .stage) (a .output)) =
+      ≡ run (h .sector) (settingOf h (a .disk)) all (length b) (turnOf h (a .stage) (a .output)) =
       ap (λ (n : ℕ). run (h .sector) (settingOf h (a .disk)) (put (a .input) 0 b) n (turnOf h (a .stage) (a .output))) k
-          ∙ run-below (h .sector) (settingOf h (a .disk)) (put (a .input) 0 b) all (length b) (turnOf h (a .stage) (a .output)) u in
+      ∙ run-below (h .sector) (settingOf h (a .disk)) (put (a .input) 0 b) all (length b) (turnOf h (a .stage) (a .output)) u in
       accepted-made (a .disk) h (a .stage) (a .input) (a .output) b 0 c ∙ same-made h (0 + length b) (length b) _ _ _ _ k r area
 
   next : (x b rest : List ℕ) → x ++ (b ++ rest) ≡ all
@@ -76,15 +76,15 @@ module _ (h : Host) (a : Areas) (all : List ℕ) (roomy : length all ≤ length 
       let m : length (x ++ b) ≡ length x + length b = length-append x b in
       let gx : take (length x) all ≡ x = ap (λ (y : List ℕ). take (length x) y) (sym e) ∙ take-append-seam x (b ++ rest) in
       let gb : take (length (x ++ b)) all ≡ x ++ b = ap (λ (y : List ℕ). take (length (x ++ b)) y) (sym (append-assoc x b rest ∙ e))
-          ∙ take-append-seam (x ++ b) rest in
+      ∙ take-append-seam (x ++ b) rest in
       let area : put (put (a .input) 0 (take (length x) all)) (length x) b ≡ put (a .input) 0 (x ++ b) =
       ap (λ (y : List ℕ). put (put (a .input) 0 y) (length x) b) gx ∙ ap (λ (n : ℕ). put (put (a .input) 0 x) n b) (omega arith)
-          ∙ put-append (a .input) 0 x b (0 + length x) refl in
+      ∙ put-append (a .input) 0 x b (0 + length x) refl in
       let u : take (length (x ++ b)) (put (a .input) 0 (x ++ b)) ≡ take (length (x ++ b)) all =
-          take-put (a .input) 0 (x ++ b) (length (x ++ b)) (omega arith)
-              (omega (arith, length-append (x ++ b) rest, ap length (append-assoc x b rest ∙ e))) ∙ sym gb in
+      take-put (a .input) 0 (x ++ b) (length (x ++ b)) (omega arith)
+      (omega (arith, length-append (x ++ b) rest, ap length (append-assoc x b rest ∙ e))) ∙ sym gb in
       let r : run (h .sector) s (put (put (a .input) 0 (take (length x) all)) (length x) b) (length x + length b) (run (h .sector) s all (length x) t)
-          ≡ run (h .sector) s all (length (x ++ b)) t =
+      ≡ run (h .sector) s all (length (x ++ b)) t =
       ap (λ (y : List ℕ). run (h .sector) s y (length x + length b) (run (h .sector) s all (length x) t)) area
       ∙ ap (λ (n : ℕ). run (h .sector) s (put (a .input) 0 (x ++ b)) n (run (h .sector) s all (length x) t)) (sym m)
       ∙ run-below (h .sector) s (put (a .input) 0 (x ++ b)) all (length (x ++ b)) (run (h .sector) s all (length x) t) u
@@ -102,10 +102,10 @@ module _ (h : Host) (a : Areas) (all : List ℕ) (roomy : length all ≤ length 
       let w = after h a all (length x) in
       let p : piece (a .disk) (w .host) (w .stage) (w .input) (w .output) b ≡ after h a all (length (x ++ b)) =
       answered-zero w _ _ (piece-answers (a .disk) w b) (q .0) ∙ next x b (together bs ++ rest)
-          (ap (λ (y : List ℕ). x ++ y) (sym (append-assoc b (together bs) rest)) ∙ e) in
+      (ap (λ (y : List ℕ). x ++ y) (sym (append-assoc b (together bs) rest)) ∙ e) in
       ap (λ (y : Pieced). fed (a .disk) y bs) p
       ∙ on (x ++ b) bs rest (append-assoc x b (together bs ++ rest) ∙ ap (λ (y : List ℕ). x ++ y) (sym (append-assoc b (together bs) rest)) ∙ e)
-          (subst (λ (y : Pieced). AllAccepted (a .disk) y bs) p (q .1))
+      (subst (λ (y : Pieced). AllAccepted (a .disk) y bs) p (q .1))
       ∙ ap (λ (y : List ℕ). after h a all (length y)) (append-assoc x b (together bs))
 
   -- the state after one or more accepted pieces is that of the whole data at the number of bytes come

@@ -38,7 +38,7 @@ writes : (z : ℕ) (s : Setting) (i : Instruction) (l : List (List ℕ)) (t : Tu
 unfolding stepped
 writes z s i l t n =
     subst (λ (x : Turn). Failed z s (judged z s (rootAt z s t) (t .progress) i l) t x)
-        (sym (skips (eqb (judged z s (rootAt z s t) (t .progress) i l) 0) _ _ (ne-eqb _ _ n)))
+    (sym (skips (eqb (judged z s (rootAt z s t) (t .progress) i l) 0) _ _ (ne-eqb _ _ n)))
     (fails z s (judged z s (rootAt z s t) (t .progress) i l) t)
 
 ends : (z : ℕ) (s : Setting) (input : List ℕ) (k : ℕ) (t : Turn) → t .progress .failed ≡ true → run z s input k t ≡ t
@@ -49,7 +49,7 @@ ends z s input k t f = runs-stop z s input k (s .terms .head .count) t (failed-s
 
 charged : (z : ℕ) (s : Setting) (i : Instruction) (l : List (List ℕ)) (t : Turn) → judged z s (rootAt z s t) (t .progress) i l ≡ 0
     → stepped z s i l t .progress .tally ≡ t .progress .tally + cost (s .terms .head .length) (s .terms .prices) (opOf (i .name))
-        (argsOf (opOf (i .name)) l .len)
+    (argsOf (opOf (i .name)) l .len)
 unfolding stepped succeeding ranProgress
 charged z s i l t e = ap (λ (x : Turn). x .progress .tally) (picks (eqb (judged z s (rootAt z s t) (t .progress) i l) 0) _ _ (eq-eqb _ _ e))
 
@@ -71,7 +71,7 @@ step-within : (z : ℕ) (s : Setting) (i : Instruction) (l : List (List ℕ)) (t
 step-within z s i l t h =
     by (eqb (judged z s (rootAt z s t) (t .progress) i l) 0)
     (λ e. let j : judged z s (rootAt z s t) (t .progress) i l ≡ 0 = eqb-true _ _ e in
-        omega (arith, charged z s i l t j, paid z s (rootAt z s t) (t .progress) i l j))
+    omega (arith, charged z s i l t j, paid z s (rootAt z s t) (t .progress) i l j))
     (λ e. let f = writes z s i l t (eqb-false _ _ e) in omega (arith, h, ap (λ (p : Progress). p .tally) (f .progress), same-tally (t .progress)))
 
 runs-within : (z : ℕ) (s : Setting) (a : List ℕ) (k n : ℕ) (t : Turn) → t .progress .tally ≤ s .terms .budget
@@ -93,7 +93,7 @@ within z s input k t h = runs-within z s input k (s .terms .head .count) t h
 
 own : (z : ℕ) (s : Setting) (i : Instruction) (l : List (List ℕ)) (t : Turn) → stepped z s i l t .progress .tally
     ≡ t .progress .tally + pick (eqb (judged z s (rootAt z s t) (t .progress) i l) 0)
-        (cost (s .terms .head .length) (s .terms .prices) (opOf (i .name)) (argsOf (opOf (i .name)) l .len)) 0
+    (cost (s .terms .head .length) (s .terms .prices) (opOf (i .name)) (argsOf (opOf (i .name)) l .len)) 0
 own z s i l t =
     by (eqb (judged z s (rootAt z s t) (t .progress) i l) 0)
     (λ e. let j : judged z s (rootAt z s t) (t .progress) i l ≡ 0 = eqb-true _ _ e in

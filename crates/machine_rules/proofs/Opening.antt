@@ -52,8 +52,16 @@ begun-opened : (h : Host) (hd : Head) (o : Opening) (a : Areas) → Declared h
     → Opened (withProgram h (begun h hd (o .budget) (o .prices) (o .room))) a
 unfolding withProgram begun started areasRight diskRight
 begun-opened h hd o a declared order areas input output = record {
-  takes = record { order = order; areas = areas; live = refl; input = input; output = output; entries = refl; diskRoots = declared .disk;
-      stageRoots = declared .stage };
+  takes = record {
+    order = order;
+    areas = areas;
+    live = refl;
+    input = input;
+    output = output;
+    entries = refl;
+    diskRoots = declared .disk;
+    stageRoots = declared .stage;
+  };
   came = refl;
   written = refl;
   ran = refl;

@@ -77,10 +77,10 @@ begun-good h hd budget p room sound o hh right held paid =
     (both-join _ _ hh right))
     (both-join _ _ (le-leb 0 (hd .length) (omega arith))
     (both-join _ _ (le-leb 0 (hd .count) (omega arith))
-        (both-join _ _ (le-leb _ _ paid)
-        (both-join _ _ (le-leb (0 + pick false 0 72) room (omega (arith, leb-true 72 room (both-left _ _ right), skips {A = ℕ} false 0 72 refl)))
+    (both-join _ _ (le-leb _ _ paid)
+    (both-join _ _ (le-leb (0 + pick false 0 72) room (omega (arith, leb-true 72 room (both-left _ _ right), skips {A = ℕ} false 0 72 refl)))
     (both-join _ _ (eq-eqb _ _ (whose-whole (h .sector) id (h .places) each-place))
-        (both-join _ _ (le-leb _ _ (le-trans fits (mul-le-mul-right {m = length (taken (h .sector) (h .places))} {n = h .disk} (h .sector) few)))
+    (both-join _ _ (le-leb _ _ (le-trans fits (mul-le-mul-right {m = length (taken (h .sector) (h .places))} {n = h .disk} (h .sector) few)))
     (facts-staged _ _ _ _ (fresh-staged (h .stage) (whose id (h .places) .size / h .sector)))))))))
 
 -- a host in order with another program that is in order, or none
@@ -106,10 +106,10 @@ unfolding opened openedHead
 opening h bytes budget p room sound bs o =
     let way = either-way (λ (r : Answer). inOrder (r .host) ≡ true) in
     way _ _ _ (λ _. o) (λ _. way _ _ _ (λ _. o)
-        (λ right. way _ _ _ (λ _. o) (λ _. way _ _ _ (λ _. o) (λ fault. way _ _ _ (λ _. o) (λ held. way _ _ _ (λ _. o) (λ paid.
+    (λ right. way _ _ _ (λ _. o) (λ _. way _ _ _ (λ _. o) (λ fault. way _ _ _ (λ _. o) (λ held. way _ _ _ (λ _. o) (λ paid.
     begun-order h (decode bytes .head) budget p room o
     (begun-good h (decode bytes .head) budget p room sound o (read-head bytes bs (eqb-true _ _ (not-false _ fault))) (not-false _ right) held
-        (ltb-false _ _ paid))))))))
+    (ltb-false _ _ paid))))))))
 
 -- ---- pieces
 
@@ -119,7 +119,7 @@ unfolding acceptedBy run turnOf
 accepted-order disk h stage input output bytes sound o live fit =
     good-order h disk (h .program .came + length bytes) _ _ o fit
     (runs-good (h .sector) (settingOf h disk) (put input (h .program .came) bytes) (h .program .came + length bytes)
-        (settingOf h disk .terms .head .count) (turnOf h stage output)
+    (settingOf h disk .terms .head .count) (turnOf h stage output)
     (order-lent h disk o) (order-good h disk o live (sound .staged)))
 
 pieces : (disk : List ℕ) (h : Host) (stage input output bytes : List ℕ) → Declared h → inOrder h ≡ true
@@ -138,7 +138,7 @@ unfolding stoppedBy failing turnOf settingBy
 stopped-order disk h output sound o live g =
     good-order h disk (h .program .came) _ _ o (came-within h o live)
     (failed-good (h .sector) (settingOf h disk) (h .program .progress) (not-failed (settingOf h disk) (turnOf h [] output) g)
-        (order-good h disk o live (sound .staged)))
+    (order-good h disk o live (sound .staged)))
 
 interrupts : (disk : List ℕ) (h : Host) (output : List ℕ) → Declared h → inOrder h ≡ true → inOrder (interrupt disk h output .host) ≡ true
 unfolding interruptBy

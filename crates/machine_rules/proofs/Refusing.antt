@@ -46,7 +46,7 @@ refusals h a = record {
       let or = refused-or (λ r. r .number) (λ n. interrupted n 0 h (a .output)) (λ n. refl) (λ r. r .number ≡ 0 → ⊥) in
       or _ _ _ (or _ _ _ (or _ _ _ (or _ _ _
       (either-way (λ r. r .number) (λ n. interrupted n 0 h (a .output)) (λ n. refl) (λ r. r .number ≡ 0 → ⊥) _ _ _ (λ n. absurd (n refl))
-          (λ n. absurd (n refl))))));
+      (λ n. absurd (n refl))))));
   reached =
       let or = refused-or (λ r. r .number) (λ n. reachedAt n noPair) (λ n. refl) (λ r. r .number ≡ 0 → ⊥) in
       or _ _ _ (or _ _ _ (or _ _ _ (λ n. absurd (n refl))));

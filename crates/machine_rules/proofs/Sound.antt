@@ -114,7 +114,7 @@ running-bytes h a s areas live =
     let few = few-sectors (h .sector) (settingOf h (a .disk)) (h .program .progress) (solid .lent) g in
     ap (λ (x : Pair). x .root) (pair-alike (a .disk) h (a .stage) (s .declared) (s .right) areas live)
     ∙ bytewise (h .sector) (settingOf h (a .disk)) (a .stage) (parentSpots (h .sector) (settingOf h (a .disk)) (h .program .progress)) solid
-        (areas-stage h (a .disk) (a .stage) areas)
+    (areas-stage h (a .disk) (a .stage) areas)
     (parent-valid (h .sector) (settingOf h (a .disk)) (h .program .progress) solid (g .orderly .staged) (omega (arith, few, g .entries)))
     (omega (arith, few, parent-long (h .sector) (settingOf h (a .disk)) (h .program .progress))) .root
 
@@ -134,17 +134,17 @@ held-valid h disk id solid = disk-valid (unlent h disk) (committed (h .sector) (
 -- the root of a contract is that of its bytes
 held-bytes : (h : Host) (a : Areas) → Sound h (a .disk) (a .stage) → areasRight h (a .disk) (a .stage) ≡ true → (id : List ℕ)
     → pairOf (h .sector) (rootOnDisk (h .sector) (settingOf h (a .disk))) (whose id (h .places)) .root
-        ≡ Tree.root (sectorsOf (h .sector) (a .disk) (whose id (h .places)))
+    ≡ Tree.root (sectorsOf (h .sector) (a .disk) (whose id (h .places)))
 unfolding pairOf sectorsOf rootOf rootBy settingBy withWay
 held-bytes h a s areas id =
     let solid = order-solid h (a .disk) (a .stage) (sound-order (a .disk) h (a .stage) (s .right)) areas in
     root-agree (rootOnDisk (h .sector) (settingBy kept h (a .disk))) (rootOnDisk (h .sector) (settingBy worked h (a .disk)))
-        (committedSpots (h .sector) (whose id (h .places)))
+    (committedSpots (h .sector) (whose id (h .places)))
     (all-committed (h .sector) (settingOf h (a .disk)) _ (known-disk (h .sector) (settingOf h (a .disk)) [] []
-        (sound-disk (a .disk) h (a .stage) (s .right))) id)
+    (sound-disk (a .disk) h (a .stage) (s .right))) id)
     ∙ contract-worked (h .sector) (solid .lent .size .depth) (solid .lent .size .segments) (a .disk) [] (valid (unlent h (a .disk)))
     (λ x u. sector-length (h .sector) (unlent h (a .disk)) [] x (solid .disk) (sym (zero-mul (h .sector))) u)
-        (committedSpots (h .sector) (whose id (h .places))) (held-valid h (a .disk) id solid)
+    (committedSpots (h .sector) (whose id (h .places))) (held-valid h (a .disk) id solid)
     (few-segments (h .sector) (length (committedSpots (h .sector) (whose id (h .places)))) (solid .lent .size) (few-held h (a .disk) id solid))
 
 -- For a sound host the kept roots give document 01.

@@ -8,9 +8,9 @@ ghost use Rattle.sia.specs.Encode.{joined};
 ghost use Rattle.machine_rules.specs.View.{spotOf};
 ghost use Rattle.machine_rules.specs.Roots.{keptRoot, contractRoot, rangeProof};
 ghost use Rattle.machine_sight.specs.Seen.{spotsOf, Lies, Known, Ranged};
+use crate::Seen;
 use crate::sector_roots;
 use crate::sectors;
-use crate::Seen;
 
 // The roots kept beside the sectors that are seen, one after another.
 fn kept_roots<'a>(diskroots: &'a [u8], stageroots: &'a [u8], seen: Seen) -> [u8; 2048]

@@ -12,6 +12,7 @@ ghost use Rattle.machine_rules.specs.Roots.{keptRoot};
 ghost use Rattle.machine_rules.specs.Seats.{seated, committedSeats, seats, allSeats, firstSeat};
 ghost use Rattle.machine_sight.specs.Seen.{spotsOf, lies, Known};
 ghost use Rattle.machine_sight.specs.Lookup.{isFound, Stands, Stand, Seeks, ownSpots};
+use crate::Seen;
 use crate::sector_roots;
 use crate::sectors;
 use crate::sights;
@@ -22,7 +23,6 @@ use machine_rules::Seat;
 use machine_rules::Sought;
 use machine_rules::Spot;
 use sia::Head;
-use crate::Seen;
 
 // Whether two roots are the same, all bytes of both.
 fn agrees(one: &[u8], two: &[u8]) -> bool

@@ -9,10 +9,10 @@ ghost use Rattle.host.specs.Order.{placeInOrder};
 ghost use Rattle.machine_rules.specs.View.{spotOf, committedSpots};
 ghost use Rattle.machine_sight.specs.Seen.{spotsOf};
 ghost use Rattle.machine_sight.specs.Lookup.{Narrow};
+use crate::Seen;
 use host::Place;
 use host::Progress;
 use machine_rules::Spot;
-use crate::Seen;
 
 // No sector.
 fn nothing() -> Seen

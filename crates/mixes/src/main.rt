@@ -6,9 +6,9 @@
 // number of the first refusal if there was one, and the digests of the disk and of the records of the last visit.
 ghost use Prim.Native.Nat.{_+_, _≤_};
 ghost use lib.ListN.{length};
+use libc::STDIN_FILENO;
 use machine::Host;
 use machine::Prices;
-use libc::STDIN_FILENO;
 use sia::Number;
 use stdout::decimal;
 use stdout::hex;

@@ -320,7 +320,15 @@ fn locate(item: &[u8], host: Host) -> Made {
     area::store(&mut rest, 0, 8, found.place);
     area::store(&mut rest, 8, 8, found.position);
     area::store(&mut rest, 16, 8, as_number(found.staged));
-    with_rest(true, found.number, as_number(found.found), 0, 24, rest, host)
+    with_rest(
+        true,
+        found.number,
+        as_number(found.found),
+        0,
+        24,
+        rest,
+        host,
+    )
 }
 
 // ---- the checker

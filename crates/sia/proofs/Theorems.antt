@@ -88,17 +88,24 @@ lengths : (xs : List Instruction) → Each ProperInstruction xs → every fewOpe
 unfolding joined Each every operandCount
 lengths [] p e = refl
 lengths (x ∷ xs) p e =
-    omega
-    (arith, length-append (instructionBytes x) (joined instructionBytes xs), length-instruction x (p .0 .name) (p .0 .operands)
-        (leb-true _ _ (both-left _ _ e)), lengths xs (p .1) (both-right _ _ e))
+    omega (
+      arith,
+      length-append (instructionBytes x) (joined instructionBytes xs),
+      length-instruction x (p .0 .name) (p .0 .operands)
+          (leb-true _ _ (both-left _ _ e)),
+      lengths xs (p .1) (both-right _ _ e),
+    )
 
 -- A head is 48 bytes, 25 for each instruction and 16 for each operand.
 pub head-length : (h : Head) → Proper h → within h ≡ true → length (encode h) ≡ 48 + 25 * h .count + 16 * operandCount (instructionsIn h)
 head-length h p e =
     let w = within-is h e in
-    omega
-    (arith, length-head h (p .contract), lengths (instructionsIn h) (each-take ProperInstruction (h .instructions) (h .count) (p .each)) (w .few),
-        length-take-le (h .count) (h .instructions) (omega (arith, p .instructions, w .count)))
+    omega (
+      arith,
+      length-head h (p .contract),
+      lengths (instructionsIn h) (each-take ProperInstruction (h .instructions) (h .count) (p .each)) (w .few),
+      length-take-le (h .count) (h .instructions) (omega (arith, p .instructions, w .count)),
+    )
 
 -- "(P) Truncate(4,096) alone, 8 data bytes: head 89 bytes", for every contract
 pub truncate-alone : (id : List ℕ) → length id ≡ 32 → length (encode (truncateAlone id)) ≡ 89

@@ -2,13 +2,12 @@
 // refused with document 01's 2, and nothing is written.
 ghost use mathlib.Core.Path.{_≡_};
 ghost use Rattle.tree.specs.Answers.{left, proved, provedIn};
+use crate::Answer;
+use crate::Counted;
 use crate::asked;
 use crate::hashes;
 use crate::parts;
-use crate::Answer;
-use crate::Counted;
 use crate::walks;
-
 
 // The proof of a range of the segments of `bytes`, written to the front of `out`; the rest of it stays. 2 where the bytes are not
 // whole segments, that is no range of them, or the hashes do not fit: then nothing is written.

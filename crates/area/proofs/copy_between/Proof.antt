@@ -27,6 +27,6 @@ returns c = all-laid _ _ _ _ (length-part _ _ _ (omega arith)) (c .loop-test .le
 pub copy-between-spec : {M : Type 1} → statement M
 copy-between-spec =
     tie.close (tie.spec Inv-loop μ-loop
-        (λ c. (omega arith, refl, sym (put-nil _ _)))
-        (λ c. omega arith) (λ c. omega arith) (λ c. omega arith) (λ c. omega arith) (λ c. omega arith) (λ c. omega arith) loop-again
-        (λ c. search needs) returns)
+    (λ c. (omega arith, refl, sym (put-nil _ _)))
+    (λ c. omega arith) (λ c. omega arith) (λ c. omega arith) (λ c. omega arith) (λ c. omega arith) (λ c. omega arith) loop-again
+    (λ c. search needs) returns)

@@ -21,6 +21,6 @@ loop-again c =
 pub fill-spec : {M : Type 1} → statement M
 fill-spec =
     tie.close (tie.spec Inv-loop μ-loop
-        (λ c. (omega arith, refl, sym (put-nil _ _)))
-        (λ c. omega arith) (λ c. omega arith) (λ c. omega arith) (λ c. omega arith) loop-again (λ c. search needs)
-        (λ c. all-laid _ _ _ _ (length-replicate _ _) (c .loop-test .left) (c .before .loop .inv .2)))
+    (λ c. (omega arith, refl, sym (put-nil _ _)))
+    (λ c. omega arith) (λ c. omega arith) (λ c. omega arith) (λ c. omega arith) loop-again (λ c. search needs)
+    (λ c. all-laid _ _ _ _ (length-replicate _ _) (c .loop-test .left) (c .before .loop .inv .2)))

@@ -13,4 +13,4 @@ returns c = (
 pub load2-spec : {M : Type 1} → statement M
 load2-spec =
     tie.close (tie.spec (λ c. search needs) (λ c κs. search needs) (λ c. search needs) (λ c. search needs) (λ c κs. search needs)
-        (λ c. search needs) (λ c. search needs) returns)
+    (λ c. search needs) (λ c. search needs) returns)

@@ -20,7 +20,7 @@ loop-again c =
     let a = c .before .before .before .args in
     let n : length (part (a .a .now) (a .from) (a .n)) ≡ a .n = length-part _ _ _ (omega arith) in
     let read = ap (λ (x : List ℕ). getD x (a .from + l .i) 0) (l .inv .2)
-        ∙ getD-behind _ _ _ _ (omega (arith, length-take-le (l .i) (part (a .a .now) (a .from) (a .n)) (omega arith))) in
+    ∙ getD-behind _ _ _ _ (omega (arith, length-take-le (l .i) (part (a .a .now) (a .from) (a .n)) (omega arith))) in
     (omega arith, search needs, one-more _ _ _ _ n (omega arith) (read ∙ sym (getD-part _ _ _ _ (omega arith))) (l .inv .2))
 
 returns : tie.Need-returns Inv-loop μ-loop
@@ -29,6 +29,6 @@ returns c = all-laid _ _ _ _ (length-part _ _ _ (omega arith)) (c .loop-test .le
 pub move-down-spec : {M : Type 1} → statement M
 move-down-spec =
     tie.close (tie.spec Inv-loop μ-loop
-        (λ c. (omega arith, refl, sym (put-nil _ _)))
-        (λ c. omega arith) (λ c. omega arith) (λ c. omega arith) (λ c. omega arith) (λ c. omega arith) (λ c. omega arith) loop-again
-        (λ c. search needs) returns)
+    (λ c. (omega arith, refl, sym (put-nil _ _)))
+    (λ c. omega arith) (λ c. omega arith) (λ c. omega arith) (λ c. omega arith) (λ c. omega arith) (λ c. omega arith) loop-again
+    (λ c. search needs) returns)

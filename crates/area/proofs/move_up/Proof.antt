@@ -27,7 +27,7 @@ loop-again c =
 pub move-up-spec : {M : Type 1} → statement M
 move-up-spec =
     tie.close (tie.spec Inv-loop μ-loop
-        (λ c. (omega arith, refl, none-laid-up _ _ _ (length-part _ _ _ (omega arith))))
-        (λ c. omega arith) (λ c. omega arith) (λ c. omega arith) (λ c. omega arith) (λ c. omega arith) (λ c. omega arith) loop-again
-        (λ c. search needs)
-        (λ c. all-laid-up _ _ _ _ (c .loop-test .left) (c .before .loop .inv .2)))
+    (λ c. (omega arith, refl, none-laid-up _ _ _ (length-part _ _ _ (omega arith))))
+    (λ c. omega arith) (λ c. omega arith) (λ c. omega arith) (λ c. omega arith) (λ c. omega arith) (λ c. omega arith) loop-again
+    (λ c. search needs)
+    (λ c. all-laid-up _ _ _ _ (c .loop-test .left) (c .before .loop .inv .2)))

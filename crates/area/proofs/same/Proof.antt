@@ -33,6 +33,6 @@ returns-2 c =
 pub same-spec : {M : Type 1} → statement M
 same-spec =
     tie.close (tie.spec Inv-loop μ-loop
-        (λ c. same-lengths _ _ (c .if1 .taken))
-        (λ c. (omega arith, c .if1 .left, yes _ _ _ refl refl))
-        (λ c. omega arith) (λ c. omega arith) (λ c. omega arith) (λ c. omega arith) loop-again returns-2)
+    (λ c. same-lengths _ _ (c .if1 .taken))
+    (λ c. (omega arith, c .if1 .left, yes _ _ _ refl refl))
+    (λ c. omega arith) (λ c. omega arith) (λ c. omega arith) (λ c. omega arith) loop-again returns-2)

@@ -27,5 +27,5 @@ loop-again c =
 pub store-spec : {M : Type 1} → statement M
 store-spec =
     tie.close (tie.spec Inv-loop μ-loop loop-holds (λ c. search needs) (λ c. omega arith) (λ c. omega arith) (λ c. omega arith)
-        (λ c. omega arith) loop-again (λ c. search needs)
-        (λ c. all-laid _ _ _ _ (length-bytes _ _) (c .loop-test .left) (c .before .loop .inv .2)))
+    (λ c. omega arith) loop-again (λ c. search needs)
+    (λ c. all-laid _ _ _ _ (length-bytes _ _) (c .loop-test .left) (c .before .loop .inv .2)))

@@ -25,7 +25,7 @@ loop-again c =
 pub swap-apart-spec : {M : Type 1} → statement M
 swap-apart-spec =
     tie.close (tie.spec Inv-loop μ-loop
-        (λ c. (omega arith, refl, none-swapped _ _ _))
-        (λ c. omega arith) (λ c. omega arith) (λ c. omega arith) (λ c. omega arith) (λ c. omega arith) (λ c. omega arith) (λ c. omega arith)
-        slice-write-a-2 (λ c. omega arith) (λ c. omega arith) loop-again (λ c. search needs)
-        (λ c. all-swapped _ _ _ _ _ (c .before .loop .inv .0) (c .loop-test .left) (c .before .loop .inv .2)))
+    (λ c. (omega arith, refl, none-swapped _ _ _))
+    (λ c. omega arith) (λ c. omega arith) (λ c. omega arith) (λ c. omega arith) (λ c. omega arith) (λ c. omega arith) (λ c. omega arith)
+    slice-write-a-2 (λ c. omega arith) (λ c. omega arith) loop-again (λ c. search needs)
+    (λ c. all-swapped _ _ _ _ _ (c .before .loop .inv .0) (c .loop-test .left) (c .before .loop .inv .2)))

@@ -27,7 +27,7 @@ module _ (disk : List ℕ) (h : Host) (stage input output : List ℕ) where
   abbrev passing : List ℕ → Pieced
   passing bytes =
       pick (ltb (h .program .terms .head .length) (h .program .came + length bytes)) (pieced 12 0 h stage input output)
-          (accepted disk h stage input output bytes)
+      (accepted disk h stage input output bytes)
 
   twelve : (b : List ℕ) → h .program .terms .head .length < length b → passing b ≡ pieced 12 0 h stage input output
   twelve b g = picks _ _ _ (lt-ltb (h .program .terms .head .length) (h .program .came + length b) (omega arith))

@@ -54,7 +54,7 @@ ids-first all c h =
     let few : c ≤ 9 = leb-true c 9 u in
     let m : c ≡ min c 9 = omega arith in
     take-all 9 _ (omega (arith, few, ap length (ids-tab all c h), length-tab 0 c (λ j. part all (80 + j * 32) 32)))
-        ∙ ap (λ (k : ℕ). idsIn (part all 80 (k * 32))) m)
+    ∙ ap (λ (k : ℕ). idsIn (part all 80 (k * 32))) m)
     (λ u.
     let many : 9 < c = leb-false c 9 u in
     let m : 9 ≡ min c 9 = omega arith in
@@ -66,9 +66,9 @@ unfolding part
 part-least all at n k =
     by (leb n k)
     (λ u. let m : min n k ≡ n = omega (arith, leb-true n k u) in ap (λ (j : ℕ). take j (drop at all)) m
-        ∙ sym (take-all k (take n (drop at all)) (omega (arith, leb-true n k u, length-take n (drop at all)))))
+    ∙ sym (take-all k (take n (drop at all)) (omega (arith, leb-true n k u, length-take n (drop at all)))))
     (λ u. let m : min n k ≡ k = omega (arith, leb-false n k u) in ap (λ (j : ℕ). take j (drop at all)) m
-        ∙ sym (take-take k n (drop at all) (omega (arith, leb-false n k u))))
+    ∙ sym (take-take k n (drop at all) (omega (arith, leb-false n k u))))
 
 -- how much is kept at most
 few-ids : (all : List ℕ) → idsKept all ≤ 9
@@ -171,7 +171,7 @@ module _ (all : List ℕ) (front : 80 ≤ length all) (whole : cutShort all ≡ 
       ap (λ (k : ℕ). drop k (kept all)) head-end-kept
       ∙ drop-next (take 72 all) _ 72 (8 + (idsKept all * 32 + (8 + headKept all))) {j = 80 + idsKept all * 32 + 8 + headKept all} long-front (omega arith)
       ∙ drop-next (le8 (idsKept all)) _ 8 (idsKept all * 32 + (8 + headKept all)) {j = 8 + (idsKept all * 32 + (8 + headKept all))}
-          (length-bytes 8 (idsKept all)) refl
+      (length-bytes 8 (idsKept all)) refl
       ∙ drop-next (part all 80 (idsKept all * 32)) _ (idsKept all * 32) (8 + headKept all) {j = idsKept all * 32 + (8 + headKept all)} long-ids refl
       ∙ drop-next (le8 (headKept all)) _ 8 (headKept all) {j = 8 + headKept all} (length-bytes 8 (headKept all)) refl
       ∙ drop-next (part all (idsEnd all + 8) (headKept all)) _ (headKept all) 0 {j = headKept all} long-head (omega arith)
@@ -202,7 +202,7 @@ module _ (all : List ℕ) (front : 80 ≤ length all) (whole : cutShort all ≡ 
   whole-kept =
       let l = long-kept in
       either-join _ _ (le-ltb (length (kept all)) (idsEnd (kept all) + 8) (omega (arith, l)))
-          (le-ltb (length (kept all)) (idsEnd (kept all) + 8 + numberAt (kept all) (idsEnd (kept all))) l)
+      (le-ltb (length (kept all)) (idsEnd (kept all) + 8 + numberAt (kept all) (idsEnd (kept all))) l)
 
   pub prices-kept : pricesIn (kept all) ≡ pricesIn all
   unfolding pricesIn
@@ -242,7 +242,7 @@ pub kept-short : (all : List ℕ) → length (kept all) ≤ 68810
 unfolding kept part
 kept-short all =
     below (length-six (take 72 all) (le8 (idsKept all)) (part all 80 (idsKept all * 32)) (le8 (headKept all))
-        (part all (idsEnd all + 8) (headKept all)) (dataKept all))
+    (part all (idsEnd all + 8) (headKept all)) (dataKept all))
     (at-most 72 all) (length-bytes 8 (idsKept all)) (at-most (idsKept all * 32) (drop 80 all)) (length-bytes 8 (headKept all))
     (at-most (headKept all) (drop (idsEnd all + 8) all)) (few-data all) (few-ids all) (few-bytes all) where
       below : {l a b c d e f i m : ℕ} → l ≡ a + (b + (c + (d + (e + f)))) → a ≤ 72 → b ≡ 8 → c ≤ i * 32 → d ≡ 8 → e ≤ m → f ≤ 65537 → i ≤ 9 → m ≤ 2897

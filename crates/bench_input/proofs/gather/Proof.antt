@@ -28,7 +28,7 @@ pub gather-spec : {M : Type 1} → statement M
 unfolding readsOn
 gather-spec =
     tie.close (tie.spec Inv-loop μ-loop (λ c. gathered-none _) (λ c κs. search needs)
-        (λ c. (c .before .if1 .left, (came-none _ (c .new .ensures), search needs)))
-        (λ c κs. search needs)
-        (λ c κs. ltb-true 0 _ (both-left _ _ (sym (c .before .before .more .ensures) ∙ c .before .if2 .taken)))
-        (λ c. search needs) loop-again (λ c κs. search needs) (λ c. search needs) returns-2)
+    (λ c. (c .before .if1 .left, (came-none _ (c .new .ensures), search needs)))
+    (λ c κs. search needs)
+    (λ c κs. ltb-true 0 _ (both-left _ _ (sym (c .before .before .more .ensures) ∙ c .before .if2 .taken)))
+    (λ c. search needs) loop-again (λ c κs. search needs) (λ c. search needs) returns-2)

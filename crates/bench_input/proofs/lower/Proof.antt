@@ -17,6 +17,6 @@ returns-2 c =
 pub lower-spec : {M : Type 1} → statement M
 lower-spec =
     tie.close (tie.spec (λ c κs. search needs) (λ c. search needs)
-        (λ c. lowers-not _ _ _ (c .before .number-to .ensures) (c .if1 .taken))
-        (λ c. stands-whole _ _ (c .before .before .number-to .ensures) (c .before .if1 .left) .0)
-        store-requires (λ c. search needs) returns-2)
+    (λ c. lowers-not _ _ _ (c .before .number-to .ensures) (c .if1 .taken))
+    (λ c. stands-whole _ _ (c .before .before .number-to .ensures) (c .before .if1 .left) .0)
+    store-requires (λ c. search needs) returns-2)

@@ -19,5 +19,5 @@ pub more-spec : {M : Type 1} → statement M
 unfolding readsOn
 more-spec =
     tie.close (tie.spec
-        (λ c. no _ _ _ (le-ltb 0 (c .before .before .args .turn .left) (omega arith)) refl)
-        returns-2 (λ c κs. search needs) returns-3)
+    (λ c. no _ _ _ (le-ltb 0 (c .before .before .args .turn .left) (omega arith)) refl)
+    returns-2 (λ c κs. search needs) returns-3)

@@ -14,6 +14,6 @@ pub number-to-spec : {M : Type 1} → statement M
 unfolding numberTo
 number-to-spec =
     tie.close (tie.spec
-        (λ c. yes _ _ _ (lt-ltb _ 8 (c .if1 .taken)) refl)
-        (λ c. no _ _ _ (le-ltb _ 8 (c .before .if1 .left)) (yes _ _ _ (lt-ltb _ _ (c .if2 .taken)) refl))
-        (λ c κs. search needs) returns-3)
+    (λ c. yes _ _ _ (lt-ltb _ 8 (c .if1 .taken)) refl)
+    (λ c. no _ _ _ (le-ltb _ 8 (c .before .if1 .left)) (yes _ _ _ (lt-ltb _ _ (c .if2 .taken)) refl))
+    (λ c κs. search needs) returns-3)

@@ -7,5 +7,5 @@ use Rattle.bench_input.proofs.read_once.Tie as tie
 pub read-once-spec : {M : Type 1} → statement M
 read-once-spec =
     tie.close (tie.spec (λ c κs. search needs) (λ c. search needs) (λ c κs. search needs) (λ c. search needs)
-        (λ c. (feeds-none _, search needs)) (λ c. search needs) (λ c. search needs) (λ c. search needs) (λ c κs. search needs)
-        (λ c. search needs) (λ c. search needs))
+    (λ c. (feeds-none _, search needs)) (λ c. search needs) (λ c. search needs) (λ c. search needs) (λ c κs. search needs)
+    (λ c. search needs) (λ c. search needs))

@@ -55,7 +55,7 @@ pub ids-short : (all : List ℕ) {count : ℕ} → 80 ≤ length all → count �
 unfolding cutShort idsEnd
 ids-short all {count} h e w =
     yes _ _ _ (lt-ltb (length all) (80 + numberAt all 72 * 32 + 8)
-        (omega (arith, div-add-mod' (length all - 80) 32, mod-lt (length all - 80) {m = 32} (omega arith)))) refl
+    (omega (arith, div-add-mod' (length all - 80) 32, mod-lt (length all - 80) {m = 32} (omega arith)))) refl
 
 -- so many ids, and behind them no number
 pub number-short : (all : List ℕ) {count : ℕ} → 80 ≤ length all → count ≡ numberAt all 72 → length all - 80 - count * 32 < 8 → true ≡ cutShort all

@@ -48,7 +48,7 @@ pub rest-is : (d n : ℕ) (input : List ℕ) → n ≡ min d (length input) → 
 rest-is d n input e = by (leb d (length input))
     (λ u. let q : n - 0 ≡ d = omega (arith, leb-true d (length input) u) in ap (λ (k : ℕ). drop k input) q)
     (λ u. drop-of-length-le input {i = n - 0} (omega (arith, leb-false d (length input) u))
-        ∙ sym (drop-of-length-le input {i = d} (omega (arith, leb-false d (length input) u))))
+    ∙ sym (drop-of-length-le input {i = d} (omega (arith, leb-false d (length input) u))))
 
 module _ (h : Host) (bytes disk stage input output : List ℕ) {r : Answer} {st inp out lent rest : List ℕ}
     (l : lent ≡ take (h .program .terms .head .length) input)
@@ -59,7 +59,7 @@ module _ (h : Host) (bytes disk stage input output : List ℕ) {r : Answer} {st 
   given-refused q w =
       ap₂ (λ (x : Outcome) (y : List ℕ). leaves x disk st (inp ++ y) out) q b
       ∙ halts (λ (x : Pieced). x .number) (λ (x : Pieced). ran (x .number) 0 (x .host) disk (x .stage)
-          (x .input ++ drop (h .program .terms .head .length) input) (x .output)) _
+      (x .input ++ drop (h .program .terms .head .length) input) (x .output)) _
       (p ∙ ap (λ (x : List ℕ). piece disk h stage x output bytes) l) w
 
   pub given-closed : {c : Closing} {left : List ℕ} {o : Outcome} → r .number ≡ 0 → closeLeaves c left ≡ ended disk (r .host) st

@@ -23,7 +23,7 @@ module _ (f : ℕ → List ℕ) (h : Host) (i n : ℕ) where
   turn-formed {r} l e w =
       let k : n - i ≡ suc (n - (i + 1)) = omega arith in
       rw (k, add-one i) (sym (no _ _ _ (ap not (eq-eqb _ 0 (sym (ap (λ (a : Made). a .number) e) ∙ w)))
-          (ap (λ (a : Made). formedInTurn (a .host) (tab (suc i) (n - suc i) f)) e)))
+      (ap (λ (a : Made). formedInTurn (a .host) (tab (suc i) (n - suc i) f)) e)))
 
   pub turn-none : n ≤ i → answered 0 h ≡ formedInTurn h (tab i (n - i) f)
   unfolding formedInTurn tab

@@ -16,7 +16,7 @@ returns-2 c =
     let at-fresh = else1 .before .before .before in let at-slice-known2 = at-fresh .before .before .before in
     let at-shared-slice-known2 = at-slice-known2 .before .before .before in let start = at-shared-slice-known2 .before .before in
     let a = start .args in run-unformed _ (a .prices) (a .budget) _ _ _ _ _ _ _ (at-fresh .fresh .ensures) (else1 .if1 .left)
-        (at-form-in-turn .form-in-turn .ensures) (c .refused2 .ensures) (then2 .if2 .taken)
+    (at-form-in-turn .form-in-turn .ensures) (c .refused2 .ensures) (then2 .if2 .taken)
 
 returns-3 : tie.Need-returns-3
 returns-3 c =
@@ -26,9 +26,9 @@ returns-3 c =
     let at-slice-known2 = at-fresh .before .before .before in let at-shared-slice-known2 = at-slice-known2 .before .before .before in
     let start = at-shared-slice-known2 .before .before in
     let a = start .args in run-goes _ (a .prices) (a .budget) _ _ _ _ _ _ _ (at-fresh .fresh .ensures) (else1 .if1 .left)
-        (at-form-in-turn .form-in-turn .ensures) (else2 .if2 .left) (at-begin .begin .ensures)
+    (at-form-in-turn .form-in-turn .ensures) (else2 .if2 .left) (at-begin .begin .ensures)
 
 pub run-spec : {M : Type 1} → statement M
 run-spec =
     tie.close (tie.spec (λ c κs. search needs) (λ c κs. search needs) returns (λ c κs. search needs) (λ c κs. search needs) returns-2
-        (λ c κs. search needs) (λ c. search needs) (λ c. search needs) (λ c. search needs) (λ c. search needs) returns-3)
+    (λ c κs. search needs) (λ c. search needs) (λ c. search needs) (λ c. search needs) (λ c. search needs) returns-3)

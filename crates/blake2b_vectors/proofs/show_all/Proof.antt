@@ -20,6 +20,6 @@ show-all-spec = tie.close (tie.spec
     (λ c. search needs) (λ c κs. search needs) (λ c. search needs) (λ c κs. search needs) (λ c. search needs)
     (λ c κs. search needs)
     (λ c. let back-3 = c .before .before .before in let back-6 = back-3 .before .before .before in let back-8 = back-6 .before .before in
-        sym (length-take-le 66 (back-8 .args .input .now) (omega arith)))
+    sym (length-take-le 66 (back-8 .args .input .now) (omega arith)))
     (λ c. search needs) (λ c. search needs) (λ c. search needs) (λ c κs. search needs) (λ c. search needs)
     (λ c. search needs) (λ c. search needs) (λ c. search needs))

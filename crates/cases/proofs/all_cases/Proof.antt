@@ -16,4 +16,4 @@ abbrev μ-loop : tie.MeasureT-loop
 pub all-cases-spec : {M : Type 1} → statement M
 all-cases-spec =
     tie.close (tie.spec Inv-loop μ-loop (λ c. search needs) (λ c. search needs) (λ c κs. search needs) (λ c κs. search needs)
-        (λ c. search needs) (λ c. search needs) (λ c. search needs) (λ c. search needs))
+    (λ c. search needs) (λ c. search needs) (λ c. search needs) (λ c. search needs))

@@ -18,11 +18,11 @@ copy-between-requires c κs =
 returns-2 : tie.Need-returns-2
 returns-2 c =
     let back-3 = c .before .before .before in let back-6 = back-3 .before .before .before in let back-8 = back-6 .before .before in
-        let back-9 = back-8 .before in
+    let back-9 = back-8 .before in
     let d = done _ (back-8 .root .ensures)
-        (back-6 .enum-told .given .1) in
+    (back-6 .enum-told .given .1) in
     laid _ _ _ _ (back-9 .if1 .left) (d .2) (d .0) (d .1)
-        (c .before .before .copy-between .ensures)
+    (c .before .before .copy-between .ensures)
 
 returns-3 : tie.Need-returns-3
 returns-3 c = no-segments _ _ (refused _ (c .before .before .root .ensures) (c .enum-told2 .given .1))
@@ -30,4 +30,4 @@ returns-3 c = no-segments _ _ (refused _ (c .before .before .root .ensures) (c .
 pub candlebrood-root-spec : {M : Type 1} → statement M
 candlebrood-root-spec =
     tie.close (tie.spec returns (λ c κs. search needs) enum-told (λ c. search needs) copy-between-requires (λ c. search needs)
-        (λ c. search needs) returns-2 returns-3)
+    (λ c. search needs) returns-2 returns-3)

@@ -37,19 +37,19 @@ form-spec = tie.close (tie.spec
     (λ c κs. search needs)
     (λ c. yes _ _ _ (ap not (sym (c .before .in-order .ensures)) ∙ c .if1 .taken) refl)
     (λ c. let one = c .before .before in
-        no _ _ _ (ap not (sym (one .before .in-order .ensures)) ∙ one .if1 .left) (yes _ _ _ (c .if2 .taken) refl))
+    no _ _ _ (ap not (sym (one .before .in-order .ensures)) ∙ one .if1 .left) (yes _ _ _ (c .if2 .taken) refl))
     (λ c κs. search needs)
     (λ c. let two = c .before .before in let one = two .before .before in
-        no _ _ _ (ap not (sym (one .before .in-order .ensures)) ∙ one .if1 .left)
-        (no _ _ _ (two .if2 .left) (yes _ _ _ (sym (c .before .is-read-only .ensures) ∙ c .if3 .taken) refl)))
+    no _ _ _ (ap not (sym (one .before .in-order .ensures)) ∙ one .if1 .left)
+    (no _ _ _ (two .if2 .left) (yes _ _ _ (sym (c .before .is-read-only .ensures) ∙ c .if3 .taken) refl)))
     (λ c κs. search needs) (λ c κs. search needs)
     (λ c. let own = c .before .before in past-5 (own .before .before) _ (yes _ _ _ (sym (c .before .padded .ensures) ∙ c .if4 .taken) refl))
     (λ c. let fifteen = c .before in let own = fifteen .before .before in
-        past-5 (own .before .before) _ (no _ _ _ (sym (fifteen .before .padded .ensures) ∙ fifteen .if4 .left)
-        (yes _ _ _ (ap (λ (p : Place). p .held) (sym (own .place-of .ensures)) ∙ c .if5 .taken) refl)))
+    past-5 (own .before .before) _ (no _ _ _ (sym (fifteen .before .padded .ensures) ∙ fifteen .if4 .left)
+    (yes _ _ _ (ap (λ (p : Place). p .held) (sym (own .place-of .ensures)) ∙ c .if5 .taken) refl)))
     (λ c κs. search needs)
     (λ c. past-6 (c .before .before) _ (yes _ _ _ (ap not (sym (c .before .has-free .ensures)) ∙ c .if6 .taken) refl))
     (λ c κs. search needs)
     (λ c. let eight = c .before in let six = eight .before .before in
-        past-6 six _ (no _ _ _ (ap not (sym (eight .before .has-free .ensures)) ∙ eight .if6 .left)
-        (ap (λ (l : List Place). answered 0 (withPlaces (start (five six) .args .host) l)) (c .formed-at .ensures)))))
+    past-6 six _ (no _ _ _ (ap not (sym (eight .before .has-free .ensures)) ∙ eight .if6 .left)
+    (ap (λ (l : List Place). answered 0 (withPlaces (start (five six) .args .host) l)) (c .formed-at .ensures)))))

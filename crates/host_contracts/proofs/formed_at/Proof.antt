@@ -26,7 +26,7 @@ formed-at-spec = tie.close (tie.spec
     (λ c. search needs) (λ c. search needs) (λ c κs. tt) (λ c. search needs) (λ c. search needs) returns
     (λ c. search needs) (λ c. search needs)
     (λ c. let back-3 = c .before .before .before in let back-4 = back-3 .before in let back-5 = back-4 .before in let l = back-4 .loop in
-        let s = back-5 in
-        l .inv ∙ formed-further (s .args .id) (s .args .t1) (l .i) 8 (s .good .0 .1 .0 .1) blank (omega arith) (not-false _ (c .if1 .left)))
+    let s = back-5 in
+    l .inv ∙ formed-further (s .args .id) (s .args .t1) (l .i) 8 (s .good .0 .1 .0 .1) blank (omega arith) (not-false _ (c .if1 .left)))
     (λ c. let s = c .before .before in
-        formed-done (s .args .id) (s .args .t1) (c .before .loop .i) 8 (s .good .0 .1 .0 .1) (omega arith) ∙ sym (c .before .loop .inv)))
+    formed-done (s .args .id) (s .args .t1) (c .before .loop .i) 8 (s .good .0 .1 .0 .1) (omega arith) ∙ sym (c .before .loop .inv)))

@@ -57,7 +57,7 @@ fresh-spec = tie.close (tie.spec
     (λ c. yes _ _ _ (ap not (sym (c .before .before .is-size .ensures)) ∙ c .before .if1 .taken) (c .unmade .ensures))
     (λ c κs. positive c) (λ c κs. search needs)
     (λ c. let at = c .before .before in
-        no _ _ _ (sized (at .before))
-        (yes _ _ _ (ap not (sym (at .length-right .ensures)) ∙ c .before .if2 .taken) (c .unmade2 .ensures)))
+    no _ _ _ (sized (at .before))
+    (yes _ _ _ (ap not (sym (at .length-right .ensures)) ∙ c .before .if2 .taken) (c .unmade2 .ensures)))
     (λ c κs. positive (one c)) (λ c κs. search needs) returns-3 (λ c. positive (one (two c)))
     (λ c. positive (one (two c))) (λ c κs. search needs) returns-4)

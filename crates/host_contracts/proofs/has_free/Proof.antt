@@ -32,4 +32,4 @@ has-free-spec = tie.close (tie.spec
     (λ c. ap (some (λ (p : Place). not (p .held))) (sym (slice-all (c .args .t1) (c .good .0 .1 .0 .1))))
     (λ c. search needs) (λ c. search needs) returns (λ c. search needs) (λ c. search needs) loop-again
     (λ c. let s = c .before .before in
-        some-done (λ (p : Place). not (p .held)) (s .args .t1) (c .before .loop .i) 8 (omega arith) ∙ sym (c .before .loop .inv)))
+    some-done (λ (p : Place). not (p .held)) (s .args .t1) (c .before .loop .i) 8 (omega arith) ∙ sym (c .before .loop .inv)))

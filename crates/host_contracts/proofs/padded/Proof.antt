@@ -23,10 +23,10 @@ padded-spec = tie.close (tie.spec
     (λ c. ap (λ (l : List ℕ). every isZero (drop 4 l)) (sym (slice-all (c .args .t1) (c .good .0 .1 .0 .1))))
     (λ c. search needs)
     (λ c. let l = c .before .before .loop in
-        let s = c .before .before .before in
-        every-stops isZero (s .args .t1) (l .i) 32 0 (s .good .0 .1 .0 .1) (omega arith) (omega arith) (ne-eqb _ 0 (c .if1 .taken)) ∙ sym (l .inv))
+    let s = c .before .before .before in
+    every-stops isZero (s .args .t1) (l .i) 32 0 (s .good .0 .1 .0 .1) (omega arith) (omega arith) (ne-eqb _ 0 (c .if1 .taken)) ∙ sym (l .inv))
     (λ c. search needs) (λ c. search needs)
     (λ c. let l = c .before .before .loop in
-        let s = c .before .before .before in
-        l .inv ∙ every-further isZero (s .args .t1) (l .i) 32 0 (s .good .0 .1 .0 .1) (omega arith) (omega arith) (eq-eqb _ 0 (c .if1 .left)))
+    let s = c .before .before .before in
+    l .inv ∙ every-further isZero (s .args .t1) (l .i) 32 0 (s .good .0 .1 .0 .1) (omega arith) (omega arith) (eq-eqb _ 0 (c .if1 .left)))
     (λ c. let s = c .before .before in every-done isZero (s .args .t1) (c .before .loop .i) 32 (omega arith) ∙ sym (c .before .loop .inv)))

@@ -12,5 +12,5 @@ are-twins-spec = tie.close (tie.spec
     (λ c. let at-if1 = c .before .before in yes _ _ _ (not-false _ (at-if1 .if1 .left)) (no _ _ _ (not-true _ (c .if2 .taken)) refl))
     (λ c κs. search needs)
     (λ c. let at-if2 = c .before .before .before in
-        let at-if1 = at-if2 .before .before in
-        yes _ _ _ (not-false _ (at-if1 .if1 .left)) (yes _ _ _ (not-false _ (at-if2 .if2 .left)) (c .same-id .ensures))))
+    let at-if1 = at-if2 .before .before in
+    yes _ _ _ (not-false _ (at-if1 .if1 .left)) (yes _ _ _ (not-false _ (at-if2 .if2 .left)) (c .same-id .ensures))))

@@ -37,4 +37,4 @@ each-in-order-spec = tie.close (tie.spec
     (λ c. search needs) (λ c. search needs) (λ c κs. search needs) returns (λ c. search needs) (λ c. search needs)
     loop-again
     (λ c. let s = c .before .before in
-        every-done (placeInOrder (s .args .z)) (s .args .t2) (c .before .loop .i) 8 (omega arith) ∙ sym (c .before .loop .inv)))
+    every-done (placeInOrder (s .args .z)) (s .args .t2) (c .before .loop .i) 8 (omega arith) ∙ sym (c .before .loop .inv)))

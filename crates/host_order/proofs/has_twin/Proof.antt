@@ -19,14 +19,14 @@ returns c =
     let in-loop = c .before .before .before in let at-loop = in-loop .before in let s = at-loop .before in
     let l = at-loop .loop in
     some-here (twins _) (s .args .t1) (l .i) 8 blank (s .good .0 .1 .0 .1) (omega arith) (omega arith)
-        (sym (c .before .are-twins .ensures) ∙ c .if1 .taken) ∙ sym (l .inv)
+    (sym (c .before .are-twins .ensures) ∙ c .if1 .taken) ∙ sym (l .inv)
 
 loop-again : tie.Need-loop-again Inv-loop μ-loop
 loop-again c =
     let in-loop = c .before .before .before in let at-loop = in-loop .before in let s = at-loop .before in
     let l = at-loop .loop in
     l .inv ∙ some-further (twins _) (s .args .t1) (l .i) 8 blank (s .good .0 .1 .0 .1) (omega arith) (omega arith)
-        (sym (c .before .are-twins .ensures) ∙ c .if1 .left)
+    (sym (c .before .are-twins .ensures) ∙ c .if1 .left)
 
 pub has-twin-spec : {M : Type 1} → statement M
 has-twin-spec = tie.close (tie.spec

@@ -47,13 +47,13 @@ in-order-spec = tie.close (tie.spec
     (λ c. past-1 (c .before .before) _ (off _ _ (c .before .lent .ensures) (c .if2 .taken)))
     (λ c κs. search needs)
     (λ c. let at = c .before .before in
-        past-1 (one at) _ (on _ _ (at .before .lent .ensures) (at .if2 .left) (off _ _ (c .before .lent2 .ensures) (c .if3 .taken))))
+    past-1 (one at) _ (on _ _ (at .before .lent .ensures) (at .if2 .left) (off _ _ (c .before .lent2 .ensures) (c .if3 .taken))))
     (λ c κs. some _ (size (one (two c))))
     (λ c. past-3 (c .before .before) _ (off _ _ (c .before .places-in-order .ensures) (c .if4 .taken)))
     (λ c. let at = c .before .before in
-        past-3 (three at) _ (on _ _ (at .before .places-in-order .ensures) (at .if4 .left) (yes _ _ _ (c .if5 .taken) refl)))
+    past-3 (three at) _ (on _ _ (at .before .places-in-order .ensures) (at .if4 .left) (yes _ _ _ (c .if5 .taken) refl)))
     (λ c κs. let at = two (three (c .before .before)) in
-        (size (one at), lent-facts 64 _ (sym (at .before .lent .ensures) ∙ not-false _ (at .if2 .left)) .1))
+    (size (one at), lent-facts 64 _ (sym (at .before .lent .ensures) ∙ not-false _ (at .if2 .left)) .1))
     (λ c. let at = c .before .before .before in
-        past-3 (three at) _ (on _ _ (at .before .places-in-order .ensures) (at .if4 .left)
-        (no _ _ _ (c .before .if5 .left) (c .program-in-order .ensures)))))
+    past-3 (three at) _ (on _ _ (at .before .places-in-order .ensures) (at .if4 .left)
+    (no _ _ _ (c .before .if5 .left) (c .program-in-order .ensures)))))

@@ -13,4 +13,4 @@ parent-in-order-spec = tie.close (tie.spec
     (λ c. yes _ _ _ (sym (c .before .is-read-only .ensures) ∙ c .if1 .taken) refl)
     (λ c κs. search needs)
     (λ c. let at-is-read-only = c .before .before in
-        no _ _ _ (sym (at-is-read-only .is-read-only .ensures) ∙ c .before .if1 .left) (ap (λ (p : Place). p .held) (c .place-of .ensures))))
+    no _ _ _ (sym (at-is-read-only .is-read-only .ensures) ∙ c .before .if1 .left) (ap (λ (p : Place). p .held) (c .place-of .ensures))))

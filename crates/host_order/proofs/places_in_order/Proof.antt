@@ -13,15 +13,15 @@ places-in-order-spec = tie.close (tie.spec
     (λ c. off _ _ (c .before .each-in-order .ensures) (c .if1 .taken))
     (λ c κs. search needs)
     (λ c. let one = c .before .before in
-        on _ _ (one .before .each-in-order .ensures) (one .if1 .left) (off _ _ (c .before .no-twins .ensures) (c .if2 .taken)))
+    on _ _ (one .before .each-in-order .ensures) (one .if1 .left) (off _ _ (c .before .no-twins .ensures) (c .if2 .taken)))
     (λ c κs. search needs) (λ c κs. search needs)
     (λ c. let slots = c .before .before .before in let two = slots .before in let one = two .before .before in
-        on _ _ (one .before .each-in-order .ensures) (one .if1 .left)
-        (on _ _ (two .before .no-twins .ensures) (two .if2 .left)
-        (off _ _ (c .before .distinct .ensures ∙ ap (apart eqb) (slots .slots-taken .ensures .0)) (c .if3 .taken))))
+    on _ _ (one .before .each-in-order .ensures) (one .if1 .left)
+    (on _ _ (two .before .no-twins .ensures) (two .if2 .left)
+    (off _ _ (c .before .distinct .ensures ∙ ap (apart eqb) (slots .slots-taken .ensures .0)) (c .if3 .taken))))
     (λ c κs. search needs)
     (λ c. let three = c .before in let slots = three .before .before .before in let two = slots .before in let one = two .before .before in
-        on _ _ (one .before .each-in-order .ensures) (one .if1 .left)
-        (on _ _ (two .before .no-twins .ensures) (two .if2 .left)
-        (on _ _ (three .before .distinct .ensures ∙ ap (apart eqb) (slots .slots-taken .ensures .0)) (three .if3 .left)
-        (c .below .ensures ∙ ap (every (λ n. ltb n (one .before .before .args .disk))) (slots .slots-taken .ensures .0))))))
+    on _ _ (one .before .each-in-order .ensures) (one .if1 .left)
+    (on _ _ (two .before .no-twins .ensures) (two .if2 .left)
+    (on _ _ (three .before .distinct .ensures ∙ ap (apart eqb) (slots .slots-taken .ensures .0)) (three .if3 .left)
+    (c .below .ensures ∙ ap (every (λ n. ltb n (one .before .before .args .disk))) (slots .slots-taken .ensures .0))))))

@@ -25,7 +25,7 @@ start c = start-2 (two (c .before .before))
 -- past the third test the first three clauses hold, and the rest decides
 counted : (c : tie.Else3) (rest : Bool) {r : Bool} → let a = start-2 (two c) .args in r ≡ rest
     → r ≡ both (leb (a .p .ran) (a .t .head .count)) (both (leb (a .p .tally) (a .t .budget))
-        (both (leb (a .p .written + pick (a .p .failed) 0 72) (a .t .room)) rest))
+    (both (leb (a .p .written + pick (a .p .failed) 0 72) (a .t .room)) rest))
 counted c rest e =
     let a = start-2 (two c) .args in
     yes _ _ _ (le-leb _ _ (one (two c) .if1 .left)) (yes _ _ _ (le-leb _ _ (two c .if2 .left))
@@ -38,18 +38,18 @@ progress-in-order-spec = tie.close (tie.spec
     (λ c. yes _ _ _ (le-leb _ _ (c .before .before .before .if1 .left)) (no _ _ _ (lt-leb _ _ (c .if2 .taken)) refl))
     (λ c κs. search needs) (λ c κs. search needs)
     (λ c. let owed = c .before .before in let at = owed .before in let a = start-2 at .args in
-        yes _ _ _ (le-leb _ _ (one at .if1 .left)) (yes _ _ _ (le-leb _ _ (at .if2 .left))
-        (off _ _ (c .before .sum-fits .ensures ∙ ap (λ (n : ℕ). leb (a .p .written + n) (a .t .room)) (owed .owed .ensures)) (c .if3 .taken))))
+    yes _ _ _ (le-leb _ _ (one at .if1 .left)) (yes _ _ _ (le-leb _ _ (at .if2 .left))
+    (off _ _ (c .before .sum-fits .ensures ∙ ap (λ (n : ℕ). leb (a .p .written + n) (a .t .room)) (owed .owed .ensures)) (c .if3 .taken))))
     (λ c. some _ (start-2 (two (c .before)) .pre .0))
     (λ c. counted (c .before .before) _ (no _ _ _ (ne-eqb _ _ (c .if4 .taken)) refl))
     (λ c. omega (arith, mul-le-mul (start c .pre .1) (start c .pre .0 .most)))
     (λ c κs. search needs)
     (λ c. let four = c .before .before in
-        counted (four .before .before) _ (yes _ _ _ (eq-eqb _ _ (four .if4 .left)) (off _ _ (c .before .sizes-fit .ensures) (c .if5 .taken))))
+    counted (four .before .before) _ (yes _ _ _ (eq-eqb _ _ (four .if4 .left)) (off _ _ (c .before .sizes-fit .ensures) (c .if5 .taken))))
     (λ c κs. search needs)
     (λ c. let five = c .before .before .before in some _ (start (five .before .before) .pre .0))
     (λ c κs. let five = c .before .before .before in some _ (start (five .before .before) .pre .0))
     (λ c. let place = c .before .before .before in let five = place .before in let four = five .before .before in let a = start four .args in
-        counted (four .before .before) _ (yes _ _ _ (eq-eqb _ _ (four .if4 .left)) (on _ _ (five .before .sizes-fit .ensures) (five .if5 .left)
-        (c .staged-in-order .ensures
-            ∙ ap (λ (w : Place). stagedInOrder (a .stage) (w .size / a .z) (a .p .size / a .z) (a .p .staged)) (place .place-of .ensures))))))
+    counted (four .before .before) _ (yes _ _ _ (eq-eqb _ _ (four .if4 .left)) (on _ _ (five .before .sizes-fit .ensures) (five .if5 .left)
+    (c .staged-in-order .ensures
+    ∙ ap (λ (w : Place). stagedInOrder (a .stage) (w .size / a .z) (a .p .size / a .z) (a .p .staged)) (place .place-of .ensures))))))

@@ -13,10 +13,10 @@ terms-in-order-spec = tie.close (tie.spec
     (λ c. off _ _ (c .before .parent-in-order .ensures) (c .if1 .taken))
     (λ c κs. search needs)
     (λ c. let one = c .before .before in
-        on _ _ (one .before .parent-in-order .ensures) (one .if1 .left) (off _ _ (c .before .within .ensures) (c .if2 .taken)))
+    on _ _ (one .before .parent-in-order .ensures) (one .if1 .left) (off _ _ (c .before .within .ensures) (c .if2 .taken)))
     (λ c. let two = c .before .before in let one = two .before .before in
-        on _ _ (one .before .parent-in-order .ensures) (one .if1 .left)
-        (on _ _ (two .before .within .ensures) (two .if2 .left) (no _ _ _ (lt-leb _ _ (c .if3 .taken)) refl)))
+    on _ _ (one .before .parent-in-order .ensures) (one .if1 .left)
+    (on _ _ (two .before .within .ensures) (two .if2 .left) (no _ _ _ (lt-leb _ _ (c .if3 .taken)) refl)))
     (λ c. let three = c .before in let two = three .before .before in let one = two .before .before in
-        on _ _ (one .before .parent-in-order .ensures) (one .if1 .left)
-        (on _ _ (two .before .within .ensures) (two .if2 .left) (yes _ _ _ (le-leb _ _ (three .if3 .left)) refl))))
+    on _ _ (one .before .parent-in-order .ensures) (one .if1 .left)
+    (on _ _ (two .before .within .ensures) (two .if2 .left) (yes _ _ _ (le-leb _ _ (three .if3 .left)) refl))))

@@ -26,7 +26,7 @@ apart-out e [] (y ∷ r) m h = apart-out e [] r m (tail-apart e y (r ++ m) h .1)
 apart-out e (x ∷ l) r m h =
     let t = tail-apart e x (l ++ (r ++ m)) h in
     join-apart e x (l ++ m) (some-and (e x) l m (some-fore (e x) l (r ++ m) (t .0)) (some-aft (e x) r m (some-aft (e x) l (r ++ m) (t .0))))
-        (apart-out e l r m (t .1))
+    (apart-out e l r m (t .1))
 
 -- ---- numbers, no two alike
 
@@ -64,7 +64,7 @@ apart-in (x ∷ l) n m h a u =
     let t = tail-apart eqb x (l ++ m) h in
     let r = unused-head x (l ++ m) n u in
     join-apart eqb x (l ++ (n ++ m)) (some-and (eqb x) l (n ++ m) (some-fore (eqb x) l m (t .0))
-        (some-and (eqb x) n m (r .0) (some-aft (eqb x) l m (t .0)))) (apart-in l n m (t .1) a (r .1))
+    (some-and (eqb x) n m (r .0) (some-aft (eqb x) l m (t .0)))) (apart-in l n m (t .1) a (r .1))
 
 pub fore-unused : (l m r : List ℕ) → apart eqb (l ++ (m ++ r)) ≡ true → every (unused m) l ≡ true
 unfolding every
@@ -79,7 +79,7 @@ unfolding every some
 unused-more y m [] h k = refl
 unused-more y m (n ∷ r) h k =
     both-join _ _ (ap not (either-join _ _ (eqb-swap y n (either-left _ _ h)) (not-true _ (both-left _ _ k))))
-        (unused-more y m r (either-right _ _ h) (both-right _ _ k))
+    (unused-more y m r (either-right _ _ h) (both-right _ _ k))
 
 all-unused : (r : List ℕ) → every (unused []) r ≡ true
 unfolding every some

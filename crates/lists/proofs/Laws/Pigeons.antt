@@ -65,7 +65,7 @@ every-those n [] h = refl
 every-those n (x ∷ xs) h =
     by (eqb x n)
     (λ e. ap (λ (l : List ℕ). every (λ y. ltb y n) l) (skips (not (eqb x n)) (x ∷ those (other n) xs) (those (other n) xs) (ap not e))
-        ∙ every-those n xs (both-right _ _ h))
+    ∙ every-those n xs (both-right _ _ h))
     (λ e. ap (λ (l : List ℕ). every (λ y. ltb y n) l) (picks (not (eqb x n)) (x ∷ those (other n) xs) (those (other n) xs) (ap not e))
     ∙ both-join _ _ (lt-ltb x n (omega (arith, ltb-true x (suc n) (both-left _ _ h), eqb-false x n e))) (every-those n xs (both-right _ _ h)))
 

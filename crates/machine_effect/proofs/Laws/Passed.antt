@@ -78,7 +78,7 @@ module _ (z : ℕ) (s : Setting) (p : Progress) (bytes : List ℕ) (good : Good 
   spans one two n h k free =
       let g : Staging = staging (p .staged) bytes in
       let both = asks-two (s .copies) (two / z) (one / z) (p .staged) (solid .lent .few)
-          (omega (arith, lies two (span-in z (p .size) two n k) .entry, good .entries)) free in
+      (omega (arith, lies two (span-in z (p .size) two n k) .entry, good .entries)) free in
       let second = over two n k (both .0) in
       let map = copied-map z (groundOf s) (two / z) g in
       record {

@@ -59,8 +59,8 @@ pub effect-spec : {M : Type 1} → statement M
 unfolding effect
 effect-spec =
     tie.close (tie.spec (λ c. search needs) (λ c. search needs) (λ c. search needs) write-requires (λ c. search needs) copy-requires
-        (λ c. search needs) swap-requires (λ c. search needs) resized-requires (λ c. search needs)
-        (λ c. arm _ _ _ _ _ _ (c .enum-told .given .1) refl)
-        (λ c. arm _ _ _ _ _ _ (c .enum-told2 .given .1) refl)
-        (λ c. search needs) returns-3 (λ c. search needs) returns-4 (λ c. search needs) returns-5 (λ c. search needs) returns-6
-        (λ c. arm _ _ _ _ _ _ (c .enum-told7 .given .1) refl))
+    (λ c. search needs) swap-requires (λ c. search needs) resized-requires (λ c. search needs)
+    (λ c. arm _ _ _ _ _ _ (c .enum-told .given .1) refl)
+    (λ c. arm _ _ _ _ _ _ (c .enum-told2 .given .1) refl)
+    (λ c. search needs) returns-3 (λ c. search needs) returns-4 (λ c. search needs) returns-5 (λ c. search needs) returns-6
+    (λ c. arm _ _ _ _ _ _ (c .enum-told7 .given .1) refl))

@@ -45,7 +45,7 @@ plan-same z s f p i area =
     let l = inputsOf i area in
     let a = argsOf op l in
     ap (λ (from : Source). says
-        (pick (illFormed i) (refused 21) (pick (pastEnd (s .terms .head .length) i) (refused 22) (pick (not (wellFormed op l)) (refused 23)
+    (pick (illFormed i) (refused 21) (pick (pastEnd (s .terms .head .length) i) (refused 22) (pick (not (wellFormed op l)) (refused 23)
     (pick (both (changes op) (readOnlyMode (s .terms))) (refused 24) (pick (not (isThere from)) (refused 25)
     (weighed z s p (i .proof) (length (spots from)) op a)))))) op a (fromOf op i) (spots from))
     (sym (source-same z (setting (s .sectors) (s .copies) (s .places) (s .terms) [] []) f p op (a .key)) ∙ source-same z s f p op (a .key))
@@ -76,7 +76,7 @@ pub argued-is : (z : ℕ) (s : Setting) (f : Spot → List ℕ) (p : Progress) (
 unfolding argued planOf planned plannedInputs
 argued-is z s f p i area formed within told =
     ap (λ (w : Plan). says w (opOf (i .name)) (argsOf (opOf (i .name)) (inputsOf i area)) (fromOf (opOf (i .name)) i)
-        (spots (sourceOf z s f p (opOf (i .name)) (argsOf (opOf (i .name)) (inputsOf i area) .key))))
+    (spots (sourceOf z s f p (opOf (i .name)) (argsOf (opOf (i .name)) (inputsOf i area) .key))))
     (no _ _ _ formed (no _ _ _ within (no _ _ _ (ap not told) refl)))
 
 -- a check that applies

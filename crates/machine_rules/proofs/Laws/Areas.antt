@@ -61,10 +61,13 @@ unfolding stepped succeeding failing
 stepped-alike z s i l t =
     by (eqb (judged z s (rootAt z s t) (t .progress) i l) 0)
     (λ e. subst (λ (x : Turn). Alike x t) (sym (picks (eqb (judged z s (rootAt z s t) (t .progress) i l) 0) _ _ e))
-    (record { stage = effect-bytes z (groundOf s) (t .progress .size) (opOf (i .name)) (argsOf (opOf (i .name)) l) (dataIn l) _;
-        output = length-put (t .output) _ _; roots = rehashed-length z _ _ (t .roots) }))
+    (record {
+      stage = effect-bytes z (groundOf s) (t .progress .size) (opOf (i .name)) (argsOf (opOf (i .name)) l) (dataIn l) _;
+      output = length-put (t .output) _ _;
+      roots = rehashed-length z _ _ (t .roots);
+    }))
     (λ e. subst (λ (x : Turn). Alike x t) (sym (skips (eqb (judged z s (rootAt z s t) (t .progress) i l) 0) _ _ e))
-        (record { stage = refl; output = length-put (t .output) _ _; roots = refl }))
+    (record { stage = refl; output = length-put (t .output) _ _; roots = refl }))
 
 pub runs-alike : (z : ℕ) (s : Setting) (a : List ℕ) (k n : ℕ) (t : Turn) → Alike (runs z s a k n t) t
 unfolding runs step
@@ -73,5 +76,5 @@ runs-alike z s a k (suc n) t =
     by (ready s k t)
     (λ r. let u = stepped-alike z s (current s t) (inputsOf (current s t) a) t in let v = runs-alike z s a k n (step z s a t) in
     subst (λ (x : Turn). Alike x t) (sym (runs-go z s a k n t r))
-        (record { stage = v .stage ∙ u .stage; output = v .output ∙ u .output; roots = v .roots ∙ u .roots }))
+    (record { stage = v .stage ∙ u .stage; output = v .output ∙ u .output; roots = v .roots ∙ u .roots }))
     (λ r. subst (λ (x : Turn). Alike x t) (sym (runs-stop z s a k (suc n) t r)) (record { stage = refl; output = refl; roots = refl }))

@@ -60,13 +60,19 @@ passed-inputs z s f p i op l e =
     let c40 = passes _ 39 _ (c28 .1) in
     let c41 = passes _ 40 _ (c40 .1) in
     let c42 = passes _ 41 _ (c41 .1) in
-    record { allowed = c24 .0; spans = c26 .0; paid = ltb-false _ _ (c28 .0); free = ltb-false _ _ (c40 .0); fits = ltb-false _ _ (c41 .0);
-        room = ltb-false _ _ (c42 .0) }
+    record {
+      allowed = c24 .0;
+      spans = c26 .0;
+      paid = ltb-false _ _ (c28 .0);
+      free = ltb-false _ _ (c40 .0);
+      fits = ltb-false _ _ (c41 .0);
+      room = ltb-false _ _ (c42 .0);
+    }
 
 pub passed : (z : ℕ) (s : Setting) (f : Spot → List ℕ) (p : Progress) (i : Instruction) (l : List (List ℕ)) → judged z s f p i l ≡ 0
     → Passed z s f p (opOf (i .name)) (argsOf (opOf (i .name)) l)
-        (recordCount z (i .proof) (length (spots (sourceOf z s f p (opOf (i .name)) (argsOf (opOf (i .name)) l .key)))) (opOf (i .name))
-            (argsOf (opOf (i .name)) l))
+    (recordCount z (i .proof) (length (spots (sourceOf z s f p (opOf (i .name)) (argsOf (opOf (i .name)) l .key)))) (opOf (i .name))
+    (argsOf (opOf (i .name)) l))
 unfolding judged planned
 passed z s f p i l e = passed-inputs z s f p i (opOf (i .name)) l (passes _ 21 _ (passes _ 20 _ e .1) .1)
 
@@ -160,10 +166,10 @@ unfolding copiedMap asks
 copied-kept copies start now at staged few lt h f =
     by (eqb (getD staged at none) none)
     (λ e. subst (λ (x : List ℕ). Staged copies start now x)
-        (sym (picks (eqb (getD staged at none) none) (set staged at (lowest (unused staged) 0 copies)) staged e))
+    (sym (picks (eqb (getD staged at none) none) (set staged at (lowest (unused staged) 0 copies)) staged e))
     (copy-kept copies start few now at _ staged lt (free-slot copies staged (omega (arith, picks {A = ℕ} (eqb (getD staged at none) none) 1 0 e))) f))
     (λ e. subst (λ (x : List ℕ). Staged copies start now x)
-        (sym (skips (eqb (getD staged at none) none) (set staged at (lowest (unused staged) 0 copies)) staged e)) f)
+    (sym (skips (eqb (getD staged at none) none) (set staged at (lowest (unused staged) 0 copies)) staged e)) f)
 
 -- what two positions ask for, one after the other
 pub asks-some : (staged : List ℕ) (at : ℕ) → eqb (getD staged at none) none ≡ true → asks staged at ≡ 1
@@ -207,7 +213,7 @@ asks-two copies at to staged few lt h =
           let g : getD (set staged at (lowest (unused staged) 0 copies)) to none ≡ lowest (unused staged) 0 copies =
           ap (λ (x : ℕ). getD (set staged at (lowest (unused staged) 0 copies)) x none) q ∙ getD-set-same staged at (lowest (unused staged) 0 copies) none lt in
           let k : eqb (getD (set staged at (lowest (unused staged) 0 copies)) to none) none ≡ false =
-              ne-eqb (getD (set staged at (lowest (unused staged) 0 copies)) to none) none (λ x. omega (arith, g, fr .below)) in
+          ne-eqb (getD (set staged at (lowest (unused staged) 0 copies)) to none) none (λ x. omega (arith, g, fr .below)) in
           omega (arith, asks-none (set staged at (lowest (unused staged) 0 copies)) to k))
           (λ e. omega (
             arith,
@@ -222,7 +228,7 @@ asks-two copies at to staged few lt h =
           (λ u. rw (copied-old copies at staged u)
           (by (eqb to at)
           (λ e. let q = eqb-true to at e in let k : asks staged to ≡ asks staged at = ap (λ (x : ℕ). asks staged x) q in
-              omega (arith, k, asks-none staged at u))
+          omega (arith, k, asks-none staged at u))
           (λ e. omega (arith, h, skips (eqb to at) (asks staged at) (asks staged at + asks staged to) e)))),
     )
 
@@ -365,23 +371,27 @@ module _ (z : ℕ) (s : Setting) (p : Progress) (start : ℕ) (pos : 0 < z) (few
   effect-kept Write a d n q =
       subst (λ (m : List ℕ). Staged (s .copies) start (p .size / z) m) (sym (written-map z (groundOf s) (a .first) _ _))
       (one-kept z s p start pos few whole f (a .first) (span-in z (p .size) (a .first) (a .len) (q .spans))
-          (omega (arith, q .free, wanted-one (p .staged) (a .first / z))))
+      (omega (arith, q .free, wanted-one (p .staged) (a .first / z))))
   effect-kept Copy a d n q =
       subst (λ (m : List ℕ). Staged (s .copies) start (p .size / z) m) (sym (written-map z (groundOf s) (a .first) _ _))
       (one-kept z s p start pos few whole f (a .first) (span-in z (p .size) (a .first) (a .len) (either-left _ _ (q .spans)))
-          (omega (arith, q .free, wanted-one (p .staged) (a .first / z))))
+      (omega (arith, q .free, wanted-one (p .staged) (a .first / z))))
   effect-kept Swap a d n q =
       subst (λ (m : List ℕ). Staged (s .copies) start (p .size / z) m)
-          (sym (written-map z (groundOf s) (a .first) _ _ ∙ ap (λ (m : List ℕ). copiedMap (s .copies) (a .first / z) m)
-          (written-map z (groundOf s) (a .second) _ _)))
+      (sym (written-map z (groundOf s) (a .first) _ _ ∙ ap (λ (m : List ℕ). copiedMap (s .copies) (a .first / z) m)
+      (written-map z (groundOf s) (a .second) _ _)))
       (two-kept z s p start pos few whole f (a .second) (a .first) (span-in z (p .size) (a .second) (a .len) (either-right _ _ (q .spans)))
-          (span-in z (p .size) (a .first) (a .len) (either-left _ _ (q .spans))) under
+      (span-in z (p .size) (a .first) (a .len) (either-left _ _ (q .spans))) under
       (subst (λ (x : ℕ). x ≤ freeCopies s p) (swap-asks (eqb (a .first / z) (a .second / z)) (p .staged) (a .second / z) (a .first / z)) (q .free)))
   effect-kept Truncate a d n q =
       resized-kept z s p start (a .first) bytes pos few whole f (sized z (p .size) (a .first) (q .spans))
-          (le-trans (omega (arith, q .fits)) (mul-le-mul-right {m = s .sectors} {n = length (p .staged)} z most))
-      (λ e. omega (arith, q .free, wanted-one (p .staged) (p .size / z),
-          ap (λ (l : List ℕ). length (those (λ n. eqb (getD (p .staged) n none) none) l)) (picks (ltb (p .size) (a .first)) (p .size / z ∷ []) [] e)))
+      (le-trans (omega (arith, q .fits)) (mul-le-mul-right {m = s .sectors} {n = length (p .staged)} z most))
+      (λ e. omega (
+        arith,
+        q .free,
+        wanted-one (p .staged) (p .size / z),
+        ap (λ (l : List ℕ). length (those (λ n. eqb (getD (p .staged) n none) none) l)) (picks (ltb (p .size) (a .first)) (p .size / z ∷ []) [] e),
+      ))
   effect-kept Unknown a d n q = f
 
 pub effect-length : (z : ℕ) (n : Ground) (size : ℕ) (op : Op) (a : Args) (d : List ℕ) (g : Staging) → length (effect z n size op a d g .staged)

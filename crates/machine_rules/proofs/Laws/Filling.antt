@@ -36,7 +36,7 @@ module _ (z : ℕ) (stage staged slots : List ℕ) where
       by (eqb (getD staged i none) none)
       (λ e. ap (λ (d : List ℕ). part d (m * z) z) (picks (eqb (getD staged i none) none) disk _ e))
       (λ e. ap (λ (d : List ℕ). part d (m * z) z) (skips (eqb (getD staged i none) none) disk _ e)
-          ∙ other-slot z disk (getD slots i 0) m _ (few-part stage _ z) (ne e))
+      ∙ other-slot z disk (getD slots i 0) m _ (few-part stage _ z) (ne e))
 
   -- what position j's slot holds in the end
   unfoldable pub held : ℕ → List ℕ → List ℕ
@@ -53,10 +53,10 @@ module _ (z : ℕ) (stage staged slots : List ℕ) where
   back-own i disk room full =
       by (eqb (getD staged i none) none)
       (λ e. ap (λ (d : List ℕ). part d (getD slots i 0 * z) z) (picks (eqb (getD staged i none) none) disk _ e)
-          ∙ sym (picks (eqb (getD staged i none) none) _ _ e))
+      ∙ sym (picks (eqb (getD staged i none) none) _ _ e))
       (λ e. ap (λ (d : List ℕ). part d (getD slots i 0 * z) z) (skips (eqb (getD staged i none) none) disk _ e)
       ∙ part-put disk (getD slots i 0 * z) (part stage (getD staged i none * z) z) z (sym (full e)) (omega (arith, full e))
-          ∙ sym (skips (eqb (getD staged i none) none) _ _ e))
+      ∙ sym (skips (eqb (getD staged i none) none) _ _ e))
 
   -- ---- all of them
 
@@ -81,7 +81,7 @@ module _ (z : ℕ) (stage staged slots : List ℕ) where
       by (ltb i j)
       (λ e. let lt = ltb-true i j e in
       filling-inside (suc i) n (back i disk) (λ j k lo lt hi. own j k (omega arith) lt (omega arith)) j (omega arith) (omega arith)
-          (omega (arith, back-length i disk)) full
+      (omega (arith, back-length i disk)) full
       ∙ held-alike j (back i disk) disk (back-other (getD slots j 0) i disk (λ u. own i j (omega arith) lt (omega arith))))
       (λ e. let q : i ≡ j = omega (arith, ltb-false i j e) in
       filling-outside (getD slots j 0) (suc i) n (back i disk) (λ k low high u v. own j k (omega arith) (omega arith) (omega arith) (sym v))

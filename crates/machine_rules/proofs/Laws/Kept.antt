@@ -40,8 +40,14 @@ unfolding failedProgress
 failed-good z s p e g =
     let o = g .orderly in
     record {
-      orderly = record { ran = o .ran; paid = o .paid; fits = omega (arith, o .fits, skips {A = ℕ} (p .failed) 0 72 e, picks {A = ℕ} true 0 72 refl);
-          whole = o .whole; within = o .within; staged = o .staged };
+      orderly = record {
+        ran = o .ran;
+        paid = o .paid;
+        fits = omega (arith, o .fits, skips {A = ℕ} (p .failed) 0 72 e, picks {A = ℕ} true 0 72 refl);
+        whole = o .whole;
+        within = o .within;
+        staged = o .staged;
+      };
       terms = terms-size (s .places) (s .terms) (p .size) _ (λ u. refl) (g .terms);
       entries = g .entries;
     }
@@ -49,7 +55,7 @@ failed-good z s p e g =
 pub ran-good : (z : ℕ) (s : Setting) (p : Progress) (op : Op) (a : Args) (n : ℕ) (d bytes : List ℕ) {r : Spot → List ℕ} → Lent z s → p .failed ≡ false
     → p .ran < s .terms .head .count → Passed z s r p op a n → Good z s p
     → Good z s (ranProgress p (cost (s .terms .head .length) (s .terms .prices) op (a .len)) n (newSize (p .size) op a)
-        (effect z (groundOf s) (p .size) op a d (record { staged = p .staged; bytes = bytes }) .staged))
+    (effect z (groundOf s) (p .size) op a d (record { staged = p .staged; bytes = bytes }) .staged))
 unfolding ranProgress
 ran-good z s p op a n d bytes L e lt q g =
     let o = g .orderly in
@@ -77,9 +83,9 @@ stepped-good z s i l t L h g =
     by (eqb (judged z s (rootAt z s t) (t .progress) i l) 0)
     (λ e. subst (λ (x : Turn). Good z s (x .progress)) (sym (picks (eqb (judged z s (rootAt z s t) (t .progress) i l) 0) _ _ e))
     (ran-good z s (t .progress) (opOf (i .name)) (argsOf (opOf (i .name)) l) _ (dataIn l) (t .stage) L (not-failed s t h) (left-going s t h .1)
-        (passed z s (rootAt z s t) (t .progress) i l (eqb-true _ _ e)) g))
+    (passed z s (rootAt z s t) (t .progress) i l (eqb-true _ _ e)) g))
     (λ e. subst (λ (x : Turn). Good z s (x .progress)) (sym (skips (eqb (judged z s (rootAt z s t) (t .progress) i l) 0) _ _ e))
-        (failed-good z s (t .progress) (not-failed s t h) g))
+    (failed-good z s (t .progress) (not-failed s t h) g))
 
 pub runs-good : (z : ℕ) (s : Setting) (a : List ℕ) (k n : ℕ) (t : Turn) → Lent z s → Good z s (t .progress) → Good z s (runs z s a k n t .progress)
 unfolding runs step
@@ -87,5 +93,5 @@ runs-good z s a k zero t L g = g
 runs-good z s a k (suc n) t L g =
     by (ready s k t)
     (λ r. subst (λ (x : Turn). Good z s (x .progress)) (sym (runs-go z s a k n t r))
-        (runs-good z s a k n (step z s a t) L (stepped-good z s (current s t) (inputsOf (current s t) a) t L (ready-going s k t r) g)))
+    (runs-good z s a k n (step z s a t) L (stepped-good z s (current s t) (inputsOf (current s t) a) t L (ready-going s k t r) g)))
     (λ r. subst (λ (x : Turn). Good z s (x .progress)) (sym (runs-stop z s a k (suc n) t r)) g)

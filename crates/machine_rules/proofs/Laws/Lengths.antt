@@ -60,7 +60,7 @@ output-length z s stage (c ∷ cs) a d e v b =
     let y = neither (ltb (length (c ∷ cs) * z) (a .first + a .len)) _ (x .1) in
     let w = sector-length z s stage (getD (c ∷ cs) (a .first / z) c) d e (every-at (valid s) (c ∷ cs) (a .first / z) c v (both-left _ _ v)) in
     length-part (sector z (s .disk) stage (getD (c ∷ cs) (a .first / z) c)) (a .first % z) (a .len)
-        (omega (arith, w, ltb-false z (a .first % z + a .len) (y .1)))
+    (omega (arith, w, ltb-false z (a .first % z + a .len) (y .1)))
 
 -- the output part of a record: for a change nothing, else what was read
 shown : (n : ℕ) (l : List ℕ) → length l ≡ n → length (pick (eqb n 0) [] l) ≡ n
@@ -143,7 +143,7 @@ pub length-proof : (z : ℕ) (s : Setting) (stage copies : List ℕ) (from : Sou
     → length (s .roots) ≡ 2048 → length copies ≡ 512
     → every (valid s) (spots from) ≡ true → length (spots from) ≤ 64 → (asked ≡ true → Within z (length (spots from)) (a .first) (a .len))
     → length (pick asked (rangeProof z (rootOf z s stage copies) (s .disk) stage (spots from) (a .first) (a .len)) [])
-        ≡ 32 * proofCount z asked (length (spots from)) a
+    ≡ 32 * proofCount z asked (length (spots from)) a
 unfolding proofCount pick rootOf
 length-proof z s stage copies from a true solid e d c v few within =
     let size = solid .lent .size in
@@ -151,7 +151,7 @@ length-proof z s stage copies from a true solid e d c v few within =
     let hi = mul-le-mul-right {m = length (spots from)} {n = 64} (2 ^ k) few in
     proof-counted z k (size .segments) (rootOf z s stage copies) (s .disk) stage (valid s) (λ x u. sector-length z s stage x (solid .disk) e u)
     (reader-long (s .way) z s stage copies (solid .lent .most) (solid .lent .few) d c) (spots from) v (omega (arith, hi, size .segments, size .most))
-        (a .first) (a .len) (within refl)
+    (a .first) (a .len) (within refl)
 length-proof z s stage copies from a false solid e d c v few within = refl
 
 length-record : (number cost : ℕ) (pair : Pair) (hashes : ℕ) (proof : List ℕ) (count : ℕ) (output : List ℕ) → length (pair .root) ≡ 32 → length proof
@@ -204,7 +204,7 @@ proof-right op a e =
 success-length : (z : ℕ) (s : Setting) (f : Spot → List ℕ) (p : Progress) (asked : Bool) (op : Op) (a : Args) (n count : ℕ) (d bytes copies : List ℕ)
     → Solid z s → Good z s p
     → length bytes ≡ s .copies * z → length (s .roots) ≡ 2048 → length copies ≡ 512 → Passed z s f p op a count → (asked ≡ true → reads op ≡ true)
-        → (asked ≡ true → badProof op a ≡ false)
+    → (asked ≡ true → badProof op a ≡ false)
     → let g = effect z (groundOf s) (p .size) op a d (record { staged = p .staged; bytes = bytes }) in
     length (successBytes z s (rootOf z s (g .bytes) copies) p asked (sourceOf z s f p op (a .key)) op a n (newSize (p .size) op a) g)
     ≡ recordCount z asked (length (spots (sourceOf z s f p op (a .key)))) op a
@@ -219,8 +219,8 @@ success-length z s f p asked op a n count d bytes copies solid g e r c q asks ri
     (length-proof z s _ copies from a asked solid stage r c valid (few-spots z s f p op (a .key) (solid .small) u)
     (λ h. let w = proof-right op a (right h) in
     span-within z (length (spots from)) (a .first) (a .len) (Slots.some z (solid .lent .size))
-        (read-span z (p .size) (length (spots from)) op a (asks h) (q .spans))
-        (w .0) (w .1)))
+    (read-span z (p .size) (length (spots from)) op a (asks h) (q .spans))
+    (w .0) (w .1)))
     (shown-length z s (p .size) from _ op a (solid .disk) stage valid (q .spans))
 
 -- written bytes grow by the record's length
@@ -233,9 +233,9 @@ stepped-written z s i l t solid g e d c =
     by (eqb (judged z s (rootAt z s t) (t .progress) i l) 0)
     (λ u. ap (λ (x : Turn). x .progress .written) (picks (eqb (judged z s (rootAt z s t) (t .progress) i l) 0) _ _ u)
     ∙ ap (λ (n : ℕ). t .progress .written + n)
-        (sym (success-length z s (rootAt z s t) (t .progress) (i .proof) (opOf (i .name)) (argsOf (opOf (i .name)) l) _ _ (dataIn l) (t .stage) _ solid g e d
+    (sym (success-length z s (rootAt z s t) (t .progress) (i .proof) (opOf (i .name)) (argsOf (opOf (i .name)) l) _ _ (dataIn l) (t .stage) _ solid g e d
     (rehashed-length z _ _ (t .roots) ∙ c) (passed z s (rootAt z s t) (t .progress) i l (eqb-true _ _ u))
-        (asked-reads z s (rootAt z s t) (t .progress) i l (eqb-true _ _ u)) (asked-right z s (rootAt z s t) (t .progress) i l (eqb-true _ _ u))))
+    (asked-reads z s (rootAt z s t) (t .progress) i l (eqb-true _ _ u)) (asked-right z s (rootAt z s t) (t .progress) i l (eqb-true _ _ u))))
     ∙ ap (λ (x : List ℕ). t .progress .written + length x) (sym (picks (eqb (judged z s (rootAt z s t) (t .progress) i l) 0) _ _ u)))
     (λ u. ap (λ (x : Turn). x .progress .written) (skips (eqb (judged z s (rootAt z s t) (t .progress) i l) 0) _ _ u)
     ∙ ap (λ (n : ℕ). t .progress .written + n) (sym (failure-length z s _))

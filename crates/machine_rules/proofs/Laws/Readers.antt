@@ -91,17 +91,20 @@ module _ (z : ℕ) (s : Setting) (P : Spot → Bool) (onDisk : every (λ n. P (O
 module _ (z : ℕ) (s : Setting) (p : Progress) (solid : Solid z s) (f : Staged (s .copies) (startOf z s) (p .size / z) (p .staged))
     (few : p .size / z ≤ 64) (long : length (p .staged) ≡ 64) (shaped : Shaped (s .places))
     (P : Spot → Bool) (onDisk : every (λ n. P (OnDisk n)) (taken z (s .places)) ≡ true) (inStage : (j : ℕ) → eqb (getD (p .staged) j none) none ≡ false
-        → P (InStage (getD (p .staged) j none)) ≡ true) where
+    → P (InStage (getD (p .staged) j none)) ≡ true) where
   slot-all : (j : ℕ) → j < startOf z s → j < 64 → P (OnDisk (getD (whose (s .terms .head .contract) (s .places) .slots) j 0)) ≡ true
   slot-all j lt most =
       let own = whose (s .terms .head .contract) (s .places) in
       by (whose (s .terms .head .contract) (s .places) .held)
       (λ u. subst (λ (x : ℕ). P (OnDisk x) ≡ true) (getD-take (startOf z s) (whose (s .terms .head .contract) (s .places) .slots) j 0 lt)
       (every-get (λ n. P (OnDisk n)) (take (startOf z s) (whose (s .terms .head .contract) (s .places) .slots)) j 0
-      (omega (arith, length-take (startOf z s) (whose (s .terms .head .contract) (s .places) .slots),
-          length-slots (s .terms .head .contract) (s .places) shaped))
+      (omega (
+        arith,
+        length-take (startOf z s) (whose (s .terms .head .contract) (s .places) .slots),
+        length-slots (s .terms .head .contract) (s .places) shaped,
+      ))
       (subst (λ (l : List ℕ). every (λ n. P (OnDisk n)) l ≡ true) (committed-held z (whose (s .terms .head .contract) (s .places)) u)
-          (whose-every (λ n. P (OnDisk n)) z (s .terms .head .contract) (s .places) onDisk))))
+      (whose-every (λ n. P (OnDisk n)) z (s .terms .head .contract) (s .places) onDisk))))
       (λ u. let q : startOf z s ≡ 0 = ap (λ (n : ℕ). n / z) (whose-nobody (s .terms .head .contract) (s .places) u) ∙ zero-div z in absurd (omega arith))
 
   spot-all : (j : ℕ) → j < p .size / z → P (spotOf (parent s .slots) (p .staged) j) ≡ true
@@ -109,10 +112,10 @@ module _ (z : ℕ) (s : Setting) (p : Progress) (solid : Solid z s) (f : Staged 
   spot-all j lt =
       by (eqb (getD (p .staged) j none) none)
       (λ e. ap P (picks (eqb (getD (p .staged) j none) none) (OnDisk (getD (whose (s .terms .head .contract) (s .places) .slots) j 0))
-          (InStage (getD (p .staged) j none)) e)
+      (InStage (getD (p .staged) j none)) e)
       ∙ slot-all j (unstaged z s p solid f (omega (arith, long)) j lt e) (omega arith))
       (λ e. ap P (skips (eqb (getD (p .staged) j none) none) (OnDisk (getD (whose (s .terms .head .contract) (s .places) .slots) j 0))
-          (InStage (getD (p .staged) j none)) e) ∙ inStage j e)
+      (InStage (getD (p .staged) j none)) e) ∙ inStage j e)
 
   pub all-parent : every P (parentSpots z s p) ≡ true
   unfolding parentSpots
@@ -206,7 +209,7 @@ inputs-alike : (z : ℕ) (s : Setting) (f g : Spot → List ℕ) (p : Progress) 
 unfolding plannedInputs plannedArgs weighed fitted readOnlyMode freeCopies withWay
 inputs-alike z s f g p i op l h =
     ap (λ (from : Source). pick (not (wellFormed op l)) (refused 23) (pick (both (changes op) (readOnlyMode (s .terms))) (refused 24)
-        (pick (not (isThere from)) (refused 25) (weighed z s p (i .proof) (length (spots from)) op (argsOf op l)))))
+    (pick (not (isThere from)) (refused 25) (weighed z s p (i .proof) (length (spots from)) op (argsOf op l)))))
     (source-alike z s f g p op (argsOf op l .key) h)
 
 pub judged-alike : (z : ℕ) (s : Setting) (f g : Spot → List ℕ) (p : Progress) (i : Instruction) (l : List (List ℕ))

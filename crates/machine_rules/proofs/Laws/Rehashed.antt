@@ -30,7 +30,7 @@ unfolding rehashed
 rehashed-out z g m [] copies o = refl
 rehashed-out z g m (at ∷ l) copies o =
     other-slot 32 (rehashed z g l copies) (getD (g .staged) at none) m _
-        (omega (arith, roots .root-long (part (g .bytes) (getD (g .staged) at none * z) z))) (o at (member-here at l))
+    (omega (arith, roots .root-long (part (g .bytes) (getD (g .staged) at none * z) z))) (o at (member-here at l))
     ∙ rehashed-out z g m l copies (λ j u. o j (member-more j at l u))
 
 -- one of them has it
@@ -43,9 +43,9 @@ rehashed-in z g m (at ∷ l) copies j u k room =
     by (eqb (getD (g .staged) at none) m)
     (λ v. let q = eqb-true (getD (g .staged) at none) m v in
     ap (λ (x : ℕ). part (put (rehashed z g l copies) (getD (g .staged) at none * 32) (root (part (g .bytes) (getD (g .staged) at none * z) z)))
-        (x * 32) 32) (sym q)
+    (x * 32) 32) (sym q)
     ∙ part-put (rehashed z g l copies) (getD (g .staged) at none * 32) (root (part (g .bytes) (getD (g .staged) at none * z) z)) 32 (sym long)
-        (omega (arith, long, rehashed-length z g l copies, q))
+    (omega (arith, long, rehashed-length z g l copies, q))
     ∙ ap (λ (x : ℕ). root (part (g .bytes) (x * z) z)) q)
     (λ v. let ne = eqb-false (getD (g .staged) at none) m v in
     other-slot 32 (rehashed z g l copies) (getD (g .staged) at none) m _ (omega (arith, long)) ne
@@ -97,7 +97,7 @@ rehashed-right z ps copies g h n start now w few f long before =
     either-else (eqb (getD (h .staged) j none) none) _ (λ has.
     let m = getD (h .staged) j none in
     let below : getD (h .staged) j none < n = ltb-true _ _ (sym (skips (eqb (getD (h .staged) j none) none) true _ has)
-        ∙ every-at (slotInOrder n) (h .staged) j none (f .slots) (slot-none n)) in
+    ∙ every-at (slotInOrder n) (h .staged) j none (f .slots) (slot-none n)) in
     by (some (eqb j) ps)
     (λ u. eq-same _ _ (rehashed-in z h (getD (h .staged) j none) ps copies j u refl (omega arith)))
     (λ u. let s = w .stay j u has in

@@ -48,7 +48,7 @@ unfolding committed
 committed-bytes z p h l e =
     let q = place-size z p h e in
     ap (λ (n : ℕ). n * z) (ap length (picks (p .held) (take (p .size / z) (p .slots)) [] e)
-        ∙ length-take-le (p .size / z) (p .slots) (omega (arith, q .1))) ∙ whole-sectors z (p .size) (q .0)
+    ∙ length-take-le (p .size / z) (p .slots) (omega (arith, q .1))) ∙ whole-sectors z (p .size) (q .0)
 
 pub others-kept : (id : List ℕ) (p : Place) (ps : List Place) → both (p .held) (not (same (p .id) id)) ≡ true → others id (p ∷ ps) ≡ p .size + others id ps
 unfolding others ownSize each sum
@@ -83,8 +83,14 @@ sizes z id (p ∷ ps) h s =
     by (p .held)
     (λ e. let cb = committed-bytes z p (both-left _ _ h) (s .0) e in
     by (same (p .id) id)
-    (λ f. omega (arith, ih, tl, cb, ap (λ (x : Place). x .size) (whose-here id p ps (has-id id p e f)),
-        others-left id p ps (keeps-not (p .held) (same (p .id) id) f)))
+    (λ f. omega (
+      arith,
+      ih,
+      tl,
+      cb,
+      ap (λ (x : Place). x .size) (whose-here id p ps (has-id id p e f)),
+      others-left id p ps (keeps-not (p .held) (same (p .id) id) f),
+    ))
     (λ f. omega (arith, ih, tl, cb, ap (λ (x : Place). x .size) (whose-on id p ps (has-not id p f)), others-kept id p ps (both-join _ _ e (ap not f)))))
     (λ e. omega (arith, ih, tl, ap (λ (x : Place). x .size) (whose-on id p ps (has-none id p e)), others-left id p ps (skips (p .held) _ false e)))
 
@@ -112,7 +118,7 @@ read-only-free z id [] h w = refl
 read-only-free z id (p ∷ ps) h w =
     by (hasId id p)
     (λ e. never (sym w ∙ subst (λ (x : List ℕ). same x readOnly ≡ false) (same-eq (p .id) id (has-same id p e))
-        (place-size z p (both-left _ _ h) (has-held id p e) .2)))
+    (place-size z p (both-left _ _ h) (has-held id p e) .2)))
     (λ e. ap (λ (x : Place). x .held) (whose-on id p ps e) ∙ read-only-free z id ps (both-right _ _ h) w)
 
 pub read-only-size : (z : ℕ) (id : List ℕ) (ps : List Place) → every (placeInOrder z) ps ≡ true → same id readOnly ≡ true → whose id ps .size ≡ 0

@@ -25,7 +25,7 @@ are-twins : (id : List ℕ) (p q : Place) → hasId id p ≡ true → hasId id q
 unfolding twins
 are-twins id p q u v =
     both-join _ _ (has-held id p u)
-        (both-join _ _ (has-held id q v) (eq-same _ _ (same-eq (p .id) id (has-same id p u) ∙ sym (same-eq (q .id) id (has-same id q v)))))
+    (both-join _ _ (has-held id q v) (eq-same _ _ (same-eq (p .id) id (has-same id p u) ∙ sym (same-eq (q .id) id (has-same id q v)))))
 
 pub none-has : (id : List ℕ) (p : Place) (ps : List Place) → hasId id p ≡ true → some (twins p) ps ≡ false → every (λ q. not (hasId id q)) ps ≡ true
 unfolding every some
@@ -120,7 +120,7 @@ pub replaced-split : (id : List ℕ) (x : Place) (ps : List Place) (s : Split id
 replaced-split id x ps s =
     ap (λ (l : List Place). replaced id x l) (s .is) ∙ replaced-append id x (s .before) (s .it ∷ s .behind)
     ∙ ap₂ _++_ (replaced-none id x (s .before) (s .not-before)) (replaced-here id x (s .it) (s .behind) (s .here)
-        ∙ ap (λ (l : List Place). x ∷ l) (replaced-none id x (s .behind) (s .not-behind)))
+    ∙ ap (λ (l : List Place). x ∷ l) (replaced-none id x (s .behind) (s .not-behind)))
 
 pub taken-split : (z : ℕ) (l : List Place) (x : Place) (m : List Place) → taken z (l ++ (x ∷ m)) ≡ taken z l ++ (committed z x ++ taken z m)
 unfolding taken joined
@@ -158,8 +158,14 @@ others-none z id (p ∷ l) h k s =
     let ih = others-none z id l (both-right _ _ h) (both-right _ _ k) (s .1) in
     let tl = taken-length z p l in
     by (p .held)
-    (λ e. omega (arith, ih, tl, committed-bytes z p (both-left _ _ k) (s .0) e, others-kept id p l
-        (both-join _ _ e (ap not (not-same id p e (not-true _ (both-left _ _ h)))))))
+    (λ e. omega (
+      arith,
+      ih,
+      tl,
+      committed-bytes z p (both-left _ _ k) (s .0) e,
+      others-kept id p l
+          (both-join _ _ e (ap not (not-same id p e (not-true _ (both-left _ _ h))))),
+    ))
     (λ e. omega (arith, ih, tl, others-left id p l (skips (p .held) _ false e), ap (λ (l : List ℕ). length l * z) (committed-free z p e), zero-mul z))
 
 -- ---- kept slots
@@ -196,7 +202,7 @@ cut-prefix z n p pos e =
     committed-held z p e
     ∙ sym (take-append-drop (min (p .size) n / z) (take (p .size / z) (p .slots)))
     ∙ ap (λ (l : List ℕ). l ++ drop (min (p .size) n / z) (take (p .size / z) (p .slots)))
-        (take-take (min (p .size) n / z) (p .size / z) (p .slots) (cut-fewer z n p pos .0) ∙ sym (cut-held z n p e))
+    (take-take (min (p .size) n / z) (p .size / z) (p .slots) (cut-fewer z n p pos .0) ∙ sym (cut-held z n p e))
 
 pub cut-most : (z n : ℕ) (p : Place) → 0 < z → p .held ≡ true → length (committed z (cut n p)) ≤ n / z
 cut-most z n p pos e = omega (arith, ap length (cut-held z n p e), length-take (min (p .size) n / z) (p .slots), cut-fewer z n p pos .1)

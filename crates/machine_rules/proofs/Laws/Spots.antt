@@ -57,7 +57,7 @@ whose-nobody id (p ∷ ps) h =
     by (hasId id p)
     (λ e. never (sym (has-held id p e) ∙ sym (ap (λ (x : Place). x .held) (picks (hasId id p) p (whose id ps) e)) ∙ h))
     (λ e. ap (λ (x : Place). x .size) (skips (hasId id p) p (whose id ps) e)
-        ∙ whose-nobody id ps (sym (ap (λ (x : Place). x .held) (skips (hasId id p) p (whose id ps) e)) ∙ h))
+    ∙ whose-nobody id ps (sym (ap (λ (x : Place). x .held) (skips (hasId id p) p (whose id ps) e)) ∙ h))
 
 -- ---- what holds of all committed sectors holds of the one that is found
 
@@ -128,13 +128,13 @@ module _ (z : ℕ) (s : Setting) (p : Progress) (solid : Solid z s) (f : Staged 
       let i : ℕ = j - startOf z s in
       let at : startOf z s + (j - startOf z s) ≡ j = omega arith in
       let inside : j - startOf z s < length (drop (startOf z s) (take (p .size / z) (p .staged))) =
-          omega (arith, length-drop (startOf z s) (take (p .size / z) (p .staged)), length-take-le (p .size / z) (p .staged) long) in
+      omega (arith, length-drop (startOf z s) (take (p .size / z) (p .staged)), length-take-le (p .size / z) (p .staged) long) in
       let g : getD (drop (startOf z s) (take (p .size / z) (p .staged))) (j - startOf z s) none ≡ getD (p .staged) j none =
       getD-drop (startOf z s) (take (p .size / z) (p .staged)) (j - startOf z s) none
-          ∙ ap (λ (x : ℕ). getD (take (p .size / z) (p .staged)) x none) at ∙ getD-take (p .size / z) (p .staged) j none lt in
+      ∙ ap (λ (x : ℕ). getD (take (p .size / z) (p .staged)) x none) at ∙ getD-take (p .size / z) (p .staged) j none lt in
       let q : not (eqb (getD (p .staged) j none) none) ≡ true =
       subst (λ (x : ℕ). not (eqb x none) ≡ true) g (every-get (λ n. not (eqb n none)) (drop (startOf z s) (take (p .size / z) (p .staged)))
-          (j - startOf z s) none inside (f .past)) in
+      (j - startOf z s) none inside (f .past)) in
       never (sym e ∙ not-true _ q))
 
   pub committed-slot : (j : ℕ) → j < startOf z s → ltb (getD (whose (s .terms .head .contract) (s .places) .slots) j 0) (s .sectors) ≡ true
@@ -143,7 +143,7 @@ module _ (z : ℕ) (s : Setting) (p : Progress) (solid : Solid z s) (f : Staged 
       (λ u. subst (λ (x : ℕ). ltb x (s .sectors) ≡ true) (getD-take (startOf z s) (whose (s .terms .head .contract) (s .places) .slots) j 0 lt)
       (every-at (λ n. ltb n (s .sectors)) (take (startOf z s) (whose (s .terms .head .contract) (s .places) .slots)) j 0
       (subst (λ (l : List ℕ). every (λ n. ltb n (s .sectors)) l ≡ true) (committed-held z (whose (s .terms .head .contract) (s .places)) u)
-          (whose-every _ z (s .terms .head .contract) (s .places) (solid .slots)))
+      (whose-every _ z (s .terms .head .contract) (s .places) (solid .slots)))
       (lt-ltb 0 (s .sectors) (solid .one))))
       (λ u. let q : startOf z s ≡ 0 = ap (λ (n : ℕ). n / z) (whose-nobody (s .terms .head .contract) (s .places) u) ∙ zero-div z in absurd (omega arith))
 
@@ -152,10 +152,10 @@ module _ (z : ℕ) (s : Setting) (p : Progress) (solid : Solid z s) (f : Staged 
   spot-valid j lt =
       by (eqb (getD (p .staged) j none) none)
       (λ e. ap (valid s) (picks (eqb (getD (p .staged) j none) none) (OnDisk (getD (whose (s .terms .head .contract) (s .places) .slots) j 0))
-          (InStage (getD (p .staged) j none)) e) ∙ committed-slot j (unstaged j lt e))
+      (InStage (getD (p .staged) j none)) e) ∙ committed-slot j (unstaged j lt e))
       (λ e. ap (valid s) (skips (eqb (getD (p .staged) j none) none) (OnDisk (getD (whose (s .terms .head .contract) (s .places) .slots) j 0))
-          (InStage (getD (p .staged) j none)) e) ∙ either-second (eqb (getD (p .staged) j none) none) _
-          (every-at (slotInOrder (s .copies)) (p .staged) j none (f .slots) (slot-none (s .copies))) e)
+      (InStage (getD (p .staged) j none)) e) ∙ either-second (eqb (getD (p .staged) j none) none) _
+      (every-at (slotInOrder (s .copies)) (p .staged) j none (f .slots) (slot-none (s .copies))) e)
 
   pub parent-valid : every (valid s) (parentSpots z s p) ≡ true
   unfolding parentSpots
@@ -168,7 +168,7 @@ module _ (z : ℕ) (s : Setting) (p : Progress) (solid : Solid z s) (f : Staged 
       ∙ every-pick (valid s) _ [] _ (none-valid s)
       (ap (λ (l : List Spot). every (valid s) l) (pick-spots _ (seen (parentSpots z s p)) _)
       ∙ every-pick (valid s) _ (parentSpots z s p) _ parent-valid (disk-valid s (committed z (whose id (s .places)))
-          (whose-every _ z id (s .places) (solid .slots))))
+      (whose-every _ z id (s .places) (solid .slots))))
 
   pub source-valid : (r : Spot → List ℕ) (op : Op) (key : List ℕ) → every (valid s) (spots (sourceOf z s r p op key)) ≡ true
   unfolding sourceOf sectorSource spots valid
@@ -208,7 +208,7 @@ few-contract : (z : ℕ) (s : Setting) (p : Progress) (id : List ℕ) → every 
 unfolding contractSource committedSpots parentSpots spots
 few-contract z s p id h u =
     rw (pick-spots (not (whose id (s .places) .held)) missing (pick (same id (s .terms .head .contract)) (seen (parentSpots z s p))
-        (seen (committedSpots z (whose id (s .places))))))
+    (seen (committedSpots z (whose id (s .places))))))
     (few-pick _ [] _ (omega arith)
     (rw (pick-spots (same id (s .terms .head .contract)) (seen (parentSpots z s p)) (seen (committedSpots z (whose id (s .places)))))
     (few-pick _ _ _ (omega (arith, length-tab 0 (p .size / z) (spotOf (parent s .slots) (p .staged)), u))

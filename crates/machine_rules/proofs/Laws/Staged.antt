@@ -52,7 +52,7 @@ module _ (stage start : ℕ) (few : stage ≤ 16) where
             (λ e. let le : start ≤ length (take now staged) = omega (arith, leb-true start now e, length-take-le now staged (omega arith)) in
             rw (drop-append-le start (take now staged) (slot ∷ []) le) (every-one-more _ (drop start (take now staged)) slot (f .past) (ap not nn)))
             (λ e. let le : length (take now staged ++ (slot ∷ [])) ≤ start = omega
-                (arith, leb-false start now e, length-append (take now staged) (slot ∷ []), length-take-le now staged (omega arith)) in
+            (arith, leb-false start now e, length-append (take now staged) (slot ∷ []), length-take-le now staged (omega arith)) in
             rw (drop-of-length-le (take now staged ++ (slot ∷ [])) le) (every-none _)));
       }
 

@@ -54,7 +54,7 @@ inputs-below [] a b k h e = refl
 inputs-below (o ∷ os) a b k h e =
     ap₂ _∷_
     (by (eqb (o .len) 0) (λ z. part-empty a b (o .offset) (o .len) (eqb-true (o .len) 0 z))
-        (λ z. part-below a b (o .offset) (o .len) k (largest-first o os k h z) e))
+    (λ z. part-below a b (o .offset) (o .len) k (largest-first o os k h z) e))
     (inputs-below os a b k (largest-rest o os k h) e)
 
 -- ---- one instruction reads the input only below its need
@@ -85,12 +85,12 @@ unfolding inputsOf
 stepped-below z s i t a b k h e =
     by (illFormed i)
     (λ x. stepped-fails z s i _ t 20 (judged-ill z s (rootAt z s t) (t .progress) i _ x)
-        ∙ sym (stepped-fails z s i _ t 20 (judged-ill z s (rootAt z s t) (t .progress) i _ x)))
+    ∙ sym (stepped-fails z s i _ t 20 (judged-ill z s (rootAt z s t) (t .progress) i _ x)))
     (λ x. by (pastEnd (s .terms .head .length) i)
     (λ y. stepped-fails z s i _ t 21 (judged-past z s (rootAt z s t) (t .progress) i _ x y)
-        ∙ sym (stepped-fails z s i _ t 21 (judged-past z s (rootAt z s t) (t .progress) i _ x y)))
+    ∙ sym (stepped-fails z s i _ t 21 (judged-past z s (rootAt z s t) (t .progress) i _ x y)))
     (λ y. ap (λ (l : List (List ℕ)). stepped z s i l t)
-        (inputs-below (operandsIn i) a b k (subst (λ (n : ℕ). n ≤ k) (need-sound (s .terms .head .length) i x y) h) e)))
+    (inputs-below (operandsIn i) a b k (subst (λ (n : ℕ). n ≤ k) (need-sound (s .terms .head .length) i x y) h) e)))
 
 pub ready-need : (s : Setting) (k : ℕ) (t : Turn) → ready s k t ≡ true → need (s .terms .head .length) (current s t) ≤ k
 unfolding ready
@@ -122,7 +122,7 @@ runs-below z s a b k zero t e = refl
 runs-below z s a b k (suc n) t e =
     by (ready s k t)
     (λ h. runs-go z s a k n t h ∙ ap (λ (x : Turn). runs z s a k n x) (step-below z s t a b k h e) ∙ runs-below z s a b k n (step z s b t) e
-        ∙ sym (runs-go z s b k n t h))
+    ∙ sym (runs-go z s b k n t h))
     (λ h. runs-stop z s a k (suc n) t h ∙ sym (runs-stop z s b k (suc n) t h))
 
 -- ---- a run ends: at most as many turns as there are instructions left
@@ -160,9 +160,9 @@ stepped-left z s i l t g =
     let q = left-going s t g in
     by (eqb (judged z s (rootAt z s t) (t .progress) i l) 0)
     (λ e. rw (picks (eqb (judged z s (rootAt z s t) (t .progress) i l) 0) (succeeding z s (i .proof) (opOf (i .name)) (argsOf (opOf (i .name)) l) (dataIn l) t)
-        (failing z s (judged z s (rootAt z s t) (t .progress) i l) t) e) (succeeds q))
+    (failing z s (judged z s (rootAt z s t) (t .progress) i l) t) e) (succeeds q))
     (λ e. rw (skips (eqb (judged z s (rootAt z s t) (t .progress) i l) 0) (succeeding z s (i .proof) (opOf (i .name)) (argsOf (opOf (i .name)) l) (dataIn l) t)
-        (failing z s (judged z s (rootAt z s t) (t .progress) i l) t) e) (fails q))
+    (failing z s (judged z s (rootAt z s t) (t .progress) i l) t) e) (fails q))
   where
     fails : (left s t ≡ s .terms .head .count - t .progress .ran) × (t .progress .ran < s .terms .head .count)
         → left s (failing z s (judged z s (rootAt z s t) (t .progress) i l) t) < left s t
@@ -218,7 +218,7 @@ pub left-most : (s : Setting) (t : Turn) → left s t ≤ s .terms .head .count
 unfolding left
 left-most s t =
     by (t .progress .failed) (λ e. omega (arith, picks (t .progress .failed) 0 (s .terms .head .count - t .progress .ran) e))
-        (λ e. omega (arith, skips (t .progress .failed) 0 (s .terms .head .count - t .progress .ran) e))
+    (λ e. omega (arith, skips (t .progress .failed) 0 (s .terms .head .count - t .progress .ran) e))
 
 pub run-on : (z : ℕ) (s : Setting) (a : List ℕ) (k m : ℕ) (t : Turn) → k ≤ m → run z s a m (run z s a k t) ≡ run z s a m t
 unfolding run

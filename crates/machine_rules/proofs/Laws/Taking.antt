@@ -68,8 +68,11 @@ pub order-good : (h : Host) (disk : List ℕ) → inOrder h ≡ true → h .prog
 unfolding settingBy programInOrder
 order-good h disk e live len =
     let q = order-program h e live in
-    record { orderly = progress-facts (h .sector) _ _ _ _ (h .program .progress) (both-right _ _ (both-right _ _ q));
-        terms = both-left _ _ q; entries = len }
+    record {
+      orderly = progress-facts (h .sector) _ _ _ _ (h .program .progress) (both-right _ _ (both-right _ _ q));
+      terms = both-left _ _ q;
+      entries = len;
+    }
 
 pub good-order : (h : Host) (disk : List ℕ) (k : ℕ) (p : Progress) (roots : List ℕ) → inOrder h ≡ true → k ≤ h .program .terms .head .length
     → Good (h .sector) (settingOf h disk) p → inOrder (withRun h k p roots) ≡ true
@@ -92,12 +95,12 @@ module _ (disk : List ℕ) (w : Pieced) (t : Taking disk w) (b : List ℕ) (fit 
   takes =
       let h = w .host in
       let input : both (eqb (length (w .input)) (h .program .terms .head .length)) (eqb (length (w .output)) (h .program .terms .room)) ≡ true =
-          both-join _ _ (eq-eqb _ _ (t .input)) (eq-eqb _ _ (t .output)) in
+      both-join _ _ (eq-eqb _ _ (t .input)) (eq-eqb _ _ (t .output)) in
       skips (not (inOrder h)) _ _ (ap not (t .order))
       ∙ skips (not (areasRight h disk (w .stage))) _ _ (ap not (t .areas))
       ∙ skips (both (h .program .active)
-          (not (both (eqb (length (w .input)) (h .program .terms .head .length)) (eqb (length (w .output)) (h .program .terms .room))))) _ _
-          (both-not-right _ _ (ap not input))
+      (not (both (eqb (length (w .input)) (h .program .terms .head .length)) (eqb (length (w .output)) (h .program .terms .room))))) _ _
+      (both-not-right _ _ (ap not input))
       ∙ skips (not (h .program .active)) _ _ (ap not (t .live))
       ∙ skips (ltb (h .program .terms .head .length) (h .program .came + length b)) _ _ (le-ltb _ _ fit)
 
@@ -109,9 +112,9 @@ module _ (disk : List ℕ) (w : Pieced) (t : Taking disk w) (b : List ℕ) (fit 
       let s = settingOf h disk in
       let L = order-lent h disk (t .order) in
       let g = runs-good (w .host .sector) s (put (w .input) (h .program .came) b) (h .program .came + length b) (s .terms .head .count)
-          (turnOf h (w .stage) (w .output)) L (order-good h disk (t .order) (t .live) (t .entries)) in
+      (turnOf h (w .stage) (w .output)) L (order-good h disk (t .order) (t .live) (t .entries)) in
       let a = runs-alike (w .host .sector) s (put (w .input) (h .program .came) b) (h .program .came + length b) (s .terms .head .count)
-          (turnOf h (w .stage) (w .output)) in
+      (turnOf h (w .stage) (w .output)) in
       record {
         order = good-order h disk (h .program .came + length b) _ _ (t .order) fit g;
         areas = areas-again (w .host) disk (w .stage) _ _ _ _ (a .stage) (t .areas);

@@ -69,7 +69,7 @@ module _ (z : ℕ) (s : Setting) (a : List ℕ) where
       (λ r. let d = step-left z s a k t r in let e = runs-left k n (step z s a t) in
       trail-go m j t (ready-more s k m t le r)
       ∙ ap (λ (x : List (List ℕ)). recorded z s a t ∷ x) (trail-on k m n (step z s a t) le (omega arith) j (omega arith)
-          ∙ ap (λ (x : List (List ℕ)). trail z s a k n (step z s a t) ++ x) (sym (trail-enough m j (runs z s a k n (step z s a t)) (omega arith))))
+      ∙ ap (λ (x : List (List ℕ)). trail z s a k n (step z s a t) ++ x) (sym (trail-enough m j (runs z s a k n (step z s a t)) (omega arith))))
       ∙ sym (ap₂ _++_ (trail-go k n t r) (ap (λ (x : Turn). trail z s a m (suc j) x) (runs-go z s a k n t r))))
       (λ r. sym (ap₂ _++_ (trail-stop k (suc n) t r) (ap (λ (x : Turn). trail z s a m (suc j) x) (runs-stop z s a k (suc n) t r))))
 
@@ -114,7 +114,7 @@ stepped-next z s i l t = under (eqb (judged z s (rootAt z s t) (t .progress) i l
     under : (b : Bool) → (pick b (succeeding z s (i .proof) (opOf (i .name)) (argsOf (opOf (i .name)) l) (dataIn l) t)
         (failing z s (judged z s (rootAt z s t) (t .progress) i l) t) .progress .ran ≡ t .progress .ran + 1)
         ⊎ (pick b (succeeding z s (i .proof) (opOf (i .name)) (argsOf (opOf (i .name)) l) (dataIn l) t)
-            (failing z s (judged z s (rootAt z s t) (t .progress) i l) t) .progress .failed ≡ true)
+        (failing z s (judged z s (rootAt z s t) (t .progress) i l) t) .progress .failed ≡ true)
     under true = inl refl
     under false = inr refl
 
@@ -148,10 +148,16 @@ module _ (z : ℕ) (s : Setting) (a : List ℕ) where
       let ih : length (trail z s a k n (step z s a t)) ≡ min (ripe s k (t .progress .ran + 1) n) (length (trail z s a d n (step z s a t))) =
       ⊎-elim (λ r. counted k n (step z s a t) ∙ ap (λ (x : ℕ). min (ripe s k x n) (length (trail z s a d n (step z s a t)))) r)
       (λ f. ap length (trail-stop z s a k n (step z s a t) (failed-stops s k (step z s a t) f))
-          ∙ omega (arith, ap length (trail-stop z s a d n (step z s a t) (failed-stops s d (step z s a t) f))))
+      ∙ omega (arith, ap length (trail-stop z s a d n (step z s a t) (failed-stops s d (step z s a t) f))))
       (stepped-next z s (current s t) (inputsOf (current s t) a) t) in
-      omega (arith, ih, ap length (trail-go z s a k n t rk), ap length (trail-go z s a d n t rd), picks (leb (need d (current s t)) k)
-          (suc (ripe s k (t .progress .ran + 1) n)) 0 e))
+      omega (
+        arith,
+        ih,
+        ap length (trail-go z s a k n t rk),
+        ap length (trail-go z s a d n t rd),
+        picks (leb (need d (current s t)) k)
+            (suc (ripe s k (t .progress .ran + 1) n)) 0 e,
+      ))
       (λ e. let rk : ready s k t ≡ false = need-stops s k t e in
       omega (arith, ap length (trail-stop z s a k (suc n) t rk), skips (leb (need d (current s t)) k) (suc (ripe s k (t .progress .ran + 1) n)) 0 e)))
       (λ g. omega (arith, ap length (trail-stop z s a k (suc n) t (going-stops s k t g)), ap length (trail-stop z s a d (suc n) t (going-stops s d t g))))

@@ -55,7 +55,7 @@ unfolding rangeProof
 range-is z f disk stage [] at n lt = absurd (omega arith)
 range-is z f disk stage (x ∷ xs) at n lt =
     ap (λ (y : Spot). proofIn (joined f (x ∷ xs)) (at / z) (sector z disk stage y) (at % z / 64) (at % z / 64 + n / 64))
-        (any-default (x ∷ xs) (at / z) x (OnDisk 0) lt)
+    (any-default (x ∷ xs) (at / z) x (OnDisk 0) lt)
 
 module _ (z k : ℕ) (is : z ≡ 64 * 2 ^ k) (disk stage : List ℕ) (p : Spot → Bool) (long : (x : Spot) → p x ≡ true → length (sector z disk stage x) ≡ z)
     (l : List Spot) (h : every p l ≡ true)
@@ -95,9 +95,9 @@ module _ (z k : ℕ) (is : z ≡ 64 * 2 ^ k) (disk stage : List ℕ) (p : Spot �
       range-is z (sectorRoot z disk stage) disk stage l at n (w .below)
       ∙ ap (λ (b : List ℕ). proofIn (joined (sectorRoot z disk stage) l) (at / z) b (at % z / 64) (at % z / 64 + n / 64))
       (sym (part-pieces p (sector z disk stage) z long l (at / z) (OnDisk 0) h (w .below))
-          ∙ ap (λ (x : ℕ). part (joined (sector z disk stage) l) (at / z * x) x) is ∙ whole-is)
+      ∙ ap (λ (x : ℕ). part (joined (sector z disk stage) l) (at / z * x) x) is ∙ whole-is)
       ∙ proofs .within k (length l) (whole z disk stage l) (joined (sectorRoot z disk stage) l) parted (at / z) (at % z / 64) (at % z / 64 + n / 64)
-          (w .below) (goes-up z k is at n (length l) w) (stays-in z k is at n (length l) w)
+      (w .below) (goes-up z k is at n (length l) w) (stays-in z k is at n (length l) w)
       ∙ ap₂ (proof (whole z disk stage l)) (starts z k is at n (length l) w) (ends z k is at n (length l) w)
     where
       whole-is : part (joined (sector z disk stage) l) (at / z * (64 * 2 ^ k)) (64 * 2 ^ k) ≡ part (whole z disk stage l) (at / z * (64 * 2 ^ k)) (64 * 2 ^ k)

@@ -60,7 +60,7 @@ copied-keeps : (copies at j : ℕ) (staged : List ℕ) → eqb (getD staged j no
 copied-keeps copies at j staged n =
     by (eqb j at)
     (λ u. let q = eqb-true j at u in
-        ap (λ (l : List ℕ). getD l j none) (copied-old copies at staged (subst (λ (x : ℕ). eqb (getD staged x none) none ≡ false) q n)))
+    ap (λ (l : List ℕ). getD l j none) (copied-old copies at staged (subst (λ (x : ℕ). eqb (getD staged x none) none ≡ false) q n)))
     (λ u. copied-other copies at j staged (eqb-false j at u))
 
 pub wrote-span : (z : ℕ) (e : Ground) (at : ℕ) (bs : List ℕ) (g : Staging) → at % z + length bs ≤ z → at / z < length (g .staged)
@@ -86,7 +86,7 @@ two-first j a b e =
     by (eqb a b)
     (λ u. ap (some (eqb j)) (picks (eqb a b) (b ∷ []) (b ∷ a ∷ []) u) ∙ subst (λ (x : ℕ). some (eqb j) (x ∷ []) ≡ true) (e ∙ eqb-true a b u) (member-here j []))
     (λ u. ap (some (eqb j)) (skips (eqb a b) (b ∷ []) (b ∷ a ∷ []) u)
-        ∙ member-more j b (a ∷ []) (subst (λ (x : ℕ). some (eqb j) (x ∷ []) ≡ true) e (member-here j [])))
+    ∙ member-more j b (a ∷ []) (subst (λ (x : ℕ). some (eqb j) (x ∷ []) ≡ true) e (member-here j [])))
 
 two-second : (j a b : ℕ) → j ≡ b → some (eqb j) (two a b) ≡ true
 unfolding two some
@@ -133,8 +133,8 @@ wrote-less z at g lt = record {
   stay = λ j o n.
       by (eqb j at)
       (λ u. let q = eqb-true j at u in
-          never (sym (eq-eqb none none refl)
-          ∙ sym (ap (λ (x : ℕ). eqb x none) (ap (λ (x : ℕ). getD (set (g .staged) at none) x none) q ∙ getD-set-same (g .staged) at none none lt)) ∙ n))
+      never (sym (eq-eqb none none refl)
+      ∙ sym (ap (λ (x : ℕ). eqb x none) (ap (λ (x : ℕ). getD (set (g .staged) at none) x none) q ∙ getD-set-same (g .staged) at none none lt)) ∙ n))
       (λ u. getD-set-other (g .staged) at j none none (eqb-false j at u));
   hold = λ m n o. refl;
 }
@@ -162,7 +162,7 @@ module _ (z : ℕ) (e : Ground) (size : ℕ) (g : Staging) (pos : 0 < z) (whole 
       let at : size / z < length (g .staged) = div-lt-iff-lt-mul {k = z} {x = size} {y = length (g .staged)} pos .1 (omega arith) in
       subst (λ (l : List ℕ). Wrote z l g (resized z e size new g)) (sym (picks (ltb size new) (size / z ∷ []) [] u))
       (subst (λ (x : Staging). Wrote z (size / z ∷ []) g x) (sym (picks (ltb size new) (newCopy z e (size / z) (zeros z) g) _ u))
-          (wrote-more z e (size / z) g at)))
+      (wrote-more z e (size / z) g at)))
       (λ u. subst (λ (l : List ℕ). Wrote z l g (resized z e size new g)) (sym (skips (ltb size new) (size / z ∷ []) [] u))
       (subst (λ (x : Staging). Wrote z [] g x) (sym (skips (ltb size new) (newCopy z e (size / z) (zeros z) g) _ u))
       (by (ltb new size)
@@ -181,12 +181,12 @@ module _ (z : ℕ) (e : Ground) (size : ℕ) (g : Staging) (pos : 0 < z) (whole 
   wrote-effect n Copy a d b long room =
       let c = either-left _ _ b in
       wrote-span z e (a .first) _ g (omega (arith, span-few z size (a .first) (a .len) c, few-read z e (a .second) (a .len) g))
-          (in-staged (a .first) (a .len) c)
+      (in-staged (a .first) (a .len) c)
   wrote-effect n Swap a d b long room =
       let c = either-left _ _ b in
       let d = either-right _ _ b in
       wrote-two z e (a .first) (a .second) _ _ g (omega (arith, span-few z size (a .first) (a .len) c, few-read z e (a .second) (a .len) g))
       (omega (arith, span-few z size (a .second) (a .len) d, few-read z e (a .first) (a .len) g)) (in-staged (a .first) (a .len) c)
-          (in-staged (a .second) (a .len) d)
+      (in-staged (a .second) (a .len) d)
   wrote-effect n Truncate a d b long room = wrote-resized (a .first) (sized z size (a .first) b) room
   wrote-effect n Unknown a d b long room = wrote-nothing z g

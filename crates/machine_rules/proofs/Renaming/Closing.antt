@@ -101,7 +101,7 @@ module _ (r : List ℕ → List ℕ) (new : Renaming r) where
 
   body-as : (disk : List ℕ) (h : Host) (stage c : List ℕ) → parentInOrder (h .places) c (h .program .progress .size) ≡ true
       → body (hostAs r h .sector) disk (hostAs r h) stage (r c) (placeAs r (whose c (h .places)))
-          ≡ closedAs (body (h .sector) disk h stage c (whose c (h .places)))
+      ≡ closedAs (body (h .sector) disk h stage c (whose c (h .places)))
   unfolding closedAs hostAs withProgram withPlaces withDiskRoots noProgram pick finalPlace withSize withSlots
   body-as disk h stage c e =
       let size = h .program .progress .size in

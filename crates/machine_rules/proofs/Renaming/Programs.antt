@@ -102,8 +102,12 @@ module _ (r : List ℕ → List ℕ) (new : Renaming r) where
       → reachedPair disk (hostAs r h) stage ≡ reachedPair disk h stage
   unfolding reachedPairBy hostAs rootOf
   reached-pair-as disk h stage e =
-      rw (setting-as h disk e, starting-as r new (h .sector) (settingOf h disk), running-as r new (h .sector) (settingOf h disk)
-          (rootOf (h .sector) (settingOf h disk) stage (h .stageroots)) (h .program .progress))
+      rw (
+        setting-as h disk e,
+        starting-as r new (h .sector) (settingOf h disk),
+        running-as r new (h .sector) (settingOf h disk)
+            (rootOf (h .sector) (settingOf h disk) stage (h .stageroots)) (h .program .progress),
+      )
 
   pub reached-as : (disk : List ℕ) (h : Host) (stage : List ℕ) → reached disk (hostAs r h) stage ≡ reached disk h stage
   unfolding reachedBy

@@ -102,8 +102,13 @@ module _ (r : List ℕ → List ℕ) (new : Renaming r) where
       let op = opOf (i .name) in
       let f = rootAt z s t in
       let n = judged z s f (t .progress) i l in
-      rw (judged-as z s f (t .progress) i l, args-as r new op l, data-as r new op l, succeeding-as z s (i .proof) op (argsOf op l) (dataIn l) t,
-          failing-as z s n t)
+      rw (
+        judged-as z s f (t .progress) i l,
+        args-as r new op l,
+        data-as r new op l,
+        succeeding-as z s (i .proof) op (argsOf op l) (dataIn l) t,
+        failing-as z s n t,
+      )
 
   -- ---- instructions in turn
 

@@ -115,7 +115,7 @@ module _ (disk : List ℕ) (h : Host) (stage : List ℕ) (fine : sound disk h st
   opened-sound bytes budget p room shape bs =
       both-join _ _ (opening-order h bytes budget p room shape bs (sound-order disk h stage fine))
       (opens-refused _ 1 _ (λ _. opens-refused _ 2 _
-          (λ _. opens-refused _ 3 _ (λ _. opens-refused _ _ _ (λ _. opens-refused _ 7 _ (λ _. opens-refused _ 11 _ (λ _.
+      (λ _. opens-refused _ 3 _ (λ _. opens-refused _ _ _ (λ _. opens-refused _ 7 _ (λ _. opens-refused _ 11 _ (λ _.
       begun-right (decode bytes .head) budget p room)))))))
 
 pub fresh-sound : (z d s : ℕ) (disk stage : List ℕ) → freshed z d s .number ≡ 0 → sound disk (freshed z d s .host) stage ≡ true

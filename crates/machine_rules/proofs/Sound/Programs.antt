@@ -65,8 +65,12 @@ module _ (disk : List ℕ) (h : Host) (stage : List ℕ) (shape : Declared h) (f
 
   start-known : (output : List ℕ) → h .program .active ≡ true → Known z (settingOf h disk) (turnOf h stage output)
   unfolding settingBy turnOf
-  start-known output live = record { disk = sound-disk disk h stage fine; stage = sound-stage disk h stage fine live; kept = shape .stage;
-      shaped = shape .places }
+  start-known output live = record {
+    disk = sound-disk disk h stage fine;
+    stage = sound-stage disk h stage fine live;
+    kept = shape .stage;
+    shaped = shape .places;
+  }
 
   accepted-alike : (input output bytes : List ℕ) → areasRight h disk stage ≡ true → h .program .active ≡ true
       → acceptedBy kept disk h stage input output bytes ≡ acceptedBy worked disk h stage input output bytes
@@ -75,9 +79,9 @@ module _ (disk : List ℕ) (h : Host) (stage : List ℕ) (shape : Declared h) (f
       let k = h .program .came + length bytes in
       let area = put input (h .program .came) bytes in
       ap (λ (t : Turn). pieced 0 (t .progress .tally) (withRun h (h .program .came + length bytes) (t .progress) (t .roots)) (t .stage)
-          (put input (h .program .came) bytes) (t .output))
+      (put input (h .program .came) bytes) (t .output))
       (runs-alike z (settingOf h disk) (order-solid h disk stage o areas) (put input (h .program .came) bytes) (h .program .came + length bytes)
-          (h .program .terms .head .count) (turnOf h stage output)
+      (h .program .terms .head .count) (turnOf h stage output)
       (order-good h disk o live (shape .staged)) (start-known output live))
 
   -- a piece on a sound host gives what document 01 says
@@ -85,7 +89,7 @@ module _ (disk : List ℕ) (h : Host) (stage : List ℕ) (shape : Declared h) (f
   unfolding pieceBy
   piece-alike input output bytes =
       behind (not (inOrder h)) _ _ _ (λ _. behind (not (areasRight h disk stage)) _ _ _
-          (λ right. behind _ _ _ _ (λ _. behind (not (h .program .active)) _ _ _ (λ live.
+      (λ right. behind _ _ _ _ (λ _. behind (not (h .program .active)) _ _ _ (λ live.
       behind _ _ _ _ (λ _. accepted-alike input output bytes (not-false _ right) (not-false _ live))))))
 
   pub records-alike : (output all : List ℕ) → areasRight h disk stage ≡ true → h .program .active ≡ true
@@ -93,7 +97,7 @@ module _ (disk : List ℕ) (h : Host) (stage : List ℕ) (shape : Declared h) (f
   unfolding wholeRunBy settingBy withWay turnOf
   records-alike output all areas live =
       trail-alike z (settingOf h disk) (order-solid h disk stage o areas) all (h .program .terms .head .length) (h .program .terms .head .count)
-          (turnOf h stage output)
+      (turnOf h stage output)
       (order-good h disk o live (shape .staged)) (start-known output live)
 
   -- and leaves it sound
@@ -103,7 +107,7 @@ module _ (disk : List ℕ) (h : Host) (stage : List ℕ) (shape : Declared h) (f
   unfolding acceptedBy run withRun withStageRoots withProgram withProgress withCame settingBy withWay turnOf
   accepted-sound input output bytes areas live order =
       let known = runs-known z (settingOf h disk) (order-solid h disk stage o areas) (put input (h .program .came) bytes)
-          (h .program .came + length bytes) (h .program .terms .head .count) (turnOf h stage output)
+      (h .program .came + length bytes) (h .program .terms .head .count) (turnOf h stage output)
       (order-good h disk o live (shape .staged)) (start-known output live) in
       is-sound disk _ _ order (sound-disk disk h stage fine) (λ _. known .stage)
 
@@ -121,7 +125,7 @@ module _ (disk : List ℕ) (h : Host) (stage : List ℕ) (shape : Declared h) (f
       let or = piece-refused input output in
       or _ 1 _ (λ _. or _ 2 _ (λ right. or _ 2 _ (λ _. or _ 4 _ (λ live. or _ 12 _ (λ fit.
       accepted-sound input output bytes (not-false _ right) (not-false _ live)
-          (accepted-order disk h stage input output bytes shape o (not-false _ live) (ltb-false _ _ fit)))))))
+      (accepted-order disk h stage input output bytes shape o (not-false _ live) (ltb-false _ _ fit)))))))
 
   -- ---- interrupts
 
@@ -136,16 +140,16 @@ module _ (disk : List ℕ) (h : Host) (stage : List ℕ) (shape : Declared h) (f
 
   parent-right : areasRight h disk stage ≡ true → h .program .active ≡ true
       → every (agree (rootOf z (settingBy kept h disk) stage (h .stageroots)) (rootOf z (settingBy worked h disk) stage (h .stageroots)))
-          (parentSpots z (settingOf h disk) (h .program .progress)) ≡ true
+      (parentSpots z (settingOf h disk) (h .program .progress)) ≡ true
   unfolding settingBy withWay
   parent-right areas live =
       let s = settingOf h disk in
       let g = order-good h disk o live (shape .staged) in
       let solid = order-solid h disk stage o areas in
       all-parent z (settingOf h disk) (h .program .progress) solid (g .orderly .staged)
-          (few-sectors z (settingOf h disk) (h .program .progress) (solid .lent) g) (g .entries) (shape .places) _
+      (few-sectors z (settingOf h disk) (h .program .progress) (solid .lent) g) (g .entries) (shape .places) _
       (known-disk z (settingOf h disk) stage (h .stageroots) (sound-disk disk h stage fine))
-          (known-stage z (settingOf h disk) stage (h .stageroots) (h .program .progress .staged) (sound-stage disk h stage fine live))
+      (known-stage z (settingOf h disk) stage (h .stageroots) (h .program .progress .staged) (sound-stage disk h stage fine live))
 
   pub pair-alike : areasRight h disk stage ≡ true → h .program .active ≡ true → runningPair z (settingBy kept h disk)
       (rootOf z (settingBy kept h disk) stage (h .stageroots)) (h .program .progress)
@@ -157,7 +161,7 @@ module _ (disk : List ℕ) (h : Host) (stage : List ℕ) (shape : Declared h) (f
   unfolding startingPair pairOf parent settingBy withWay
   starting-alike = ap (λ (r : List ℕ). pairing (parent (settingOf h disk) .size) r)
       (root-agree (rootOnDisk z (settingBy kept h disk)) (rootOnDisk z (settingBy worked h disk)) (committedSpots z (parent (settingOf h disk)))
-          (all-start z (settingOf h disk) _ (known-disk z (settingOf h disk) [] [] (sound-disk disk h stage fine))))
+      (all-start z (settingOf h disk) _ (known-disk z (settingOf h disk) [] [] (sound-disk disk h stage fine))))
 
   pub reached-alike : reachedBy kept disk h stage ≡ reachedBy worked disk h stage
   unfolding reachedBy reachedPairBy
@@ -171,7 +175,7 @@ module _ (disk : List ℕ) (h : Host) (stage : List ℕ) (shape : Declared h) (f
   unfolding closeBy agreedBy
   close-alike agrees size root =
       behind (not (inOrder h)) _ _ _ (λ _. behind (not (areasRight h disk stage)) _ _ _
-          (λ right. behind (not (h .program .active)) _ _ _ (λ live. behind _ _ _ _ (λ _. behind _ _ _ _ (λ _.
+      (λ right. behind (not (h .program .active)) _ _ _ (λ live. behind _ _ _ _ (λ _. behind _ _ _ _ (λ _.
       ap₂ (λ (x y : Pair). pick (samePair x y) (givenUp 0 disk h) (pick (samePair (pairing size root) x) (commit disk h stage) (givenUp 14 disk h)))
       (pair-alike (not-false _ right) (not-false _ live)) starting-alike)))))
 
@@ -200,7 +204,7 @@ module _ (disk : List ℕ) (h : Host) (stage : List ℕ) (shape : Declared h) (f
   unfolding closeBy agreedBy
   close-sound agrees size root =
       close-refused _ 1 _ (λ _. close-refused _ 2 _
-          (λ right. close-refused _ 4 _ (λ live. either-way Ends _ (givenUp 0 disk h) _ (λ _. given-up-sound 0) (λ _. close-refused _ 13 _ (λ _.
+      (λ right. close-refused _ 4 _ (λ live. either-way Ends _ (givenUp 0 disk h) _ (λ _. given-up-sound 0) (λ _. close-refused _ 13 _ (λ _.
       either-way Ends _ (givenUp 0 disk h) _ (λ _. given-up-sound 0) (λ _.
       either-way Ends _ (commit disk h stage) (givenUp 14 disk h) (λ _. commit-sound (not-false _ right) (not-false _ live)) (λ _. given-up-sound 14)))))))
 

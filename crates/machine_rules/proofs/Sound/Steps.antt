@@ -57,8 +57,12 @@ pub failing-alike : (z : ℕ) (s : Setting) (n : ℕ) (t : Turn) → every (righ
     → failing z (withWay kept s) n t ≡ failing z (withWay worked s) n t
 unfolding failing
 failing-alike z s n t h =
-    ap (λ (b : List ℕ). record { progress = failedProgress (t .progress); stage = t .stage; output = put (t .output) (t .progress .written) b;
-        roots = t .roots }) (failure-alike z s n h)
+    ap (λ (b : List ℕ). record {
+      progress = failedProgress (t .progress);
+      stage = t .stage;
+      output = put (t .output) (t .progress .written) b;
+      roots = t .roots;
+    }) (failure-alike z s n h)
 
 -- ---- an instruction that runs
 
@@ -68,8 +72,8 @@ success-alike : (z : ℕ) (s : Setting) (f r : Spot → List ℕ) (p : Progress)
 unfolding successBytes runningPair parentSpots parent withWay
 success-alike z s f r p asked from op a n size g u v =
     ap₂ (λ (x y : List ℕ). recordBytes 0 n (record { size = withStaged (withRunning p size) (g .staged) .size; root = x })
-        (proofCount z asked (length (spots from)) a)
-        (pick asked y [])
+    (proofCount z asked (length (spots from)) a)
+    (pick asked y [])
     (outputCount op a) (pick (eqb (outputCount op a) 0) [] (outputOf z (s .disk) (g .bytes) (spots from) a)))
     (root-agree f r _ u) (proof-agree z f r (s .disk) (g .bytes) (spots from) (a .first) (a .len) v)
 
@@ -99,15 +103,15 @@ module _ (z : ℕ) (s : Setting) (t : Turn) (solid : Solid z (withWay kept s)) (
   -- what is read is read with roots that are right
   source-after : (op : Op) (a : Args) (d : List ℕ) (r : Spot → List ℕ) (key : List ℕ)
       → every (agree (rootOf z (withWay kept s) (after op a d .bytes) (copies op a d)) (rootOf z (withWay worked s) (after op a d .bytes) (copies op a d)))
-          (spots (sourceOf z (withWay kept s) r (t .progress) op key)) ≡ true
+      (spots (sourceOf z (withWay kept s) r (t .progress) op key)) ≡ true
   unfolding after copies effect touched rehashed withWay spots sourceOf
   source-after Read a d r key =
       all-source z (withWay kept s) (t .progress) solid (good .orderly .staged) (few-sectors z (withWay kept s) (t .progress) (solid .lent) good)
-          (good .entries) (known .shaped) _
+      (good .entries) (known .shaped) _
       (known-disk z s (t .stage) (t .roots) disk-known) (known-stage z s (t .stage) (t .roots) (t .progress .staged) (known .stage)) r Read key
   source-after ReadSector a d r key =
       all-source z (withWay kept s) (t .progress) solid (good .orderly .staged) (few-sectors z (withWay kept s) (t .progress) (solid .lent) good)
-          (good .entries) (known .shaped) _
+      (good .entries) (known .shaped) _
       (known-disk z s (t .stage) (t .roots) disk-known) (known-stage z s (t .stage) (t .roots) (t .progress .staged) (known .stage)) r ReadSector key
   source-after Write a d r key = every-none _
   source-after Copy a d r key = every-none _
@@ -132,7 +136,7 @@ module _ (z : ℕ) (s : Setting) (t : Turn) (solid : Solid z (withWay kept s)) (
     unfolding after
     wrote =
         wrote-effect z (groundOf (withWay kept s)) (t .progress .size) (record { staged = t .progress .staged; bytes = t .stage })
-            (Slots.some z (solid .lent .size)) (good .orderly .whole)
+        (Slots.some z (solid .lent .size)) (good .orderly .whole)
         (omega (arith, few-sectors z (withWay kept s) (t .progress) (solid .lent) good, good .entries)) _ op a d (passes .spans) full few-new
 
     -- the roots beside the stage's slots are right again
@@ -147,7 +151,7 @@ module _ (z : ℕ) (s : Setting) (t : Turn) (solid : Solid z (withWay kept s)) (
     unfolding parentSpots parent withWay withStaged withRunning ranProgress
     parent-agree =
         all-parent z (withWay kept s) (ranProgress (t .progress) (cost (s .terms .head .length) (s .terms .prices) op (a .len)) n
-            (newSize (t .progress .size) op a) (after op a d .staged)) solid (ran .orderly .staged)
+        (newSize (t .progress .size) op a) (after op a d .staged)) solid (ran .orderly .staged)
         (few-sectors z (withWay kept s) _ (solid .lent) ran) (ran .entries) (known .shaped) _ (known-disk z s (after op a d .bytes) (copies op a d) disk-known)
         (known-stage z s (after op a d .bytes) (copies op a d) (after op a d .staged) staged-right)
 
@@ -162,11 +166,11 @@ module _ (z : ℕ) (s : Setting) (t : Turn) (solid : Solid z (withWay kept s)) (
           roots = copies op a d;
         } in
         let bytes : Way → Source → List ℕ = λ way from. successBytes z (withWay way s) (rootOf z (withWay way s) (after op a d .bytes) (copies op a d))
-            (t .progress) asked from op a
+        (t .progress) asked from op a
         (cost (s .terms .head .length) (s .terms .prices) op (a .len)) (newSize (t .progress .size) op a) (after op a d) in
         let from : Source = sourceOf z (withWay kept s) (rootAt z (withWay kept s) t) (t .progress) op (a .key) in
         ap (made from) (success-alike z s _ _ (t .progress) asked from op a _ _ (after op a d) parent-agree
-            (source-after op a d (rootAt z (withWay kept s) t) (a .key)))
+        (source-after op a d (rootAt z (withWay kept s) t) (a .key)))
         ∙ ap (λ (x : Source). made x (bytes worked x)) (source-same op (a .key))
 
     known-ran : (asked : Bool) → Known z (withWay kept s) (succeeding z (withWay kept s) asked op a d t)
@@ -185,12 +189,12 @@ module _ (z : ℕ) (s : Setting) (t : Turn) (solid : Solid z (withWay kept s)) (
       let n = judged z (withWay kept s) (rootAt z (withWay kept s) t) (t .progress) i l in
       let m = judged z (withWay worked s) (rootAt z (withWay worked s) t) (t .progress) i l in
       let e : judged z (withWay kept s) (rootAt z (withWay kept s) t) (t .progress) i l
-          ≡ judged z (withWay worked s) (rootAt z (withWay worked s) t) (t .progress) i l =
+      ≡ judged z (withWay worked s) (rootAt z (withWay worked s) t) (t .progress) i l =
       judged-alike z s _ _ (t .progress) i l now-agree in
       by (eqb (judged z (withWay kept s) (rootAt z (withWay kept s) t) (t .progress) i l) 0)
       (λ u. picks (eqb (judged z (withWay kept s) (rootAt z (withWay kept s) t) (t .progress) i l) 0) _ _ u
       ∙ succeeding-alike (opOf (i .name)) (argsOf (opOf (i .name)) l) (dataIn l) _ (passed z (withWay kept s) _ (t .progress) i l (eqb-true _ _ u))
-          (args-full (opOf (i .name)) l) run (i .proof)
+      (args-full (opOf (i .name)) l) run (i .proof)
       ∙ sym (picks (eqb (judged z (withWay worked s) (rootAt z (withWay worked s) t) (t .progress) i l) 0) _ _ (ap (λ (x : ℕ). eqb x 0) (sym e) ∙ u)))
       (λ u. skips (eqb (judged z (withWay kept s) (rootAt z (withWay kept s) t) (t .progress) i l) 0) _ _ u
       ∙ failing-alike z s _ t disk-known
@@ -205,21 +209,21 @@ module _ (z : ℕ) (s : Setting) (t : Turn) (solid : Solid z (withWay kept s)) (
       let op : Op = opOf (i .name) in
       let a : Args = argsOf (opOf (i .name)) l in
       let e : judged z (withWay kept s) (rootAt z (withWay kept s) t) (t .progress) i l
-          ≡ judged z (withWay worked s) (rootAt z (withWay worked s) t) (t .progress) i l =
+      ≡ judged z (withWay worked s) (rootAt z (withWay worked s) t) (t .progress) i l =
       judged-alike z s _ _ (t .progress) i l now-agree in
       let bytes : Way → Source → List ℕ = λ way from. successBytes z (withWay way s)
-          (rootOf z (withWay way s) (after (opOf (i .name)) (argsOf (opOf (i .name)) l) (dataIn l) .bytes)
-              (copies (opOf (i .name)) (argsOf (opOf (i .name)) l) (dataIn l)))
-          (t .progress) (i .proof) from
+      (rootOf z (withWay way s) (after (opOf (i .name)) (argsOf (opOf (i .name)) l) (dataIn l) .bytes)
+      (copies (opOf (i .name)) (argsOf (opOf (i .name)) l) (dataIn l)))
+      (t .progress) (i .proof) from
       (opOf (i .name)) (argsOf (opOf (i .name)) l) (cost (s .terms .head .length) (s .terms .prices) (opOf (i .name))
-          (argsOf (opOf (i .name)) l .len)) (newSize (t .progress .size) (opOf (i .name)) (argsOf (opOf (i .name)) l))
-          (after (opOf (i .name)) (argsOf (opOf (i .name)) l) (dataIn l)) in
+      (argsOf (opOf (i .name)) l .len)) (newSize (t .progress .size) (opOf (i .name)) (argsOf (opOf (i .name)) l))
+      (after (opOf (i .name)) (argsOf (opOf (i .name)) l) (dataIn l)) in
       by (eqb (judged z (withWay kept s) (rootAt z (withWay kept s) t) (t .progress) i l) 0)
       (λ u. picks (eqb (judged z (withWay kept s) (rootAt z (withWay kept s) t) (t .progress) i l) 0) _ _ u
       ∙ success-alike z s _ _ (t .progress) (i .proof) _ (opOf (i .name)) (argsOf (opOf (i .name)) l) _ _
-          (after (opOf (i .name)) (argsOf (opOf (i .name)) l) (dataIn l))
+      (after (opOf (i .name)) (argsOf (opOf (i .name)) l) (dataIn l))
       (parent-agree (opOf (i .name)) (argsOf (opOf (i .name)) l) (dataIn l) _ (passed z (withWay kept s) _ (t .progress) i l (eqb-true _ _ u))
-          (args-full (opOf (i .name)) l) run)
+      (args-full (opOf (i .name)) l) run)
       (source-after (opOf (i .name)) (argsOf (opOf (i .name)) l) (dataIn l) (rootAt z (withWay kept s) t) (argsOf (opOf (i .name)) l .key))
       ∙ ap (bytes worked) (source-same (opOf (i .name)) (argsOf (opOf (i .name)) l .key))
       ∙ sym (picks (eqb (judged z (withWay worked s) (rootAt z (withWay worked s) t) (t .progress) i l) 0) _ _ (ap (λ (x : ℕ). eqb x 0) (sym e) ∙ u)))
@@ -235,11 +239,11 @@ module _ (z : ℕ) (s : Setting) (t : Turn) (solid : Solid z (withWay kept s)) (
   stepped-known i l run =
       by (eqb (judged z (withWay kept s) (rootAt z (withWay kept s) t) (t .progress) i l) 0)
       (λ u. subst (λ (x : Turn). Known z (withWay kept s) x)
-          (sym (picks (eqb (judged z (withWay kept s) (rootAt z (withWay kept s) t) (t .progress) i l) 0) _ _ u))
+      (sym (picks (eqb (judged z (withWay kept s) (rootAt z (withWay kept s) t) (t .progress) i l) 0) _ _ u))
       (known-ran (opOf (i .name)) (argsOf (opOf (i .name)) l) (dataIn l) _ (passed z (withWay kept s) _ (t .progress) i l (eqb-true _ _ u))
-          (args-full (opOf (i .name)) l) run (i .proof)))
+      (args-full (opOf (i .name)) l) run (i .proof)))
       (λ u. subst (λ (x : Turn). Known z (withWay kept s) x)
-          (sym (skips (eqb (judged z (withWay kept s) (rootAt z (withWay kept s) t) (t .progress) i l) 0) _ _ u)) (known-failing _))
+      (sym (skips (eqb (judged z (withWay kept s) (rootAt z (withWay kept s) t) (t .progress) i l) 0) _ _ u)) (known-failing _))
 
 -- ---- a run
 
@@ -289,7 +293,7 @@ module _ (z : ℕ) (s : Setting) (solid : Solid z (withWay kept s)) (a : List �
       (λ r. let h = ready-going s k t r in
       trail-go z (withWay kept s) a k n t (ready-way kept t ∙ r)
       ∙ ap₂ _∷_ (recorded-alike t g q h) (trail-alike n (step z (withWay kept s) a t) (step-good t g h) (step-known t g q h)
-          ∙ ap (trail z (withWay worked s) a k n) (step-alike t g q h))
+      ∙ ap (trail z (withWay worked s) a k n) (step-alike t g q h))
       ∙ sym (trail-go z (withWay worked s) a k n t (ready-way worked t ∙ r)))
       (λ r. trail-stop z (withWay kept s) a k (suc n) t (ready-way kept t ∙ r) ∙ sym (trail-stop z (withWay worked s) a k (suc n) t (ready-way worked t ∙ r)))
 
@@ -301,5 +305,5 @@ module _ (z : ℕ) (s : Setting) (solid : Solid z (withWay kept s)) (a : List �
       by (ready s k t)
       (λ r. let h = ready-going s k t r in
       subst (λ (x : Turn). Known z (withWay kept s) x) (sym (runs-go z (withWay kept s) a k n t (ready-way kept t ∙ r)))
-          (runs-known n (step z (withWay kept s) a t) (step-good t g h) (step-known t g q h)))
+      (runs-known n (step z (withWay kept s) a t) (step-good t g h) (step-known t g q h)))
       (λ r. subst (λ (x : Turn). Known z (withWay kept s) x) (sym (runs-stop z (withWay kept s) a k (suc n) t (ready-way kept t ∙ r))) q)

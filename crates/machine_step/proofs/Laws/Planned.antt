@@ -121,7 +121,7 @@ module _ (z : ℕ) (s : Setting) (t : Turn) (input : List ℕ) (i : Instruction)
         let w = planned z s (rootAt z s t) (t .progress) i (inputsOf i input) in
         e ∙ picks (eqb (w .number) 0) _ _ (eq-eqb _ 0 can)
         ∙ ap (λ (y : Plan). record { plan = y; op = op; args = a; from = fromOf op i; sectors = spots from })
-            (planned-fine z s (rootAt z s t) (t .progress) i (inputsOf i input) can)
+        (planned-fine z s (rootAt z s t) (t .progress) i (inputsOf i input) can)
 
     pass : Passed z s (rootAt z s t) (t .progress) op a (recordCount z (i .proof) (length (spots from)) op a)
     unfolding op a from
@@ -135,7 +135,7 @@ module _ (z : ℕ) (s : Setting) (t : Turn) (input : List ℕ) (i : Instruction)
         let known : Write ≡ opOf (i .name) = sym w in
         ap (λ (o : Op). part input (fromOf o i) (argsOf o (inputsOf i input) .len)) w
         ∙ data-given input i operands (count-right i Write known (f .0)) (ap (λ (n : ℕ). pastEnd n i) (x .input) ∙ f .1)
-            (ap (λ (o : Op). wellFormed o (inputsOf i input)) known ∙ f .2)
+        (ap (λ (o : Op). wellFormed o (inputsOf i input)) known ∙ f .2)
 
     after-is : stageAfter z (s .copies) q (s .disk) input r (t .progress) (t .stage)
         ≡ effect z (groundOf s) (t .progress .size) op a (dataIn (inputsOf i input)) (staging (t .progress .staged) (t .stage))
@@ -219,7 +219,7 @@ module _ (z : ℕ) (s : Setting) (t : Turn) (input : List ℕ) (i : Instruction)
         subst (λ (g : Staging). Reads z (s .roots) (rootsAfter z r (t .progress) g (t .roots)) q (progressAfter r (t .progress) g)) (sym after-is)
         (subst (λ (l : List ℕ). Reads z (s .roots) l q (progressAfter r (t .progress) after)) (sym roots-are)
         (subst (λ (y : Said). Reads z (s .roots) roots q (ranProgress (t .progress) (y .plan .cost) (y .plan .count) (y .plan .size) (after .staged)))
-            (sym says-is)
+        (sym says-is)
         (reads-good z s _ (s .roots) roots q (x .solid) good-after (x .diskroots) roots-long own)))
 
     -- ---- what is shown
@@ -361,7 +361,7 @@ module _ (z : ℕ) (s : Setting) (t : Turn) (input : List ℕ) (i : Instruction)
         (pick (reads (y .op)) (y .args .len) 0) (shownBytes z (reads (y .op)) (s .disk) (after .bytes) (r .seen) (y .args .first) (y .args .len))) says-is
         ∙ ap₂ (λ (f : Spot → List ℕ) (b : Place). recordBytes 0 own-cost (pairing size (rooted f (b .slots) size))
         (proofCount z (i .proof) (length (spots from)) a) (shownProof z (i .proof) kept-reader (s .disk) (after .bytes) (r .seen) (a .first) (a .len))
-            (outputCount op a)
+        (outputCount op a)
         (shownBytes z (reads op) (s .disk) (after .bytes) (r .seen) (a .first) (a .len))) reader-kept own
         ∙ ap₂ (λ (pr bs : List ℕ). recordBytes 0 own-cost
         (runningPair z s reader (withStaged (withRunning (t .progress) size) (after .staged)))
@@ -377,5 +377,5 @@ module _ (z : ℕ) (s : Setting) (t : Turn) (input : List ℕ) (i : Instruction)
         ap (λ (g : Staging). left g (rootsAfter z r (t .progress) g (t .roots))) after-is
         ∙ ap (left after) roots-are
         ∙ ap₂ (λ (y : Said) (l : List ℕ). turn (ranProgress (t .progress) (y .plan .cost) (y .plan .count) (y .plan .size) (after .staged))
-            (after .bytes) (laid l) roots)
+        (after .bytes) (laid l) roots)
         says-is record-is

@@ -17,5 +17,5 @@ abbrev μ-loop : tie.MeasureT-loop
 pub repeated-spec : {M : Type 1} → statement M
 repeated-spec =
     tie.close (tie.spec Inv-loop μ-loop (λ c κs. search needs) (λ c. search needs) (λ c κs. search needs) (λ c. omega arith)
-        (λ c κs. search needs) (λ c. omega arith) (λ c. search needs) (λ c. search needs) (λ c. search needs) (λ c. search needs)
-        (λ c. search needs) (λ c. search needs))
+    (λ c κs. search needs) (λ c. omega arith) (λ c. search needs) (λ c. search needs) (λ c. search needs) (λ c. search needs)
+    (λ c. search needs) (λ c. search needs))

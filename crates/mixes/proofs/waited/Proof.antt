@@ -19,5 +19,5 @@ abbrev μ-loop : tie.MeasureT-loop
 pub waited-spec : {M : Type 1} → statement M
 waited-spec =
     tie.close (tie.spec Inv-loop μ-loop (λ c κs. search needs) (λ c. search needs) (λ c. search needs) (λ c. search needs)
-        (λ c. search needs) (λ c. search needs) (λ c κs. search needs) (λ c. omega arith) (λ c κs. search needs) (λ c. omega arith)
-        (λ c. search needs) (λ c. search needs) (λ c. search needs) (λ c. search needs) (λ c. search needs))
+    (λ c. search needs) (λ c. search needs) (λ c κs. search needs) (λ c. omega arith) (λ c κs. search needs) (λ c. omega arith)
+    (λ c. search needs) (λ c. search needs) (λ c. search needs) (λ c. search needs) (λ c. search needs))

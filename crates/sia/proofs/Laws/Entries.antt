@@ -80,9 +80,12 @@ module _ {A : Type 0} (one : List ℕ → Reading A) (room : ℕ) (none : A) (n 
     stop {number} {next} {x} h r f =
         let here = stops (λ x rest. after (several one (n - (i + 1)) rest) (λ xs end. value (x ∷ xs) end)) [] [] r f ∙ sym (next-one h) in
         let whole : reading number [] [] ≡ several one n (drop at bs) = carries (λ xs end. value (take i list ++ xs) end) number [] [] [] [] f
-            ∙ ap (onto (take i list)) here ∙ sym (e .ends) in
-        record { stays = e .stays; says = carries _ number [] [] list (drop place bs) f
-            ∙ ap (λ (s : Reading (List A)). after s (λ xs rest. value (filled room none xs) rest)) whole }
+        ∙ ap (onto (take i list)) here ∙ sym (e .ends) in
+        record {
+          stays = e .stays;
+          says = carries _ number [] [] list (drop place bs) f
+              ∙ ap (λ (s : Reading (List A)). after s (λ xs rest. value (filled room none xs) rest)) whole;
+        }
 
     pub done : n ≤ i → n ≤ room → Reads (entries one room none n (drop at bs)) bs 0 place list
     unfolding entries onto several after filled
@@ -91,7 +94,7 @@ module _ {A : Type 0} (one : List ℕ → Reading A) (room : ℕ) (none : A) (n 
         let l : length (take i list) ≡ i = length-take-le i list (omega (arith, e .long, e .within)) in
         let whole : several one n (drop at bs) ≡ value (take i list) (drop place bs) =
         e .ends ∙ ap (λ (m : ℕ). onto (take i list) (several one m (drop place bs))) z
-            ∙ ap (λ (xs : List A). value xs (drop place bs)) (append-nil (take i list)) in
+        ∙ ap (λ (xs : List A). value xs (drop place bs)) (append-nil (take i list)) in
         let full : list ≡ take i list ++ replicate (room - length (take i list)) none =
         sym (take-append-drop i list) ∙ ap (λ (xs : List A). take i list ++ xs) (e .empty ∙ ap (λ (m : ℕ). replicate (room - m) none) (sym l)) in
         record {

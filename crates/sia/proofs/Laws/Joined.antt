@@ -95,14 +95,21 @@ length-four w x y z = omega (arith, length-append w (x ++ (y ++ z)), length-appe
 pub length-instruction : (x : Instruction) → length (x .name) ≡ 16 → length (x .operands) ≡ 4 → x .count ≤ 4 → length (instructionBytes x) ≡ 25 + 16 * x .count
 unfolding instructionBytes
 length-instruction x e f h =
-    omega
-    (arith, length-four (x .name) (le8 (x .count)) (joined operandBytes (operandsIn x)) (flagByte (x .proof) ∷ []), length-bytes 8 (x .count),
-        length-operands (operandsIn x), length-take-le (x .count) (x .operands) (omega arith))
+    omega (
+      arith,
+      length-four (x .name) (le8 (x .count)) (joined operandBytes (operandsIn x)) (flagByte (x .proof) ∷ []),
+      length-bytes 8 (x .count),
+      length-operands (operandsIn x),
+      length-take-le (x .count) (x .operands) (omega arith),
+    )
 
 -- the rest of a head
 pub length-head : (h : Head) → length (h .contract) ≡ 32 → length (encode h) ≡ 48 + length (joined instructionBytes (instructionsIn h))
 unfolding encode
 length-head h e =
-    omega
-    (arith, length-four (h .contract) (le8 (h .count)) (joined instructionBytes (instructionsIn h)) (le8 (h .length)), length-bytes 8 (h .count),
-        length-bytes 8 (h .length))
+    omega (
+      arith,
+      length-four (h .contract) (le8 (h .count)) (joined instructionBytes (instructionsIn h)) (le8 (h .length)),
+      length-bytes 8 (h .count),
+      length-bytes 8 (h .length),
+    )

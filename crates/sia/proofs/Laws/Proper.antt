@@ -127,10 +127,10 @@ instruction-fit bs h x rest e =
     let ht = rest-bytes (le8 (t .x)) (t .rest) hs (limited-back 4 (s .rest) hs (t .x) (t .rest) (t .first)) in
     let u = split (entries operand 4 noOperand (t .x) (t .rest)) _ (t .second) in
     let list = entries-each operand operandBytes operand-back ProperOperand operand-proper 4 noOperand (t .x) (t .rest) ht (u .x)
-        (u .rest) few no-operand (u .first) in
+    (u .rest) few no-operand (u .first) in
     let v = split (flag (u .rest)) _ (u .second) in
     as-read Fit (record { name = s .x; count = t .x; operands = u .x; proof = v .x }) (v .rest) (v .second)
-        (record { name = name .1; operands = list .long; each = list .all }, few)
+    (record { name = name .1; operands = list .long; each = list .all }, few)
 
 -- a head that was read
 pub record Good (h : Head) : Type 0 where
@@ -148,11 +148,14 @@ head-good bs h x rest e =
     let ht = rest-bytes (le8 (t .x)) (t .rest) hs (limited-back 32 (s .rest) hs (t .x) (t .rest) (t .first)) in
     let u = split (entries instruction 32 noInstruction (t .x) (t .rest)) _ (t .second) in
     let list = entries-each instruction instructionBytes instruction-back Fit instruction-fit 32 noInstruction (t .x) (t .rest) ht (u .x)
-        (u .rest) few no-instruction (u .first) in
+    (u .rest) few no-instruction (u .first) in
     let v = split (limited 65536 (u .rest)) _ (u .second) in
     as-read Good (record { contract = s .x; count = t .x; instructions = u .x; length = v .x }) (v .rest) (v .second) (record {
       proper = record { contract = id .1; instructions = list .long; each = each-proper (u .x) (list .all) };
       limits = is-within (record { contract = s .x; count = t .x; instructions = u .x; length = v .x })
-          (record { count = few; declared = limited-within 65536 (u .rest) {n = v .x} {end = v .rest} (v .first);
-          few = each-few (take (t .x) (u .x)) (list .within) });
+          (record {
+            count = few;
+            declared = limited-within 65536 (u .rest) {n = v .x} {end = v .rest} (v .first);
+            few = each-few (take (t .x) (u .x)) (list .within);
+          });
     })

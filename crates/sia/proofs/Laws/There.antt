@@ -88,10 +88,10 @@ instruction-there x h rest =
     ∙ follow _ (bytes-there 16 (x .name) _ (h .0 .name))
     (follow _ (limited-there 4 (x .count) _ (omega arith) (h .1))
     (follow _ (entries-there operand operandBytes (λ o. o) ProperOperand operand-there 4 noOperand (x .count) (operandsIn x) long
-        (each-take ProperOperand (x .operands) (x .count) (h .0 .each)) _)
+    (each-take ProperOperand (x .operands) (x .count) (h .0 .each)) _)
     (follow _ (flag-there (x .proof) rest)
     (ap (λ (os : List Operand). value (record { name = x .name; count = x .count; operands = filled 4 noOperand os; proof = x .proof }) rest)
-        (map-same (operandsIn x))))))
+    (map-same (operandsIn x))))))
 
 all-fit : (xs : List Instruction) → Each ProperInstruction xs → every fewOperands xs ≡ true → Each Fit xs
 unfolding Each every

@@ -12,4 +12,4 @@ unfolding number
 number-of-spec = tie.close (tie.spec
     (λ c. no _ _ _ (ne-eqb _ _ (c .if1 .taken)) refl) (λ c κs. search needs)
     (λ c. let eight = c .before .if1 .left in
-        yes _ _ _ (eq-eqb _ _ eight) (ap (decoded 0) (c .load .ensures ∙ ap valueOf (part-whole _ 8 (sym eight))))))
+    yes _ _ _ (eq-eqb _ _ eight) (ap (decoded 0) (c .load .ensures ∙ ap valueOf (part-whole _ 8 (sym eight))))))

@@ -35,19 +35,19 @@ op-of-spec = tie.close (tie.spec
     (λ c. yes _ _ _ (sym (c .before .is .ensures) ∙ c .if1 .taken) refl)
     (λ c κs. search needs)
     (λ c. let one = c .before .before in
-        no _ _ _ (sym (one .before .is .ensures) ∙ one .if1 .left) (yes _ _ _ (sym (c .before .is2 .ensures) ∙ c .if2 .taken) refl))
+    no _ _ _ (sym (one .before .is .ensures) ∙ one .if1 .left) (yes _ _ _ (sym (c .before .is2 .ensures) ∙ c .if2 .taken) refl))
     (λ c κs. search needs)
     (λ c. past-2 (c .before .before) _ (yes _ _ _ (sym (c .before .is3 .ensures) ∙ c .if3 .taken) refl))
     (λ c κs. search needs)
     (λ c. let three = c .before .before in
-        past-2 (three .before .before) _ (no _ _ _ (sym (three .before .is3 .ensures) ∙ three .if3 .left)
-        (yes _ _ _ (sym (c .before .is4 .ensures) ∙ c .if4 .taken) refl)))
+    past-2 (three .before .before) _ (no _ _ _ (sym (three .before .is3 .ensures) ∙ three .if3 .left)
+    (yes _ _ _ (sym (c .before .is4 .ensures) ∙ c .if4 .taken) refl)))
     (λ c κs. search needs)
     (λ c. past-4 (c .before .before) _ (yes _ _ _ (sym (c .before .is5 .ensures) ∙ c .if5 .taken) refl))
     (λ c κs. search needs)
     (λ c. let five = c .before .before in
-        past-4 (five .before .before) _ (no _ _ _ (sym (five .before .is5 .ensures) ∙ five .if5 .left)
-        (yes _ _ _ (sym (c .before .is6 .ensures) ∙ c .if6 .taken) refl)))
+    past-4 (five .before .before) _ (no _ _ _ (sym (five .before .is5 .ensures) ∙ five .if5 .left)
+    (yes _ _ _ (sym (c .before .is6 .ensures) ∙ c .if6 .taken) refl)))
     (λ c. let five = c .before .before in
-        past-4 (five .before .before) _ (no _ _ _ (sym (five .before .is5 .ensures) ∙ five .if5 .left)
-        (no _ _ _ (sym (c .before .is6 .ensures) ∙ c .if6 .left) refl))))
+    past-4 (five .before .before) _ (no _ _ _ (sym (five .before .is5 .ensures) ∙ five .if5 .left)
+    (no _ _ _ (sym (c .before .is6 .ensures) ∙ c .if6 .left) refl))))

@@ -40,11 +40,18 @@ returns-5 c =
     let count = list .before .before .before in
     let bytes = start count .args .bytes .now in
     let id = count .before .fixed-id .ensures ∙ put-part _ bytes 0 32 refl (there count) (copied count .copy-between .ensures) in
-    record { stays = declared .limited2 .ensures .stays; says =
-        identified count _ (goes _ (count .limited .ensures) (list .before .if2 .left)
-        (goes _ (list .instructions .ensures) (declared .before .if3 .left) (goes _ (declared .limited2 .ensures) (c .before .if4 .left)
-        (ap (λ (bs : List ℕ). value (record { contract = bs; count = count .limited .result .value; instructions = list .instructions .result .list;
-            length = declared .limited2 .result .value }) (drop (declared .limited2 .result .next) bytes)) id)))) }
+    record {
+      stays = declared .limited2 .ensures .stays;
+      says =
+          identified count _ (goes _ (count .limited .ensures) (list .before .if2 .left)
+          (goes _ (list .instructions .ensures) (declared .before .if3 .left) (goes _ (declared .limited2 .ensures) (c .before .if4 .left)
+          (ap (λ (bs : List ℕ). value (record {
+            contract = bs;
+            count = count .limited .result .value;
+            instructions = list .instructions .result .list;
+            length = declared .limited2 .result .value;
+          }) (drop (declared .limited2 .result .next) bytes)) id))));
+    }
 
 pub head-spec : {M : Type 1} → statement M
 unfolding head
@@ -53,13 +60,19 @@ head-spec = tie.close (tie.spec
     (λ c. record { stays = search needs; says = short _ (c .before .before .before .args .bytes .now) 0 32 _ _ (omega arith) })
     (λ c. search needs) (λ c κs. search needs) (λ c κs. search needs) (λ c κs. search needs)
     (λ c. let count = c .before .before in
-        record { stays = search needs; says = identified count _ (stops _ _ _ (count .limited .ensures) (c .if2 .taken)) })
+    record { stays = search needs; says = identified count _ (stops _ _ _ (count .limited .ensures) (c .if2 .taken)) })
     (λ c κs. let read = c .before .before .limited .ensures in (read .stays, limited-within _ _ (sym (read .says) ∙ fine _ _ _ (c .if2 .left))))
     (λ c. let list = c .before .before in let count = list .before .before .before in
-        record { stays = search needs; says = identified count _ (goes _ (count .limited .ensures) (list .before .if2 .left)
-            (stops _ _ _ (list .instructions .ensures) (c .if3 .taken))) })
+    record {
+      stays = search needs;
+      says = identified count _ (goes _ (count .limited .ensures) (list .before .if2 .left)
+          (stops _ _ _ (list .instructions .ensures) (c .if3 .taken)));
+    })
     (λ c κs. search needs)
     (λ c. let declared = c .before .before in let list = declared .before .before .before in let count = list .before .before .before in
-        record { stays = search needs; says = identified count _ (goes _ (count .limited .ensures) (list .before .if2 .left)
-            (goes _ (list .instructions .ensures) (declared .before .if3 .left) (stops _ _ _ (declared .limited2 .ensures) (c .if4 .taken)))) })
+    record {
+      stays = search needs;
+      says = identified count _ (goes _ (count .limited .ensures) (list .before .if2 .left)
+          (goes _ (list .instructions .ensures) (declared .before .if3 .left) (stops _ _ _ (declared .limited2 .ensures) (c .if4 .taken))));
+    })
     returns-5)

@@ -49,11 +49,18 @@ returns-5 c =
     let name =
     count .before .fixed-name .ensures
     ∙ put-part entry bytes (start count .args .at) 16 empty (omega (arith, there count)) (copied count .copy-between .ensures) in
-    record { stays = proof .flag .ensures .stays; says =
-        named count _ (goes _ (count .limited .ensures) (else2 .if2 .left)
-        (goes _ (list .operands .ensures) (proof .before .if3 .left) (goes _ (proof .flag .ensures) (c .before .if4 .left)
-        (ap (λ (bs : List ℕ). value (record { name = bs; count = count .limited .result .value; operands = list .operands .result .list;
-            proof = proof .flag .result .value }) (drop (proof .flag .result .next) bytes)) name)))) }
+    record {
+      stays = proof .flag .ensures .stays;
+      says =
+          named count _ (goes _ (count .limited .ensures) (else2 .if2 .left)
+          (goes _ (list .operands .ensures) (proof .before .if3 .left) (goes _ (proof .flag .ensures) (c .before .if4 .left)
+          (ap (λ (bs : List ℕ). value (record {
+            name = bs;
+            count = count .limited .result .value;
+            operands = list .operands .result .list;
+            proof = proof .flag .result .value;
+          }) (drop (proof .flag .result .next) bytes)) name))));
+    }
 
 pub instruction-spec : {M : Type 1} → statement M
 unfolding instruction
@@ -62,17 +69,23 @@ instruction-spec = tie.close (tie.spec
     (λ c. let a = c .before .before .args in record { stays = search needs; says = short _ (a .bytes .now) (a .at) 16 _ _ (c .if1 .taken) })
     (λ c. search needs)
     (λ c κs. let back-3 = c .before .before .before in let back-4 = back-3 .before in
-        let named = ap (λ (x : Instruction). length (x .name)) (back-4 .pre .1) in (omega arith, omega arith))
+    let named = ap (λ (x : Instruction). length (x .name)) (back-4 .pre .1) in (omega arith, omega arith))
     (λ c κs. search needs) (λ c. search needs) (λ c κs. search needs)
     (λ c. let count = c .before .before in
-        record { stays = search needs; says = named count _ (stops _ _ _ (count .limited .ensures) (c .if2 .taken)) })
+    record { stays = search needs; says = named count _ (stops _ _ _ (count .limited .ensures) (c .if2 .taken)) })
     operands-requires
     (λ c. let list = c .before .before in let test = list .before .before in let count = test .before .before in
-        record { stays = start count .pre .0; says = named count _ (goes _ (count .limited .ensures) (test .if2 .left)
-            (stops _ _ _ (list .operands .ensures) (c .if3 .taken))) })
+    record {
+      stays = start count .pre .0;
+      says = named count _ (goes _ (count .limited .ensures) (test .if2 .left)
+          (stops _ _ _ (list .operands .ensures) (c .if3 .taken)));
+    })
     (λ c κs. search needs)
     (λ c. let proof = c .before .before in let list = proof .before .before .before in let test = list .before .before in
-        let count = test .before .before in
-        record { stays = start count .pre .0; says = named count _ (goes _ (count .limited .ensures) (test .if2 .left)
-            (goes _ (list .operands .ensures) (proof .before .if3 .left) (stops _ _ _ (proof .flag .ensures) (c .if4 .taken)))) })
+    let count = test .before .before in
+    record {
+      stays = start count .pre .0;
+      says = named count _ (goes _ (count .limited .ensures) (test .if2 .left)
+          (goes _ (list .operands .ensures) (proof .before .if3 .left) (stops _ _ _ (proof .flag .ensures) (c .if4 .taken))));
+    })
     returns-5)

@@ -20,7 +20,7 @@ loop-again c =
     let a = at-loop .before .before .before in
     let l = at-loop .loop in
     further _ _ _ _ _ _ (l .inv) (in-loop .loop-test .taken) (a .pre .1)
-        (else1 .before .before .instruction .ensures) (else1 .if1 .left)
+    (else1 .before .before .instruction .ensures) (else1 .if1 .left)
 
 pub instructions-spec : {M : Type 1} → statement M
 instructions-spec = tie.close (tie.spec
@@ -29,7 +29,7 @@ instructions-spec = tie.close (tie.spec
     (λ c. search needs) (λ c. omega arith)
     (λ c κs. (c .before .before .loop .inv .stays, fresh _ _ _ _ _ _ (c .before .before .loop .inv) _ (omega arith)))
     (λ c. let back-3 = c .before .before .before in let back-4 = back-3 .before in let back-5 = back-4 .before in let l = back-5 .loop in
-        stop _ _ _ _ _ _ (l .inv) (back-4 .loop-test .taken) (c .before .before .instruction .ensures) (c .if1 .taken))
+    stop _ _ _ _ _ _ (l .inv) (back-4 .loop-test .taken) (c .before .before .instruction .ensures) (c .if1 .taken))
     (λ c. search needs) (λ c. omega arith) (λ c. search needs) (λ c. omega arith) loop-again
     (λ c. let back-3 = c .before .before .before in let back-4 = back-3 .before in
-        done _ _ _ _ _ _ (c .before .loop .inv) (c .loop-test .left) (back-4 .pre .1)))
+    done _ _ _ _ _ _ (c .before .loop .inv) (c .loop-test .left) (back-4 .pre .1)))

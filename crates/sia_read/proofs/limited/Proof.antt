@@ -13,7 +13,7 @@ limited-spec = tie.close (tie.spec
     (λ c κs. search needs)
     (λ c. let read = c .before .before .eight .ensures in record { stays = read .stays; says = stops _ _ _ read (c .if1 .taken) })
     (λ c. let back-3 = c .before .before .before in let back-4 = back-3 .before in let read = back-4 .eight .ensures in
-        record { stays = search needs; says = goes _ read (c .before .before .if1 .left) (yes _ _ _ (lt-ltb _ _ (c .if2 .taken)) refl) })
+    record { stays = search needs; says = goes _ read (c .before .before .if1 .left) (yes _ _ _ (lt-ltb _ _ (c .if2 .taken)) refl) })
     (λ c. let back-3 = c .before .before .before in let back-4 = back-3 .before in let read = back-4 .eight .ensures in
-        let zero = c .before .before .if1 .left in
-        record { stays = read .stays; says = goes _ read zero (no _ _ _ (le-ltb _ _ (c .if2 .left)) (fine _ _ _ zero)) }))
+    let zero = c .before .before .if1 .left in
+    record { stays = read .stays; says = goes _ read zero (no _ _ _ (le-ltb _ _ (c .if2 .left)) (fine _ _ _ zero)) }))

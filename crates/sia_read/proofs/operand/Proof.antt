@@ -23,5 +23,5 @@ operand-spec = tie.close (tie.spec
     (λ c. record { stays = search needs; says = stops _ _ _ (c .before .before .eight .ensures) (c .if1 .taken) })
     (λ c κs. search needs) returns-2
     (λ c. let back-3 = c .before .before .before in let back-5 = back-3 .before .before in let first = back-5 .eight .ensures in
-        let second = c .before .before .eight2 .ensures in
-        record { stays = second .stays; says = goes _ first (c .before .before .before .if1 .left) (goes _ second (c .if2 .left) refl) }))
+    let second = c .before .before .eight2 .ensures in
+    record { stays = second .stays; says = goes _ first (c .before .before .before .if1 .left) (goes _ second (c .if2 .left) refl) }))

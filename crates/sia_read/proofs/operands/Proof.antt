@@ -18,7 +18,7 @@ loop-again c =
     let else1 = c .before in let in-loop = else1 .before .before .before in let at-loop = in-loop .before in let a = at-loop .before .before in
     let l = at-loop .loop in
     further _ _ _ _ _ _ (l .inv) (in-loop .loop-test .taken) (a .pre .1 .0) (else1 .before .before .operand .ensures)
-        (else1 .if1 .left)
+    (else1 .if1 .left)
 
 pub operands-spec : {M : Type 1} → statement M
 operands-spec = tie.close (tie.spec
@@ -26,6 +26,6 @@ operands-spec = tie.close (tie.spec
     (λ c. begin _ _ _ _ _ _ (c .before .pre .0) (c .before .pre .1 .1))
     (λ c κs. c .before .loop .inv .stays)
     (λ c. let back-3 = c .before .before .before in let back-4 = back-3 .before in let l = back-4 .loop in
-        stop _ _ _ _ _ _ (l .inv) (c .before .before .before .loop-test .taken) (c .before .before .operand .ensures) (c .if1 .taken))
+    stop _ _ _ _ _ _ (l .inv) (c .before .before .before .loop-test .taken) (c .before .before .operand .ensures) (c .if1 .taken))
     (λ c. search needs) (λ c. omega arith) (λ c. search needs) (λ c. omega arith) loop-again
     (λ c. done _ _ _ _ _ _ (c .before .loop .inv) (c .loop-test .left) (c .before .before .before .pre .1 .0)))

@@ -12,7 +12,7 @@ read-head-spec = tie.close (tie.spec
     (λ c. ap (told _) (c .empty .ensures) ∙ answer-fault (c .before .before .before .head .ensures) (c .before .if1 .taken))
     (λ c κs. search needs)
     (λ c. let back-3 = c .before .before .before in let back-5 = back-3 .before .before in ap (told 9) (c .empty2 .ensures)
-        ∙ answer-more (back-5 .head .ensures)
-        (c .before .before .before .if1 .left) (λ e. omega (arith, c .before .if2 .taken)))
+    ∙ answer-more (back-5 .head .ensures)
+    (c .before .before .before .if1 .left) (λ e. omega (arith, c .before .if2 .taken)))
     (λ c. let back-3 = c .before .before .before in let back-5 = back-3 .before .before in
-        answer-all (back-5 .head .ensures) (c .before .before .before .if1 .left) (omega (arith, c .before .if2 .left))))
+    answer-all (back-5 .head .ensures) (c .before .before .before .if1 .left) (omega (arith, c .before .if2 .left))))

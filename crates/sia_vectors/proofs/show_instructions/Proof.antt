@@ -14,4 +14,4 @@ abbrev μ-loop : tie.MeasureT-loop
 pub show-instructions-spec : {M : Type 1} → statement M
 show-instructions-spec =
     tie.close (tie.spec Inv-loop μ-loop (λ c. omega arith) (λ c. search needs) (λ c. omega arith) (λ c κs. search needs) (λ c. search needs)
-        (λ c. omega arith) (λ c. omega arith) (λ c. search needs))
+    (λ c. omega arith) (λ c. omega arith) (λ c. search needs))

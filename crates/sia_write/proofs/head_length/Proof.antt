@@ -11,4 +11,4 @@ head-length-spec = tie.close (tie.spec
     (λ c κs. let w = within-is (c .before .args .head) (c .before .pre) in (w .count, w .few))
     (λ c. let w = within-is (c .before .before .args .head) (c .before .before .pre) in omega arith)
     (λ c. let s = c .before .before in
-        ap (λ (n : ℕ). 48 + n) (c .instructions-length .ensures .0) ∙ sym (length-head (s .args .head) (known-head (s .args .head) _ (s .good .0) .0))))
+    ap (λ (n : ℕ). 48 + n) (c .instructions-length .ensures .0) ∙ sym (length-head (s .args .head) (known-head (s .args .head) _ (s .good .0) .0))))

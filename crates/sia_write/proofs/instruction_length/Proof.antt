@@ -9,4 +9,4 @@ pub instruction-length-spec : {M : Type 1} → statement M
 instruction-length-spec = tie.close (tie.spec
     (λ c. search needs) (λ c. search needs)
     (λ c. let long = known-instruction (c .args .x) _ (c .good .0) in
-        (sym (length-instruction (c .args .x) (long .0) (long .1) (c .pre)), omega arith)))
+    (sym (length-instruction (c .args .x) (long .0) (long .1) (c .pre)), omega arith)))

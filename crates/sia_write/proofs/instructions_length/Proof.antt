@@ -16,8 +16,7 @@ abbrev μ-loop : tie.MeasureT-loop
 loop-again : tie.Need-loop-again Inv-loop μ-loop
 loop-again c =
     let at-loop = c .before .before .before in let s = at-loop .before in
-    let l = at-loop .loop in
-    (
+    let l = at-loop .loop in (
       omega arith,
       (λ x. l .inv .1 x + c .instruction-length .ensures .0 x) ∙ sym (length-more instructionBytes (s .args .t1) (l .i) _ (omega (arith, s .good .0 .1 .0 .1))),
       omega arith,
@@ -35,6 +34,6 @@ unfolding joined
 instructions-length-spec = tie.close (tie.spec
     Inv-loop μ-loop (λ c. (omega arith, refl, omega arith)) (λ c. search needs) (λ c. omega arith)
     (λ c κs. let s = c .before .before .before in
-        leb-true _ _ (every-taken fewOperands _ _ (c .before .before .loop .i) _ (s .pre .1) (c .before .loop-test .taken)
-            (omega (arith, s .good .0 .1 .0 .1))))
+    leb-true _ _ (every-taken fewOperands _ _ (c .before .before .loop .i) _ (s .pre .1) (c .before .loop-test .taken)
+    (omega (arith, s .good .0 .1 .0 .1))))
     (λ c. omega arith) (λ c. search needs) (λ c. omega arith) loop-again returns)

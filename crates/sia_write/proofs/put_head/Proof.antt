@@ -71,7 +71,7 @@ put-head-spec = tie.close (tie.spec
     (λ c κs. search needs) (λ c. search needs) copy-between-requires
     (λ c κs. let r = room (before-id (c .before .before .before)) in omega arith)
     (λ c κs. let back-3 = c .before .before .before in let back-4 = back-3 .before in let r = room (before-id (before-count (back-4))) in
-        (r .limits .count, (r .limits .few, omega arith)))
+    (r .limits .count, (r .limits .few, omega arith)))
     (λ c κs. let r = room (before-id (before-count (before-list (c .before .before .before)))) in
-        omega (arith, c .before .before .before .put-instructions .ensures .0))
+    omega (arith, c .before .before .before .put-instructions .ensures .0))
     (λ c. search needs) returns)

@@ -74,8 +74,8 @@ put-instruction-spec = tie.close (tie.spec
     (λ c κs. let r = room (before-name (c .before .before .before)) in omega arith)
     (λ c. search needs)
     (λ c κs. let back-3 = c .before .before .before in let back-4 = back-3 .before in let r = room (before-name (before-count (back-4))) in
-        (r .few, omega arith))
+    (r .few, omega arith))
     (λ c. search needs) (λ c. search needs) (λ c. search needs) (λ c κs. search needs)
     (λ c κs. let back-3 = c .before .before .before in let back-4 = back-3 .before in
-        let r = room (before-name (before-count (before-operands (back-4)))) in omega arith)
+    let r = room (before-name (before-count (before-operands (back-4)))) in omega arith)
     (λ c. search needs) returns)

@@ -43,8 +43,12 @@ add-place c =
     let l = at-loop .loop in
     let long : s .args .n ≤ length (s .args .t1) = omega (arith, s .good .0 .1 .0 .1) in
     let room : s .args .at + length (joined instructionBytes (take (s .args .n) (s .args .t1))) ≤ length (l .out) = omega (arith, s .pre .1 .1) in
-    omega (arith, c .instruction-length .ensures .0, room-next instructionBytes (s .args .t1) (l .i) (s .args .n) (s .args .at) past
-        (in-loop .loop-test .taken) long room (l .inv .2))
+    omega (
+      arith,
+      c .instruction-length .ensures .0,
+      room-next instructionBytes (s .args .t1) (l .i) (s .args .n) (s .args .at) past
+          (in-loop .loop-test .taken) long room (l .inv .2),
+    )
 
 loop-again : tie.Need-loop-again Inv-loop μ-loop
 loop-again c =
@@ -73,7 +77,7 @@ put-instructions-spec = tie.close (tie.spec
     Inv-loop μ-loop (λ c. (omega arith, refl, omega arith, sym (put-nil _ _))) (λ c. search needs) (λ c. omega arith)
     put-instruction-requires
     (λ c κs. let back-3 = c .before .before .before in let back-5 = back-3 .before .before in let back-6 = back-5 .before in
-        let back-8 = back-6 .before .before in let s = back-8 in
-        leb-true _ _ (every-taken fewOperands _ _ (back-6 .loop .i) _ (s .pre .1 .0)
-        (back-5 .loop-test .taken) (omega (arith, s .good .0 .1 .0 .1))))
+    let back-8 = back-6 .before .before in let s = back-8 in
+    leb-true _ _ (every-taken fewOperands _ _ (back-6 .loop .i) _ (s .pre .1 .0)
+    (back-5 .loop-test .taken) (omega (arith, s .good .0 .1 .0 .1))))
     add-place (λ c. search needs) (λ c. omega arith) loop-again (λ c. search needs) returns)

@@ -26,7 +26,7 @@ loop-again c =
     let place : s .args .at + 16 * l .i ≡ s .args .at + length (joined operandBytes (take (l .i) list)) =
     omega (arith, length-operands (take (l .i) list), length-take-le (l .i) list (omega arith)) in
     let two = lay-two _ _ _ _ _ (at-store .store .ensures) (at-store2 .store2 .ensures)
-        (length-bytes 8 _) refl in
+    (length-bytes 8 _) refl in
     (omega arith, search needs, two ∙ lay-more operandBytes _ _ list (l .i) _ _ (omega arith) place (l .inv .2))
 
 returns : tie.Need-returns Inv-loop μ-loop

@@ -14,4 +14,4 @@ abbrev μ-loop : tie.MeasureT-loop
 pub skip-spec : {M : Type 1} → statement M
 skip-spec =
     tie.close (tie.spec Inv-loop μ-loop (λ c. omega arith) (λ c. omega arith) (λ c κs. search needs) (λ c. omega arith) (λ c. omega arith)
-        (λ c. omega arith) (λ c. omega arith) (λ c. omega arith))
+    (λ c. omega arith) (λ c. omega arith) (λ c. omega arith))

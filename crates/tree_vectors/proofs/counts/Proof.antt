@@ -16,5 +16,5 @@ abbrev μ-loop : tie.MeasureT-loop
 pub counts-spec : {M : Type 1} → statement M
 counts-spec =
     tie.close (tie.spec Inv-loop μ-loop (λ c. (omega arith, refl)) (λ c. omega arith) (λ c. omega arith) (λ c κs. tt) (λ c. omega arith)
-        (λ c. omega arith) (λ c κs. tt) (λ c. omega arith) (λ c. omega arith) (λ c. (omega arith, search needs)) (λ c. search needs)
-        (λ c. tt))
+    (λ c. omega arith) (λ c κs. tt) (λ c. omega arith) (λ c. omega arith) (λ c. (omega arith, search needs)) (λ c. search needs)
+    (λ c. tt))

@@ -16,4 +16,4 @@ abbrev μ-loop : tie.MeasureT-loop
 pub fill-spec : {M : Type 1} → statement M
 fill-spec =
     tie.close (tie.spec Inv-loop μ-loop (λ c. (omega arith, refl)) (λ c. omega arith) (λ c. omega arith) (λ c. omega arith)
-        (λ c. omega arith) (λ c. omega arith) (λ c. (omega arith, search needs)) (λ c. search needs) (λ c. tt))
+    (λ c. omega arith) (λ c. omega arith) (λ c. (omega arith, search needs)) (λ c. search needs) (λ c. tt))

@@ -16,4 +16,4 @@ abbrev μ-loop : tie.MeasureT-loop
 pub flipped-spec : {M : Type 1} → statement M
 flipped-spec =
     tie.close (tie.spec Inv-loop μ-loop (λ c. (omega arith, omega arith, refl)) (λ c κs. tt) (λ c. omega arith) (λ c. omega arith)
-        (λ c. omega arith) (λ c. (omega arith, omega arith, search needs)) (λ c. search needs) (λ c. tt))
+    (λ c. omega arith) (λ c. (omega arith, omega arith, search needs)) (λ c. search needs) (λ c. tt))

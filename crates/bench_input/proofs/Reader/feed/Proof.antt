@@ -22,5 +22,5 @@ loop-again c =
 pub feed-spec : {M : Type 1} → statement M
 feed-spec =
     tie.close (tie.spec Inv-loop μ-loop (λ c. (refl, (omega arith, refl))) (λ c. search needs) (λ c κs. search needs) (λ c. search needs)
-        (λ c. search needs) loop-again (λ c. search needs)
-        (λ c. all-fed _ _ _ (c .loop-test .left) ∙ sym (c .before .loop .inv .0)))
+    (λ c. search needs) loop-again (λ c. search needs)
+    (λ c. all-fed _ _ _ (c .loop-test .left) ∙ sym (c .before .loop .inv .0)))

@@ -9,5 +9,5 @@ pub full-spec : {M : Type 1} → statement M
 unfolding full
 full-spec =
     tie.close (tie.spec (λ c κs. search needs)
-        (λ c. yes _ _ _ (sym (c .before .before .in-data .ensures) ∙ c .before .if1 .taken) refl)
-        (λ c. no _ _ _ (sym (c .before .in-data .ensures) ∙ c .if1 .left) refl))
+    (λ c. yes _ _ _ (sym (c .before .before .in-data .ensures) ∙ c .before .if1 .taken) refl)
+    (λ c. no _ _ _ (sym (c .before .in-data .ensures) ∙ c .if1 .left) refl))

@@ -16,5 +16,5 @@ pub head-from-spec : {M : Type 1} → statement M
 unfolding headFrom
 head-from-spec =
     tie.close (tie.spec (λ c κs. search needs)
-        (λ c. yes _ _ _ (eq-eqb _ 0 (c .before .if1 .taken)) (c .data-from .ensures))
-        (λ c κs. search needs) returns-2)
+    (λ c. yes _ _ _ (eq-eqb _ 0 (c .before .if1 .taken)) (c .data-from .ensures))
+    (λ c κs. search needs) returns-2)

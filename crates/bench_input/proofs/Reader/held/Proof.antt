@@ -9,5 +9,5 @@ pub held-spec : {M : Type 1} → statement M
 unfolding held
 held-spec =
     tie.close (tie.spec (λ c κs. search needs)
-        (λ c. yes _ _ _ (sym (c .before .in-data .ensures) ∙ c .if1 .taken) refl)
-        (λ c. no _ _ _ (sym (c .before .in-data .ensures) ∙ c .if1 .left) refl))
+    (λ c. yes _ _ _ (sym (c .before .in-data .ensures) ∙ c .if1 .taken) refl)
+    (λ c. no _ _ _ (sym (c .before .in-data .ensures) ∙ c .if1 .left) refl))

@@ -9,6 +9,6 @@ pub ids-from-spec : {M : Type 1} → statement M
 unfolding idsFrom
 ids-from-spec =
     tie.close (tie.spec
-        (λ c. yes _ _ _ (eq-eqb _ 0 (c .if1 .taken)) refl)
-        (λ c. search needs)
-        (λ c. no _ _ _ (ne-eqb _ 0 (c .if1 .left)) refl))
+    (λ c. yes _ _ _ (eq-eqb _ 0 (c .if1 .taken)) refl)
+    (λ c. search needs)
+    (λ c. no _ _ _ (ne-eqb _ 0 (c .if1 .left)) refl))

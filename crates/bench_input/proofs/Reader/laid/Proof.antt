@@ -20,4 +20,4 @@ returns-3 c =
 pub laid-spec : {M : Type 1} → statement M
 laid-spec =
     tie.close (tie.spec (λ c κs. search needs) (λ c κs. search needs) returns returns-2 (λ c. search needs) (λ c. search needs)
-        (λ c. search needs) returns-3)
+    (λ c. search needs) returns-3)

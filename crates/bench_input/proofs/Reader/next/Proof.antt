@@ -20,9 +20,9 @@ returns-3 c =
 pub next-spec : {M : Type 1} → statement M
 next-spec =
     tie.close (tie.spec (λ c. search needs) (λ c κs. search needs) (λ c κs. search needs) (λ c κs. search needs) (λ c. search needs)
-        (λ c κs. search needs) (λ c. search needs) (λ c κs. search needs) (λ c. search needs) (λ c κs. search needs) (λ c κs. search needs)
-        (λ c κs. search needs) (λ c. search needs) (λ c κs. search needs) (λ c. search needs) (λ c. search needs) returns
-        (λ c. behind-id _ _ (c .before .enum-told2 .given .1) (c .ids-from2 .ensures))
-        (λ c. search needs) returns-3
-        (λ c. behind-head _ _ (c .before .enum-told4 .given .1) (c .data-from .ensures))
-        (λ c. in-data _ _ (c .enum-told5 .given .1)))
+    (λ c κs. search needs) (λ c. search needs) (λ c κs. search needs) (λ c. search needs) (λ c κs. search needs) (λ c κs. search needs)
+    (λ c κs. search needs) (λ c. search needs) (λ c κs. search needs) (λ c. search needs) (λ c. search needs) returns
+    (λ c. behind-id _ _ (c .before .enum-told2 .given .1) (c .ids-from2 .ensures))
+    (λ c. search needs) returns-3
+    (λ c. behind-head _ _ (c .before .enum-told4 .given .1) (c .data-from .ensures))
+    (λ c. in-data _ _ (c .enum-told5 .given .1)))

@@ -26,19 +26,19 @@ unfolding idsIn
 returns c =
     let at-id-at = c .before .before .before in let in-loop = at-id-at .before in let at-loop = in-loop .before in
     turn-refused _ _ _ _ (in-loop .loop-test .taken) (c .before .before .form .ensures ∙ ap (formed _) (at-id-at .id-at .ensures)) (c .if1 .taken)
-        ∙ sym (at-loop .loop .inv)
+    ∙ sym (at-loop .loop .inv)
 
 loop-again : tie.Need-loop-again Inv-loop μ-loop
 loop-again c =
     let else1 = c .before in let at-id-at = else1 .before .before .before in let in-loop = at-id-at .before in let at-loop = in-loop .before in
     at-loop .loop .inv ∙ turn-formed _ _ _ _ (in-loop .loop-test .taken) (else1 .before .before .form .ensures
-        ∙ ap (formed _) (at-id-at .id-at .ensures)) (else1 .if1 .left)
+    ∙ ap (formed _) (at-id-at .id-at .ensures)) (else1 .if1 .left)
 
 pub form-in-turn-spec : {M : Type 1} → statement M
 unfolding idsIn
 form-in-turn-spec =
     tie.close (tie.spec Inv-loop μ-loop loop-holds
-        (λ c. omega (arith, div-add-mod' (length (c .before .before .before .args .ids .now)) 32))
-        (λ c κs. omega (arith, div-add-mod' (length (c .before .before .before .args .ids .now)) 32))
-        (λ c κs. search needs) returns (λ c. omega arith) (λ c. omega arith) loop-again
-        (λ c. turn-none _ _ _ _ (c .loop-test .left) ∙ sym (c .before .loop .inv)))
+    (λ c. omega (arith, div-add-mod' (length (c .before .before .before .args .ids .now)) 32))
+    (λ c κs. omega (arith, div-add-mod' (length (c .before .before .before .args .ids .now)) 32))
+    (λ c κs. search needs) returns (λ c. omega arith) (λ c. omega arith) loop-again
+    (λ c. turn-none _ _ _ _ (c .loop-test .left) ∙ sym (c .before .loop .inv)))

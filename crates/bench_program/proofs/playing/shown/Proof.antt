@@ -9,5 +9,5 @@ pub shown-spec : {M : Type 1} → statement M
 unfolding shown
 shown-spec =
     tie.close (tie.spec
-        (λ c. no _ _ _ (ne-eqb _ 0 (c .if1 .taken)) refl)
-        (λ c. yes _ _ _ (eq-eqb _ 0 (c .if1 .left)) refl))
+    (λ c. no _ _ _ (ne-eqb _ 0 (c .if1 .taken)) refl)
+    (λ c. yes _ _ _ (eq-eqb _ 0 (c .if1 .left)) refl))

@@ -21,5 +21,5 @@ pub cut-short-spec : {M : Type 1} → statement M
 unfolding numberAt
 cut-short-spec =
     tie.close (tie.spec (λ c. search needs) (λ c κs. search needs)
-        (λ c. ids-short _ (c .before .before .before .pre) (c .before .load .ensures) (c .if1 .taken))
-        (λ c. search needs) (λ c. search needs) returns-2 (λ c. search needs) (λ c κs. search needs) returns-3)
+    (λ c. ids-short _ (c .before .before .before .pre) (c .before .load .ensures) (c .if1 .taken))
+    (λ c. search needs) (λ c. search needs) returns-2 (λ c. search needs) (λ c κs. search needs) returns-3)

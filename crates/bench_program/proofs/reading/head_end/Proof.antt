@@ -18,6 +18,6 @@ returns c = ap₂ (λ (at n : ℕ). at + 8 + n) (c .before .ids-end .ensures) (c
 pub head-end-spec : {M : Type 1} → statement M
 head-end-spec =
     tie.close (tie.spec (λ c κs. search needs)
-        (λ c κs. omega (arith, right _ (c .before .before .pre) .head, c .ids-end .ensures))
-        (λ c. omega (arith, right _ (c .before .before .before .pre) .head, c .before .ids-end .ensures))
-        add-result-2 returns)
+    (λ c κs. omega (arith, right _ (c .before .before .pre) .head, c .ids-end .ensures))
+    (λ c. omega (arith, right _ (c .before .before .before .pre) .head, c .before .ids-end .ensures))
+    add-result-2 returns)

@@ -9,7 +9,7 @@ pub ids-end-spec : {M : Type 1} → statement M
 unfolding numberAt idsEnd
 ids-end-spec =
     tie.close (tie.spec
-        (λ c κs. right _ (c .before .pre) .front)
-        (λ c. omega (arith, right _ (c .before .before .pre) .ids, c .load .ensures))
-        (λ c. omega (arith, right _ (c .before .before .pre) .ids, c .load .ensures))
-        (λ c. ap (λ (n : ℕ). 80 + n * 32) (c .load .ensures)))
+    (λ c κs. right _ (c .before .pre) .front)
+    (λ c. omega (arith, right _ (c .before .before .pre) .ids, c .load .ensures))
+    (λ c. omega (arith, right _ (c .before .before .pre) .ids, c .load .ensures))
+    (λ c. ap (λ (n : ℕ). 80 + n * 32) (c .load .ensures)))

@@ -8,5 +8,5 @@ pub price-spec : {M : Type 1} → statement M
 unfolding numberAt
 price-spec =
     tie.close (tie.spec (λ c κs. search needs)
-        (λ c. omega (arith, c .before .before .pre .1, c .load .ensures))
-        (λ c. c .load .ensures))
+    (λ c. omega (arith, c .before .before .pre .1, c .load .ensures))
+    (λ c. c .load .ensures))

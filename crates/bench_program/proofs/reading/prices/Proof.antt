@@ -40,16 +40,16 @@ returns c =
     let at-price4 = c .before .before .before in let at-price3 = at-price4 .before in let at-price2 = at-price3 .before in
     let at-price = at-price2 .before in
     λ i. record {
-  init = at-price .price .ensures i;
-  memory = at-price2 .price2 .ensures i;
-  readbase = at-price3 .price3 .ensures i;
-  readlength = at-price4 .price4 .ensures i;
-  writebase = c .before .before .price5 .ensures i;
-  writelength = c .before .price6 .ensures i;
-  truncatebase = c .price7 .ensures i;
-}
+      init = at-price .price .ensures i;
+      memory = at-price2 .price2 .ensures i;
+      readbase = at-price3 .price3 .ensures i;
+      readlength = at-price4 .price4 .ensures i;
+      writebase = c .before .before .price5 .ensures i;
+      writelength = c .before .price6 .ensures i;
+      truncatebase = c .price7 .ensures i;
+    }
 
 pub prices-spec : {M : Type 1} → statement M
 prices-spec =
     tie.close (tie.spec price-requires price-requires-2 price-requires-3 price-requires-4 price-requires-5 price-requires-6 price-requires-7
-        returns)
+    returns)

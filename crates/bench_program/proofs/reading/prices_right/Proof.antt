@@ -19,20 +19,20 @@ unfolding numberAt
 returns c =
     let at-loop = c .before .before .before in let start = at-loop .before .before in
     tab-stops _ _ (at-loop .loop .i) 7 (c .before .before .loop-test .taken)
-        (lt-leb (numberAt (start .args .all .now) (8 + at-loop .loop .i * 8)) 65535 (omega (arith, c .if1 .taken, c .before .load .ensures)))
-        ∙ sym (at-loop .loop .inv)
+    (lt-leb (numberAt (start .args .all .now) (8 + at-loop .loop .i * 8)) 65535 (omega (arith, c .if1 .taken, c .before .load .ensures)))
+    ∙ sym (at-loop .loop .inv)
 
 loop-again : tie.Need-loop-again Inv-loop μ-loop
 unfolding numberAt
 loop-again c =
     let at-loop = c .before .before .before in let start = at-loop .before .before in
     at-loop .loop .inv ∙ tab-further _ _ (at-loop .loop .i) 7 (c .before .before .loop-test .taken)
-        (le-leb (numberAt (start .args .all .now) (8 + at-loop .loop .i * 8)) 65535 (omega (arith, c .if1 .left, c .before .load .ensures)))
+    (le-leb (numberAt (start .args .all .now) (8 + at-loop .loop .i * 8)) 65535 (omega (arith, c .if1 .left, c .before .load .ensures)))
 
 pub prices-right-spec : {M : Type 1} → statement M
 unfolding pricesRight
 prices-right-spec =
     tie.close (tie.spec Inv-loop μ-loop (λ c. refl) (λ c. omega arith) (λ c. omega arith)
-        (λ c κs. omega (arith, c .before .before .before .pre))
-        returns (λ c. omega arith) (λ c. omega arith) loop-again
-        (λ c. tab-done _ _ (c .before .loop .i) 7 (omega arith) ∙ sym (c .before .loop .inv)))
+    (λ c κs. omega (arith, c .before .before .before .pre))
+    returns (λ c. omega arith) (λ c. omega arith) loop-again
+    (λ c. tab-done _ _ (c .before .loop .i) 7 (omega arith) ∙ sym (c .before .loop .inv)))

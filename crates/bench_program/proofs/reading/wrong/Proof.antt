@@ -30,5 +30,5 @@ pub wrong-spec : {M : Type 1} → statement M
 unfolding wrong
 wrong-spec =
     tie.close (tie.spec
-        (λ c. yes _ _ _ (lt-ltb _ 80 (c .if1 .taken)) refl)
-        (λ c κs. search needs) returns-2 (λ c κs. search needs) returns-3 (λ c κs. search needs) returns-4)
+    (λ c. yes _ _ _ (lt-ltb _ 80 (c .if1 .taken)) refl)
+    (λ c κs. search needs) returns-2 (λ c κs. search needs) returns-3 (λ c κs. search needs) returns-4)

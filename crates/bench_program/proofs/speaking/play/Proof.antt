@@ -29,5 +29,5 @@ returns-2 c =
 pub play-spec : {M : Type 1} → statement M
 play-spec =
     tie.close (tie.spec (λ c κs. search needs) store-requires (λ c. search needs) (λ c. search needs) (λ c. search needs)
-        (λ c. search needs) returns (λ c κs. search needs) (λ c. search needs) (λ c. search needs) (λ c. search needs) (λ c. search needs)
-        returns-2)
+    (λ c. search needs) returns (λ c κs. search needs) (λ c. search needs) (λ c. search needs) (λ c. search needs) (λ c. search needs)
+    returns-2)

@@ -13,6 +13,6 @@ local-spec = tie.close (tie.spec
     (λ c. search needs) (λ c. search needs) (λ c. search needs) (λ c. search needs) (λ c. search needs)
     (λ c. search needs) (λ c. search needs)
     (λ c. let at = c .before in
-        yes _ _ _ (c .if1 .taken)
-        (ap (λ (v : List ℕ). xorAt v 14 0xFFFF_FFFF_FFFF_FFFF) (vector (at .args .t1) _ (at .good .0 .1 .0 .1) (at .fits .t .fits))))
+    yes _ _ _ (c .if1 .taken)
+    (ap (λ (v : List ℕ). xorAt v 14 0xFFFF_FFFF_FFFF_FFFF) (vector (at .args .t1) _ (at .good .0 .1 .0 .1) (at .fits .t .fits))))
     (λ c. let at = c .before in no _ _ _ (c .if1 .left) (vector (at .args .t1) _ (at .good .0 .1 .0 .1) (at .fits .t .fits))))

@@ -20,5 +20,5 @@ words-spec = tie.close (tie.spec
     Inv-loop μ-loop (λ c. (omega arith, refl, fill-none (zeros 16) _)) (λ c. omega arith) (λ c κs. omega arith)
     (λ c. omega arith) (λ c. omega arith) (λ c. omega arith) (λ c. omega arith)
     (λ c. let l = c .before .before .loop in
-        (omega arith, search needs, fill-one _ _ (l .i) _ (l .inv .1) (omega arith) (c .load .ensures) (l .inv .2)))
+    (omega arith, search needs, fill-one _ _ (l .i) _ (l .inv .1) (omega arith) (c .load .ensures) (l .inv .2)))
     (λ c. let l = c .before .loop in fill-all _ _ (l .i) _ (l .inv .1) (l .inv .0) (c .loop-test .left) (l .inv .2)))

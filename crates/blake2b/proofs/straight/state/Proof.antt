@@ -18,4 +18,4 @@ returns c =
 pub state-spec : {M : Type 1} → statement M
 state-spec =
     tie.close (tie.spec (λ c κs. search needs) (λ c κs. search needs) (λ c κs. search needs) (λ c κs. search needs) (λ c κs. search needs)
-        returns)
+    returns)

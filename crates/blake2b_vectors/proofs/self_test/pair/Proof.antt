@@ -11,7 +11,9 @@ pub pair-spec : {M : Type 1} → statement M
 pair-spec = tie.close (tie.spec
     (λ c. search needs) (λ c. sym (length-take-le _ (zeros 64) (omega arith))) (λ c. search needs)
     (λ c. sym (length-take-le _ (zeros 1024) (omega arith)))
-    (λ c κs. let back-3 = c .before .before .before in let back-4 = back-3 .before in
-        (omega arith, omega (arith, length-take-le (back-4 .args .nn) (zeros 64) (omega arith)),
-        omega (arith, length-take-le (back-4 .args .ll) (zeros 1024) (omega arith))))
+    (λ c κs. let back-3 = c .before .before .before in let back-4 = back-3 .before in (
+      omega arith,
+      omega (arith, length-take-le (back-4 .args .nn) (zeros 64) (omega arith)),
+      omega (arith, length-take-le (back-4 .args .ll) (zeros 1024) (omega arith)),
+    ))
     (λ c. search needs) (λ c. search needs))

@@ -11,4 +11,4 @@ unfolding noProgram
 none-spec = tie.close (tie.spec
     (λ c κs. search needs) (λ c κs. search needs)
     (λ c. ap₂ (λ (terms : Terms) (progress : Progress). record { active = false; terms = terms; came = 0; progress = progress })
-        (c .before .none .ensures) (c .none2 .ensures)))
+    (c .before .none .ensures) (c .none2 .ensures)))

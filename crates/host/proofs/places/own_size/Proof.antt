@@ -11,6 +11,6 @@ own-size-spec = tie.close (tie.spec
     (λ c. no _ _ _ (sym (no _ _ _ (not-true _ (c .if1 .taken)) refl)) refl)
     (λ c κs. search needs)
     (λ c. let at-if1 = c .before .before .before in
-        no _ _ _ (sym (yes _ _ _ (not-false _ (at-if1 .if1 .left)) (sym (ap not (sym (c .before .same-id .ensures) ∙ c .if2 .taken))))) refl)
+    no _ _ _ (sym (yes _ _ _ (not-false _ (at-if1 .if1 .left)) (sym (ap not (sym (c .before .same-id .ensures) ∙ c .if2 .taken))))) refl)
     (λ c. let at-if1 = c .before .before .before in
-        yes _ _ _ (sym (yes _ _ _ (not-false _ (at-if1 .if1 .left)) (sym (ap not (sym (c .before .same-id .ensures) ∙ c .if2 .left))))) refl))
+    yes _ _ _ (sym (yes _ _ _ (not-false _ (at-if1 .if1 .left)) (sym (ap not (sym (c .before .same-id .ensures) ∙ c .if2 .left))))) refl))

@@ -39,5 +39,5 @@ place-number-spec = tie.close (tie.spec
     (λ c. let whole = ap (firstOf (hasId (c .args .id))) (slice-all (c .args .t1) (c .good .0 .1 .0 .1)) in omega (arith, whole))
     (λ c. search needs) (λ c. search needs) (λ c κs. tt) returns (λ c. search needs) (λ c. search needs) loop-again
     (λ c. let l = c .before .loop in
-        let s = c .before .before in
-        omega (arith, first-done (hasId (s .args .id)) (s .args .t1) (l .i) 8 (omega arith), l .inv)))
+    let s = c .before .before in
+    omega (arith, first-done (hasId (s .args .id)) (s .args .t1) (l .i) 8 (omega arith), l .inv)))

@@ -19,8 +19,7 @@ abbrev μ-loop : tie.MeasureT-loop
 loop-again : tie.Need-loop-again Inv-loop μ-loop
 loop-again c =
     let at-loop = c .before .before .before in let s = at-loop .before in
-    let l = at-loop .loop in
-    (
+    let l = at-loop .loop in (
       simp length-set (l .inv .0),
       ap (set (l .ps) (l .i)) (c .replacing .ensures)
           ∙ each-one (λ q. pick (hasId (s .args .id) q) (s .args .by) q) (s .args .t1) (l .ps) (l .i) blank (s .good .0 .1 .0 .1) (omega arith) (l .inv .1),
@@ -32,5 +31,5 @@ replaced-in-spec = tie.close (tie.spec
     Inv-loop μ-loop (λ c. (c .good .0 .1 .0 .1, each-none _ _)) (λ c. search needs) (λ c. search needs) (λ c κs. tt)
     (λ c. search needs) (λ c. search needs) (λ c. search needs) (λ c. search needs) loop-again
     (λ c. let s = c .before .before in
-        each-all (λ q. pick (hasId (s .args .id) q) (s .args .by) q) (s .args .t1) (c .before .loop .ps) (c .before .loop .i) (s .good .0 .1 .0 .1)
-        (omega arith) (c .before .loop .inv .1)))
+    each-all (λ q. pick (hasId (s .args .id) q) (s .args .by) q) (s .args .t1) (c .before .loop .ps) (c .before .loop .i) (s .good .0 .1 .0 .1)
+    (omega arith) (c .before .loop .inv .1)))

@@ -32,4 +32,4 @@ sizes-fit-spec = tie.close (tie.spec
     (λ c. fits-first (c .before .args .id) (c .before .args .t1) 8 (c .before .good .0 .1 .0 .1) _ _ (c .if1 .left))
     (λ c. search needs) (λ c. search needs) (λ c κs. tt) returns-2 (λ c. search needs) (λ c. search needs) loop-again
     (λ c. let s = c .before .before .before in
-        fits-done (s .args .id) (s .args .t1) (c .before .loop .i) 8 (s .good .0 .1 .0 .1) _ (omega arith) ∙ sym (c .before .loop .inv)))
+    fits-done (s .args .id) (s .args .t1) (c .before .loop .i) 8 (s .good .0 .1 .0 .1) _ (omega arith) ∙ sym (c .before .loop .inv)))

@@ -24,6 +24,6 @@ unfolding isSize
 is-size-spec = tie.close (tie.spec
     Inv-loop μ-loop (λ c. omega arith) (λ c. (omega arith, refl, refl)) (λ c. omega arith)
     (λ c. let l = c .before .before .loop in
-        let pos = c .before .loop-test .taken in
-        sym (l .inv .2 ∙ here _ _ pos (c .if1 .taken ∙ halved _ _ pos (l .inv .1))))
+    let pos = c .before .loop-test .taken in
+    sym (l .inv .2 ∙ here _ _ pos (c .if1 .taken ∙ halved _ _ pos (l .inv .1))))
     (λ c. omega arith) loop-again (λ c. sym (c .before .loop .inv .2 ∙ none _ _ (omega (arith, c .loop-test .left)))))

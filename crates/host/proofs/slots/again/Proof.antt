@@ -22,8 +22,7 @@ returns c =
 loop-again : tie.Need-loop-again Inv-loop μ-loop
 loop-again c =
     let at-loop = c .before .before .before in let s = at-loop .before in
-    let l = at-loop .loop in
-    (
+    let l = at-loop .loop in (
       omega arith,
       l .inv .1
           ∙ some-further _ (s .args .t1) (l .i) (s .args .end) 0 (s .good .0 .1 .0 .1) (omega arith) (omega arith)

@@ -33,4 +33,4 @@ below-spec = tie.close (tie.spec
     Inv-loop μ-loop (λ c. refl) (λ c. search needs) (λ c κs. tt) returns (λ c. search needs) (λ c. search needs)
     loop-again
     (λ c. let s = c .before .before in
-        every-done (λ n. ltb n (s .args .limit)) (s .args .t1) (c .before .loop .i) (s .args .end) (omega arith) ∙ sym (c .before .loop .inv)))
+    every-done (λ n. ltb n (s .args .limit)) (s .args .t1) (c .before .loop .i) (s .args .end) (omega arith) ∙ sym (c .before .loop .inv)))

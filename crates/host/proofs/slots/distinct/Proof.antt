@@ -19,7 +19,7 @@ returns c =
     let s = at-wide .before .before .before in
     apart-stops _ (s .args .t1) (l .i) (s .args .end) 0 (s .good .0 .1 .0 .1) (omega arith) (omega arith)
     (ap (λ (x : ℕ). some (eqb x) (slice (l .i + 1) (s .args .end) (s .args .t1))) (sym (at-wide .wide .ensures)) ∙ sym (c .before .again .ensures)
-        ∙ c .if1 .taken)
+    ∙ c .if1 .taken)
     ∙ sym (l .inv)
 
 loop-again : tie.Need-loop-again Inv-loop μ-loop
@@ -30,7 +30,7 @@ loop-again c =
     l .inv
     ∙ apart-further _ (s .args .t1) (l .i) (s .args .end) 0 (s .good .0 .1 .0 .1) (omega arith) (omega arith)
     (ap (λ (x : ℕ). some (eqb x) (slice (l .i + 1) (s .args .end) (s .args .t1))) (sym (at-wide .wide .ensures)) ∙ sym (c .before .again .ensures)
-        ∙ c .if1 .left)
+    ∙ c .if1 .left)
 
 pub distinct-spec : {M : Type 1} → statement M
 distinct-spec = tie.close (tie.spec

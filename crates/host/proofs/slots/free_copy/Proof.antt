@@ -24,8 +24,7 @@ returns c =
 loop-again : tie.Need-loop-again Inv-loop μ-loop
 loop-again c =
     let at-loop = c .before .before .before in let s = at-loop .before in
-    let l = at-loop .loop in
-    (
+    let l = at-loop .loop in (
       omega arith,
       l .inv .1 ∙ sym (lowest-further (unused (s .args .staged)) (l .i) (s .args .stage) (omega arith)
           (ap not (sym (c .before .staged-in .ensures)) ∙ c .if1 .left)),
@@ -37,4 +36,4 @@ free-copy-spec = tie.close (tie.spec
     Inv-loop μ-loop (λ c. (omega arith, ap (lowest _ 0) (sym (sub-zero _)))) (λ c κs. tt) returns (λ c. search needs)
     (λ c. search needs) loop-again
     (λ c. let s = c .before .before in
-        lowest-none (unused (s .args .staged)) (c .before .loop .i) (s .args .stage) (omega arith) ∙ sym (c .before .loop .inv .1)))
+    lowest-none (unused (s .args .staged)) (c .before .loop .i) (s .args .stage) (omega arith) ∙ sym (c .before .loop .inv .1)))

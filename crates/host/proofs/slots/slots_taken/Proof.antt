@@ -33,5 +33,5 @@ slots-taken-spec = tie.close (tie.spec
     (λ c κs. let l = c .before .before .before .loop in (search needs, omega (arith, l .inv .1, l .inv .2)))
     (λ c. search needs) (λ c. search needs) loop-again
     (λ c. let l = c .before .loop in
-        let s = c .before .before in
-        (l .inv .3 ∙ ap (taken (s .args .z)) (take-all (l .k) (s .args .t2) (omega (arith, s .good .1 .0 .1 .0 .1))), omega (arith, l .inv .2))))
+    let s = c .before .before in
+    (l .inv .3 ∙ ap (taken (s .args .z)) (take-all (l .k) (s .args .t2) (omega (arith, s .good .1 .0 .1 .0 .1))), omega (arith, l .inv .2))))

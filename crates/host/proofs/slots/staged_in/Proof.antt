@@ -17,7 +17,7 @@ returns c =
     let at-loop = c .before .before .before in let s = at-loop .before in
     let l = at-loop .loop in
     some-here _ (s .args .t1) (l .i) 64 0 (s .good .0 .1 .0 .1) (omega arith) (omega arith) (eq-eqb _ _ (c .if1 .taken ∙ c .before .wide .ensures))
-        ∙ sym (l .inv)
+    ∙ sym (l .inv)
 
 loop-again : tie.Need-loop-again Inv-loop μ-loop
 loop-again c =

@@ -25,8 +25,7 @@ loop-holds c =
 loop-again : tie.Need-loop-again Inv-loop μ-loop
 loop-again c =
     let at-loop = c .before in let sectors = at-loop .before in let else1 = sectors .before .before in let s = else1 .before .before .before in
-    let l = at-loop .loop in
-    (
+    let l = at-loop .loop in (
       omega arith,
       simp length-set (l .inv .1),
       grown (l .items) (s .args .p .slots) (take (s .args .count) (s .args .items .now)) (s .args .count + l .i) (l .i)

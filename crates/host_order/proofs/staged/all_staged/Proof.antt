@@ -18,17 +18,17 @@ returns c =
     let l = c .before .before .loop in
     let s = c .before .before .before in
     every-stops (λ n. not (eqb n none)) (s .args .t1) (l .i) (s .args .end) 0 (s .good .0 .1 .0 .1) (omega arith) (omega arith)
-        (ap not (eq-eqb _ none (c .if1 .taken))) ∙ sym (l .inv)
+    (ap not (eq-eqb _ none (c .if1 .taken))) ∙ sym (l .inv)
 
 loop-again : tie.Need-loop-again Inv-loop μ-loop
 loop-again c =
     let l = c .before .before .loop in
     let s = c .before .before .before in
     l .inv ∙ every-further (λ n. not (eqb n none)) (s .args .t1) (l .i) (s .args .end) 0 (s .good .0 .1 .0 .1) (omega arith) (omega arith)
-        (ap not (ne-eqb _ none (c .if1 .left)))
+    (ap not (ne-eqb _ none (c .if1 .left)))
 
 pub all-staged-spec : {M : Type 1} → statement M
 all-staged-spec = tie.close (tie.spec
     Inv-loop μ-loop (λ c. refl) (λ c. search needs) returns (λ c. search needs) (λ c. search needs) loop-again
     (λ c. let s = c .before .before in
-        every-done (λ n. not (eqb n none)) (s .args .t1) (c .before .loop .i) (s .args .end) (omega arith) ∙ sym (c .before .loop .inv)))
+    every-done (λ n. not (eqb n none)) (s .args .t1) (c .before .loop .i) (s .args .end) (omega arith) ∙ sym (c .before .loop .inv)))

@@ -18,14 +18,14 @@ returns c =
     let at-loop = c .before .before .before in let s = at-loop .before in
     let l = at-loop .loop in
     some-here (clash _) (s .args .t1) (l .i) 64 0 (s .good .0 .1 .0 .1) (omega arith) (omega arith)
-        (sym (c .before .clashes .ensures) ∙ c .if1 .taken) ∙ sym (l .inv)
+    (sym (c .before .clashes .ensures) ∙ c .if1 .taken) ∙ sym (l .inv)
 
 loop-again : tie.Need-loop-again Inv-loop μ-loop
 loop-again c =
     let at-loop = c .before .before .before in let s = at-loop .before in
     let l = at-loop .loop in
     l .inv ∙ some-further (clash _) (s .args .t1) (l .i) 64 0 (s .good .0 .1 .0 .1) (omega arith) (omega arith)
-        (sym (c .before .clashes .ensures) ∙ c .if1 .left)
+    (sym (c .before .clashes .ensures) ∙ c .if1 .left)
 
 pub has-clash-spec : {M : Type 1} → statement M
 has-clash-spec = tie.close (tie.spec

@@ -18,14 +18,14 @@ returns c =
     let at-loop = c .before .before .before in let s = at-loop .before in
     let l = at-loop .loop in
     apart-stops clash (s .args .t1) (l .i) 64 0 (s .good .0 .1 .0 .1) (omega arith) (omega arith)
-        (sym (c .before .has-clash .ensures) ∙ c .if1 .taken) ∙ sym (l .inv)
+    (sym (c .before .has-clash .ensures) ∙ c .if1 .taken) ∙ sym (l .inv)
 
 loop-again : tie.Need-loop-again Inv-loop μ-loop
 loop-again c =
     let at-loop = c .before .before .before in let s = at-loop .before in
     let l = at-loop .loop in
     l .inv ∙ apart-further clash (s .args .t1) (l .i) 64 0 (s .good .0 .1 .0 .1) (omega arith) (omega arith)
-        (sym (c .before .has-clash .ensures) ∙ c .if1 .left)
+    (sym (c .before .has-clash .ensures) ∙ c .if1 .left)
 
 pub no-clash-spec : {M : Type 1} → statement M
 no-clash-spec = tie.close (tie.spec

@@ -18,14 +18,14 @@ returns c =
     let at-loop = c .before .before .before in let s = at-loop .before in
     let l = at-loop .loop in
     every-stops (slotInOrder (s .args .stage)) (s .args .t1) (l .i) 64 0 (s .good .0 .1 .0 .1) (omega arith) (omega arith)
-        (sym (c .before .slot-in-order .ensures) ∙ not-true _ (c .if1 .taken)) ∙ sym (l .inv)
+    (sym (c .before .slot-in-order .ensures) ∙ not-true _ (c .if1 .taken)) ∙ sym (l .inv)
 
 loop-again : tie.Need-loop-again Inv-loop μ-loop
 loop-again c =
     let at-loop = c .before .before .before in let s = at-loop .before in
     let l = at-loop .loop in
     l .inv ∙ every-further (slotInOrder (s .args .stage)) (s .args .t1) (l .i) 64 0 (s .good .0 .1 .0 .1) (omega arith) (omega arith)
-        (sym (c .before .slot-in-order .ensures) ∙ not-false _ (c .if1 .left))
+    (sym (c .before .slot-in-order .ensures) ∙ not-false _ (c .if1 .left))
 
 pub slots-in-order-spec : {M : Type 1} → statement M
 slots-in-order-spec = tie.close (tie.spec
@@ -33,4 +33,4 @@ slots-in-order-spec = tie.close (tie.spec
     (λ c. ap (every (slotInOrder (c .args .stage))) (sym (slice-all (c .args .t1) (c .good .0 .1 .0 .1))))
     (λ c. search needs) (λ c κs. tt) returns (λ c. search needs) (λ c. search needs) loop-again
     (λ c. let s = c .before .before in
-        every-done (slotInOrder (s .args .stage)) (s .args .t1) (c .before .loop .i) 64 (omega arith) ∙ sym (c .before .loop .inv)))
+    every-done (slotInOrder (s .args .stage)) (s .args .t1) (c .before .loop .i) 64 (omega arith) ∙ sym (c .before .loop .inv)))

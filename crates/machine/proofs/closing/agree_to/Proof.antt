@@ -69,6 +69,6 @@ returns-3 c =
 pub agree-to-spec : {M : Type 1} → statement M
 agree-to-spec =
     tie.close (tie.spec
-        (λ c κs. c .before .before .pre .order)
-        running-pair-requires (λ c κs. search needs) (λ c κs. search needs) returns (λ c κs. search needs) (λ c κs. search needs) returns-2
-        (λ c κs. search needs) (λ c. search needs) returns-3)
+    (λ c κs. c .before .before .pre .order)
+    running-pair-requires (λ c κs. search needs) (λ c κs. search needs) returns (λ c κs. search needs) (λ c κs. search needs) returns-2
+    (λ c κs. search needs) (λ c. search needs) returns-3)

@@ -69,8 +69,12 @@ unfolding areasRight diskRight
 agree-to-requires c κs =
     let else4 = c .before .before .before in let else3 = else4 .before in let else2 = else3 .before .before .before in
     let at-areas-right = else2 .before in let else1 = at-areas-right .before .before in let at-in-order = else1 .before in
-    record { order = sym (at-in-order .in-order .ensures) ∙ not-false _ (else1 .if1 .left); areas = sym (at-areas-right .areas-right .ensures)
-        ∙ not-false _ (else2 .if2 .left); live = not-false _ (else3 .if3 .left) }
+    record {
+      order = sym (at-in-order .in-order .ensures) ∙ not-false _ (else1 .if1 .left);
+      areas = sym (at-areas-right .areas-right .ensures)
+          ∙ not-false _ (else2 .if2 .left);
+      live = not-false _ (else3 .if3 .left);
+    }
 
 returns-6 : tie.Need-returns-6
 unfolding closeBy areasRight diskRight givenUp
@@ -88,6 +92,6 @@ returns-6 c =
 pub close-spec : {M : Type 1} → statement M
 close-spec =
     tie.close (tie.spec (λ c κs. search needs) (λ c κs. search needs) returns areas-right-requires (λ c κs. search needs)
-        (λ c. search needs) returns-2 (λ c κs. search needs) (λ c. search needs) returns-3 (λ c κs. search needs) (λ c. search needs)
-        returns-4 (λ c κs. search needs) (λ c κs. search needs) (λ c. search needs) returns-5 agree-to-requires (λ c. search needs)
-        returns-6)
+    (λ c. search needs) returns-2 (λ c κs. search needs) (λ c. search needs) returns-3 (λ c κs. search needs) (λ c. search needs)
+    returns-4 (λ c κs. search needs) (λ c κs. search needs) (λ c. search needs) returns-5 agree-to-requires (λ c. search needs)
+    returns-6)

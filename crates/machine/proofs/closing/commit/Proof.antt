@@ -99,5 +99,5 @@ returns c =
 pub commit-spec : {M : Type 1} → statement M
 commit-spec =
     tie.close (tie.spec (λ c κs. search needs) final-slots-requires (λ c κs. search needs) (λ c κs. search needs) growth-requires div-count
-        copy-back-requires slice-aggregate-copy-back slice-aggregate-copy-back-2 copy-back-requires-2 (λ c κs. search needs)
-        (λ c. search needs) returns)
+    copy-back-requires slice-aggregate-copy-back slice-aggregate-copy-back-2 copy-back-requires-2 (λ c κs. search needs)
+    (λ c. search needs) returns)

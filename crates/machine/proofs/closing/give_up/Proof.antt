@@ -11,8 +11,12 @@ returns : tie.Need-returns
 unfolding withProgram
 returns c =
     let a = c .before .before .before .args in
-    let made : Program → Closing = λ g. record { number = a .number; tally = a .host .program .progress .tally; growth = pos 0;
-        host = withProgram (a .host) g } in
+    let made : Program → Closing = λ g. record {
+      number = a .number;
+      tally = a .host .program .progress .tally;
+      growth = pos 0;
+      host = withProgram (a .host) g;
+    } in
     ap made (c .none .ensures)
 
 pub give-up-spec : {M : Type 1} → statement M

@@ -15,5 +15,5 @@ pub same-pair-spec : {M : Type 1} → statement M
 unfolding samePair
 same-pair-spec =
     tie.close (tie.spec
-        (λ c. no _ _ _ (ne-eqb _ _ (c .if1 .taken)) refl)
-        (λ c. search needs) (λ c. search needs) (λ c κs. search needs) returns-2)
+    (λ c. no _ _ _ (ne-eqb _ _ (c .if1 .taken)) refl)
+    (λ c. search needs) (λ c. search needs) (λ c κs. search needs) returns-2)

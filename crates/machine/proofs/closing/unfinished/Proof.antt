@@ -9,6 +9,6 @@ pub unfinished-spec : {M : Type 1} → statement M
 unfolding unfinished
 unfinished-spec =
     tie.close (tie.spec
-        (λ c. yes _ _ _ (c .if1 .taken) refl)
-        (λ c κs. search needs)
-        (λ c. no _ _ _ (c .before .if1 .left) (c .going .ensures)))
+    (λ c. yes _ _ _ (c .if1 .taken) refl)
+    (λ c κs. search needs)
+    (λ c. no _ _ _ (c .before .if1 .left) (c .going .ensures)))

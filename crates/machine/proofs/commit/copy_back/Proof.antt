@@ -27,8 +27,7 @@ one-back-requires c κs =
 loop-again : tie.Need-loop-again Inv-loop μ-loop
 loop-again c =
     let at-one-back = c .before .before in let at-loop = at-one-back .before .before .before in let s = at-loop .before .before .before in
-    let l = at-loop .loop in
-    (
+    let l = at-loop .loop in (
       omega arith,
       back-length _ _ _ _ _ (l .inv .1) (at-one-back .one-back .ensures),
       l .inv .2
@@ -44,4 +43,4 @@ returns c =
 pub copy-back-spec : {M : Type 1} → statement M
 copy-back-spec =
     tie.close (tie.spec Inv-loop μ-loop loop-holds (λ c. omega arith) (λ c. omega arith) one-back-requires (λ c. omega arith)
-        (λ c. omega arith) loop-again (λ c. search needs) returns)
+    (λ c. omega arith) loop-again (λ c. search needs) returns)

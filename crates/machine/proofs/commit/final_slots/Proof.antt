@@ -20,5 +20,5 @@ returns c =
 pub final-slots-spec : {M : Type 1} → statement M
 final-slots-spec =
     tie.close (tie.spec (λ c κs. tt) (λ c κs. tt) (λ c κs. search needs) (λ c κs. c .slots-taken .ensures .1) (λ c κs. search needs)
-        (λ c κs. c .before .count .ensures .1)
-        (λ c. search needs) (λ c κs. search needs) returns)
+    (λ c κs. c .before .count .ensures .1)
+    (λ c. search needs) (λ c κs. search needs) returns)

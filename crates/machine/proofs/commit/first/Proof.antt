@@ -34,5 +34,5 @@ returns c =
 pub first-spec : {M : Type 1} → statement M
 first-spec =
     tie.close (tie.spec Inv-loop μ-loop
-        (λ c. (omega arith, sym (put-nil _ _)))
-        (λ c. omega arith) (λ c. omega arith) (λ c. omega arith) (λ c. omega arith) loop-again returns)
+    (λ c. (omega arith, sym (put-nil _ _)))
+    (λ c. omega arith) (λ c. omega arith) (λ c. omega arith) (λ c. omega arith) loop-again returns)

@@ -33,5 +33,5 @@ returns-2 c =
 pub lowest-free-spec : {M : Type 1} → statement M
 lowest-free-spec =
     tie.close (tie.spec Inv-loop μ-loop
-        (λ c. (omega arith, ap (lowest _ 0) (sym (sub-zero _))))
-        (λ c. omega arith) returns (λ c. omega arith) (λ c. omega arith) loop-again returns-2)
+    (λ c. (omega arith, ap (lowest _ 0) (sym (sub-zero _))))
+    (λ c. omega arith) returns (λ c. omega arith) (λ c. omega arith) loop-again returns-2)

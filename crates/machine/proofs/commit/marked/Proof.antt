@@ -28,4 +28,4 @@ returns c =
 pub marked-spec : {M : Type 1} → statement M
 marked-spec =
     tie.close (tie.spec Inv-loop μ-loop (λ c. (omega arith, refl)) (λ c. omega arith) (λ c. search needs) (λ c κs. tt) (λ c. omega arith)
-        (λ c. omega arith) loop-again returns)
+    (λ c. omega arith) loop-again returns)

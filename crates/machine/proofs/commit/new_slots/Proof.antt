@@ -25,5 +25,5 @@ returns c =
 pub new-slots-spec : {M : Type 1} → statement M
 new-slots-spec =
     tie.close (tie.spec Inv-loop μ-loop (λ c. refl) (λ c κs. c .before .before .pre .0) (λ c κs. tt)
-        (λ c. omega (arith, c .before .lowest-free .ensures .1))
-        (λ c. omega arith) (λ c. omega arith) (λ c. omega arith) loop-again returns)
+    (λ c. omega (arith, c .before .lowest-free .ensures .1))
+    (λ c. omega arith) (λ c. omega arith) (λ c. omega arith) loop-again returns)

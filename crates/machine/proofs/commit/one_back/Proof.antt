@@ -21,6 +21,6 @@ returns-2 c =
 pub one-back-spec : {M : Type 1} → statement M
 one-back-spec =
     tie.close (tie.spec
-        (λ c. sym (laid-none _ _ _ _ _ (eq-eqb _ _ (c .if1 .taken))))
-        (λ c. omega (arith, c .before .before .before .pre .source (ne-eqb _ 255 (c .if1 .left))))
-        mul-copy-between-2 copy-between-requires (λ c. search needs) returns-2)
+    (λ c. sym (laid-none _ _ _ _ _ (eq-eqb _ _ (c .if1 .taken))))
+    (λ c. omega (arith, c .before .before .before .pre .source (ne-eqb _ 255 (c .if1 .left))))
+    mul-copy-between-2 copy-between-requires (λ c. search needs) returns-2)

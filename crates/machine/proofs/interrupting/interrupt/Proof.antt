@@ -95,5 +95,5 @@ returns-6 c =
 pub interrupt-spec : {M : Type 1} → statement M
 interrupt-spec =
     tie.close (tie.spec (λ c κs. search needs) (λ c κs. search needs) returns lent-requires (λ c κs. search needs) returns-2
-        (λ c κs. search needs) (λ c κs. search needs) (λ c. search needs) returns-3 (λ c κs. search needs) (λ c. search needs) returns-4
-        (λ c κs. search needs) stop-requires (λ c. search needs) returns-5 (λ c. search needs) returns-6)
+    (λ c κs. search needs) (λ c κs. search needs) (λ c. search needs) returns-3 (λ c κs. search needs) (λ c. search needs) returns-4
+    (λ c κs. search needs) stop-requires (λ c. search needs) returns-5 (λ c. search needs) returns-6)

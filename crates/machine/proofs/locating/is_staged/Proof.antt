@@ -8,5 +8,5 @@ pub is-staged-spec : {M : Type 1} → statement M
 unfolding isStaged
 is-staged-spec =
     tie.close (tie.spec (λ c. search needs) (λ c. search needs)
-        (λ c. cc)
-        (λ c. cc))
+    (λ c. cc)
+    (λ c. cc))

@@ -17,5 +17,5 @@ pub located-at-spec : {M : Type 1} → statement M
 unfolding locatedAt
 located-at-spec =
     tie.close (tie.spec (λ c. search needs) (λ c. search needs) (λ c κs. search needs)
-        (λ c. c .not-located .ensures ∙ sym (ap locatedAt (c .before .enum-told .given .1)))
-        (λ c κs. search needs) returns-2)
+    (λ c. c .not-located .ensures ∙ sym (ap locatedAt (c .before .enum-told .given .1)))
+    (λ c κs. search needs) returns-2)

@@ -51,4 +51,4 @@ returns-2 c =
 pub sought-spec : {M : Type 1} → statement M
 sought-spec =
     tie.close (tie.spec (λ c. search needs) (λ c. search needs) find-in-all-requires returns (λ c. search needs) (λ c. search needs)
-        find-for-requires returns-2)
+    find-for-requires returns-2)

@@ -12,5 +12,5 @@ returns-2 c = yes _ _ _ (ap not (sym (c .before .before .before .is-read-only .e
 pub absent-spec : {M : Type 1} → statement M
 absent-spec =
     tie.close (tie.spec (λ c κs. search needs)
-        (λ c. no _ _ _ (ap not (sym (c .before .is-read-only .ensures) ∙ c .if1 .taken)) refl)
-        (λ c κs. search needs) returns-2)
+    (λ c. no _ _ _ (ap not (sym (c .before .is-read-only .ensures) ∙ c .if1 .taken)) refl)
+    (λ c κs. search needs) returns-2)

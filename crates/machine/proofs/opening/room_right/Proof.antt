@@ -9,5 +9,5 @@ pub room-right-spec : {M : Type 1} → statement M
 unfolding roomRight
 room-right-spec =
     tie.close (tie.spec
-        (λ c. no _ _ _ (lt-leb _ _ (c .if1 .taken)) refl)
-        (λ c. yes _ _ _ (le-leb _ _ (c .if1 .left)) refl))
+    (λ c. no _ _ _ (lt-leb _ _ (c .if1 .taken)) refl)
+    (λ c. yes _ _ _ (le-leb _ _ (c .if1 .left)) refl))

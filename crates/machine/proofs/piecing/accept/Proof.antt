@@ -62,4 +62,4 @@ returns c =
 pub accept-spec : {M : Type 1} → statement M
 accept-spec =
     tie.close (tie.spec copy-between-requires add-k slice-aggregate-run slice-aggregate-run-2 run-requires (λ c. search needs)
-        (λ c. search needs) (λ c. search needs) returns)
+    (λ c. search needs) (λ c. search needs) returns)

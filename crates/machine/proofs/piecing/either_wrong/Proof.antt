@@ -10,5 +10,5 @@ returns-2 c = c .wrong2 .ensures ∙ wrong-second _ _ _ (sym (c .before .before 
 pub either-wrong-spec : {M : Type 1} → statement M
 either-wrong-spec =
     tie.close (tie.spec (λ c κs. search needs)
-        (λ c. wrong-first _ _ _ (sym (c .before .wrong .ensures) ∙ c .if1 .taken))
-        (λ c κs. search needs) returns-2)
+    (λ c. wrong-first _ _ _ (sym (c .before .wrong .ensures) ∙ c .if1 .taken))
+    (λ c κs. search needs) returns-2)

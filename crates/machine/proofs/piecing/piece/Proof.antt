@@ -86,8 +86,11 @@ accept-requires c κs =
     let live = not-false _ (else4 .if4 .left) in
     let right = right-if _ _ live (sym (at-either-wrong .either-wrong .ensures) ∙ else3 .if3 .left) in
     record {
-      ready = record { order = sym (at-in-order .in-order .ensures) ∙ not-false _ (else1 .if1 .left);
-          areas = sym (at-areas-right .areas-right .ensures) ∙ not-false _ (else2 .if2 .left); live = live };
+      ready = record {
+        order = sym (at-in-order .in-order .ensures) ∙ not-false _ (else1 .if1 .left);
+        areas = sym (at-areas-right .areas-right .ensures) ∙ not-false _ (else2 .if2 .left);
+        live = live;
+      };
       inputs = both-left _ _ right;
       outputs = both-right _ _ right;
       fits = ltb-false _ _ (sym (at-passes .passes .ensures) ∙ else5 .if5 .left);
@@ -111,7 +114,7 @@ returns-6 c =
 pub piece-spec : {M : Type 1} → statement M
 piece-spec =
     tie.close (tie.spec (λ c κs. search needs) (λ c κs. search needs) returns areas-right-requires (λ c κs. search needs)
-        (λ c. search needs) returns-2 (λ c κs. search needs) (λ c κs. search needs) (λ c. search needs) (λ c. search needs)
-        (λ c. search needs) returns-3 (λ c κs. search needs) (λ c. search needs) (λ c. search needs) (λ c. search needs) returns-4
-        passes-requires (λ c κs. search needs) (λ c. search needs) (λ c. search needs) (λ c. search needs) returns-5 accept-requires
-        (λ c. search needs) (λ c. search needs) (λ c. search needs) returns-6)
+    (λ c. search needs) returns-2 (λ c κs. search needs) (λ c κs. search needs) (λ c. search needs) (λ c. search needs)
+    (λ c. search needs) returns-3 (λ c κs. search needs) (λ c. search needs) (λ c. search needs) (λ c. search needs) returns-4
+    passes-requires (λ c κs. search needs) (λ c. search needs) (λ c. search needs) (λ c. search needs) returns-5 accept-requires
+    (λ c. search needs) (λ c. search needs) (λ c. search needs) returns-6)

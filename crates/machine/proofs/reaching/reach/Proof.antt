@@ -20,7 +20,7 @@ returns-2 c =
 pub reach-spec : {M : Type 1} → statement M
 reach-spec =
     tie.close (tie.spec
-        (λ c κs. c .before .before .before .pre .0)
-        returns
-        (λ c κs. c .before .before .before .pre)
-        returns-2)
+    (λ c κs. c .before .before .before .pre .0)
+    returns
+    (λ c κs. c .before .before .before .pre)
+    returns-2)

@@ -55,4 +55,4 @@ returns-4 c =
 pub reached-spec : {M : Type 1} → statement M
 reached-spec =
     tie.close (tie.spec (λ c κs. search needs) (λ c κs. search needs) returns areas-right-requires (λ c κs. search needs) returns-2
-        (λ c κs. search needs) returns-3 reach-requires returns-4)
+    (λ c κs. search needs) returns-3 reach-requires returns-4)

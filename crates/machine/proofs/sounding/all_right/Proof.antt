@@ -61,6 +61,6 @@ returns-2 c =
 pub all-right-spec : {M : Type 1} → statement M
 all-right-spec =
     tie.close (tie.spec Inv-loop μ-loop loop-holds (λ c. c .before .loop-test .taken) position-right-requires returns
-        (λ c. omega (arith, c .before .before .before .loop-test .taken))
-        (λ c. omega (arith, c .before .before .before .loop-test .taken))
-        loop-again returns-2)
+    (λ c. omega (arith, c .before .before .before .loop-test .taken))
+    (λ c. omega (arith, c .before .before .before .loop-test .taken))
+    loop-again returns-2)

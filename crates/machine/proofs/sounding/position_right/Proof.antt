@@ -13,6 +13,6 @@ slot-right-requires c κs =
 pub position-right-spec : {M : Type 1} → statement M
 position-right-spec =
     tie.close (tie.spec
-        (λ c. yes _ _ _ (eq-eqb _ _ (c .if1 .taken)) refl)
-        slot-right-requires
-        (λ c. no _ _ _ (ne-eqb _ _ (c .before .if1 .left)) (c .slot-right .ensures)))
+    (λ c. yes _ _ _ (eq-eqb _ _ (c .if1 .taken)) refl)
+    slot-right-requires
+    (λ c. no _ _ _ (ne-eqb _ _ (c .before .if1 .left)) (c .slot-right .ensures)))

@@ -92,5 +92,5 @@ pub roots-right-spec : {M : Type 1} → statement M
 unfolding rootsRight
 roots-right-spec =
     tie.close (tie.spec slots-taken-requires slice-aggregate-listed-right listed-right-requires
-        (λ c. no _ _ _ (disk-told (c .before) ∙ not-true _ (c .if1 .taken)) refl)
-        returns-2 slice-aggregate-all-right slice-aggregate-all-right-2 all-right-requires returns-3)
+    (λ c. no _ _ _ (disk-told (c .before) ∙ not-true _ (c .if1 .taken)) refl)
+    returns-2 slice-aggregate-all-right slice-aggregate-all-right-2 all-right-requires returns-3)

@@ -18,5 +18,5 @@ pub slot-right-spec : {M : Type 1} → statement M
 unfolding lies
 slot-right-spec =
     tie.close (tie.spec sector-root-requires
-        (λ c κs. c .before .before .before .pre .1 .1)
-        (λ c. search needs) (λ c κs. search needs) returns)
+    (λ c κs. c .before .before .before .pre .1 .1)
+    (λ c. search needs) (λ c κs. search needs) returns)

@@ -43,7 +43,7 @@ pub sound-spec : {M : Type 1} → statement M
 unfolding sounded
 sound-spec =
     tie.close (tie.spec (λ c κs. tt)
-        (λ c. yes _ _ _ (ap not (sym (c .before .in-order .ensures)) ∙ c .if1 .taken) refl)
-        areas-right-requires returns-2
-        (λ c κs. (in-order (c .before .before), areas (c .before) ∙ not-false _ (c .if2 .left)))
-        returns-3)
+    (λ c. yes _ _ _ (ap not (sym (c .before .in-order .ensures)) ∙ c .if1 .taken) refl)
+    areas-right-requires returns-2
+    (λ c κs. (in-order (c .before .before), areas (c .before) ∙ not-false _ (c .if2 .left)))
+    returns-3)

@@ -57,9 +57,9 @@ pub rehash-spec : {M : Type 1} → statement M
 unfolding touched rehashed
 rehash-spec =
     tie.close (tie.spec (λ c. search needs) (λ c. search needs) (λ c. search needs) (λ c. search needs) rehash-one-requires
-        (λ c. search needs) (λ c. search needs) rehash-one-requires-2 (λ c. search needs) (λ c. search needs) (λ c. search needs)
-        rehash-two-requires (λ c. search needs) rehash-new-requires (λ c. search needs)
-        (λ c. arm _ _ _ _ _ (c .enum-told .given .1) refl)
-        (λ c. arm _ _ _ _ _ (c .enum-told2 .given .1) refl)
-        (λ c. search needs) returns-3 (λ c. search needs) returns-4 (λ c. search needs) returns-5 (λ c. search needs) returns-6
-        (λ c. arm _ _ _ _ _ (c .enum-told7 .given .1) refl))
+    (λ c. search needs) (λ c. search needs) rehash-one-requires-2 (λ c. search needs) (λ c. search needs) (λ c. search needs)
+    rehash-two-requires (λ c. search needs) rehash-new-requires (λ c. search needs)
+    (λ c. arm _ _ _ _ _ (c .enum-told .given .1) refl)
+    (λ c. arm _ _ _ _ _ (c .enum-told2 .given .1) refl)
+    (λ c. search needs) returns-3 (λ c. search needs) returns-4 (λ c. search needs) returns-5 (λ c. search needs) returns-6
+    (λ c. arm _ _ _ _ _ (c .enum-told7 .given .1) refl))

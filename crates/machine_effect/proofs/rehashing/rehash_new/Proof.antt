@@ -30,7 +30,7 @@ returns-2 c =
 pub rehash-new-spec : {M : Type 1} → statement M
 rehash-new-spec =
     tie.close (tie.spec
-        (λ c. no _ _ _ (le-ltb _ _ (c .if1 .taken)) refl)
-        (λ c. search needs)
-        (λ c κs. c .before .before .pre .1 (c .if1 .left) .entry)
-        (λ c κs. search needs) (λ c. search needs) mul-copy-between copy-between-requires (λ c. search needs) returns-2)
+    (λ c. no _ _ _ (le-ltb _ _ (c .if1 .taken)) refl)
+    (λ c. search needs)
+    (λ c κs. c .before .before .pre .1 (c .if1 .left) .entry)
+    (λ c κs. search needs) (λ c. search needs) mul-copy-between copy-between-requires (λ c. search needs) returns-2)

@@ -26,8 +26,8 @@ returns c =
 pub rehash-one-spec : {M : Type 1} → statement M
 rehash-one-spec =
     tie.close (tie.spec (λ c κs. search needs)
-        (λ c. omega (arith, slot-lies _ _ _ _ (c .slot-of .ensures) (c .before .before .before .pre .1)))
-        (λ c. omega (arith, slot-lies _ _ _ _ (c .slot-of .ensures) (c .before .before .before .pre .1)))
-        (λ c. search needs) (λ c. search needs)
-        (λ c. omega (arith, slot-lies _ _ _ _ (c .slot-of .ensures) (c .before .before .before .pre .1)))
-        (λ c κs. search needs) (λ c. search needs) (λ c. search needs) copy-between-requires (λ c. search needs) returns)
+    (λ c. omega (arith, slot-lies _ _ _ _ (c .slot-of .ensures) (c .before .before .before .pre .1)))
+    (λ c. omega (arith, slot-lies _ _ _ _ (c .slot-of .ensures) (c .before .before .before .pre .1)))
+    (λ c. search needs) (λ c. search needs)
+    (λ c. omega (arith, slot-lies _ _ _ _ (c .slot-of .ensures) (c .before .before .before .pre .1)))
+    (λ c κs. search needs) (λ c. search needs) (λ c. search needs) copy-between-requires (λ c. search needs) returns)

@@ -12,5 +12,5 @@ returns-2 c =
 pub rehash-two-spec : {M : Type 1} → statement M
 rehash-two-spec =
     tie.close (tie.spec (λ c κs. search needs) (λ c. search needs)
-        (λ c. two-one _ _ _ _ _ (c .if1 .taken) (c .before .before .before .rehash-one .ensures))
-        (λ c κs. search needs) (λ c. search needs) returns-2)
+    (λ c. two-one _ _ _ _ _ (c .if1 .taken) (c .before .before .before .rehash-one .ensures))
+    (λ c κs. search needs) (λ c. search needs) returns-2)

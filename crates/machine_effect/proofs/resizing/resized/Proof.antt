@@ -21,6 +21,6 @@ pub resized-spec : {M : Type 1} → statement M
 unfolding resized
 resized-spec =
     tie.close (tie.spec (λ c. search needs) new-zeros-requires (λ c. search needs) returns (λ c. search needs)
-        (λ c. c .before .before .before .pre .1 .less (c .if2 .taken))
-        (λ c. no _ _ _ (le-ltb _ _ (c .before .if1 .left)) (yes _ _ _ (lt-ltb _ _ (c .if2 .taken)) refl))
-        (λ c. no _ _ _ (le-ltb _ _ (c .before .if1 .left)) (no _ _ _ (le-ltb _ _ (c .if2 .left)) refl)))
+    (λ c. c .before .before .before .pre .1 .less (c .if2 .taken))
+    (λ c. no _ _ _ (le-ltb _ _ (c .before .if1 .left)) (yes _ _ _ (lt-ltb _ _ (c .if2 .taken)) refl))
+    (λ c. no _ _ _ (le-ltb _ _ (c .before .if1 .left)) (no _ _ _ (le-ltb _ _ (c .if2 .left)) refl)))

@@ -53,5 +53,5 @@ returns-2 c =
 pub copy-spec : {M : Type 1} → statement M
 copy-spec =
     tie.close (tie.spec (λ c. search needs) (λ c κs. search needs) (λ c κs. search needs) (λ c. search needs) (λ c κs. search needs)
-        (λ c κs. search needs) copy-between-requires (λ c κs. search needs) move-within-requires (λ c. search needs) returns
-        (λ c. search needs) returns-2)
+    (λ c κs. search needs) copy-between-requires (λ c κs. search needs) move-within-requires (λ c. search needs) returns
+    (λ c. search needs) returns-2)

@@ -56,4 +56,4 @@ returns c =
 pub swap-spec : {M : Type 1} → statement M
 swap-spec =
     tie.close (tie.spec (λ c. search needs) copied-requires (λ c. search needs) copied-requires-2 place-requires place-requires-2
-        swap-within-requires (λ c. search needs) returns)
+    swap-within-requires (λ c. search needs) returns)

@@ -47,6 +47,6 @@ pub copied-spec : {M : Type 1} → statement M
 unfolding bare
 copied-spec =
     tie.close (tie.spec (λ c κs. search needs)
-        (λ c. sym (copied-old _ _ _ _ (sym (c .before .is-bare .ensures) ∙ not-true _ (c .if1 .taken))))
-        (λ c κs. tt) (λ c. search needs) (λ c. search needs) mul-copy-between mul-copy-between-2 copy-between-requires cast-after
-        (λ c. search needs) (λ c. search needs) returns-2)
+    (λ c. sym (copied-old _ _ _ _ (sym (c .before .is-bare .ensures) ∙ not-true _ (c .if1 .taken))))
+    (λ c κs. tt) (λ c. search needs) (λ c. search needs) mul-copy-between mul-copy-between-2 copy-between-requires cast-after
+    (λ c. search needs) (λ c. search needs) returns-2)

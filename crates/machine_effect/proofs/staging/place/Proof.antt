@@ -14,5 +14,5 @@ returns c = place-is (c .before .args .z) (c .before .args .t2) (c .before .args
 pub place-spec : {M : Type 1} → statement M
 place-spec =
     tie.close (tie.spec (λ c. search needs) (λ c. search needs) (λ c κs. tt)
-        (λ c. omega (arith, slot-near _ (c .before .pre .0) (c .wide .result) (omega arith)))
-        (λ c. search needs) add-result returns)
+    (λ c. omega (arith, slot-near _ (c .before .pre .0) (c .wide .result) (omega arith)))
+    (λ c. search needs) add-result returns)

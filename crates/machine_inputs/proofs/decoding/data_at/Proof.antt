@@ -8,4 +8,4 @@ use Rattle.machine_inputs.proofs.decoding.data_at.Tie as tie
 pub data-at-spec : {M : Type 1} → statement M
 data-at-spec =
     tie.close (tie.spec (λ c. search needs) (λ c. search needs) (λ c. search needs) (λ c. search needs) (λ c κs. search needs)
-        (λ c. c .data-of .ensures ∙ ap dataOf (part-is _ _ _ _ refl)))
+    (λ c. c .data-of .ensures ∙ ap dataOf (part-is _ _ _ _ refl)))

@@ -23,5 +23,5 @@ pub data-of-spec : {M : Type 1} → statement M
 unfolding dataOf isData
 data-of-spec =
     tie.close (tie.spec
-        (λ c. no _ _ _ (both-not-left _ _ (lt-leb _ _ (c .if1 .taken))) refl)
-        (λ c. search needs) (λ c κs. search needs) returns-2 returns-3)
+    (λ c. no _ _ _ (both-not-left _ _ (lt-leb _ _ (c .if1 .taken))) refl)
+    (λ c. search needs) (λ c κs. search needs) returns-2 returns-3)

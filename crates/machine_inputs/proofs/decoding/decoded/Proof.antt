@@ -111,5 +111,5 @@ returns-7 c =
 pub decoded-spec : {M : Type 1} → statement M
 decoded-spec =
     tie.close (tie.spec (λ c. search needs) read-args-requires (λ c. search needs) read-args-requires-2 (λ c. search needs)
-        write-args-requires (λ c. search needs) span-args-requires (λ c. search needs) span-args-requires-2 (λ c. search needs)
-        size-args-requires (λ c. search needs) (λ c κs. search needs) returns returns-2 returns-3 returns-4 returns-5 returns-6 returns-7)
+    write-args-requires (λ c. search needs) span-args-requires (λ c. search needs) span-args-requires-2 (λ c. search needs)
+    size-args-requires (λ c. search needs) (λ c κs. search needs) returns returns-2 returns-3 returns-4 returns-5 returns-6 returns-7)

@@ -8,4 +8,4 @@ use Rattle.machine_inputs.proofs.decoding.key_at.Tie as tie
 pub key-at-spec : {M : Type 1} → statement M
 key-at-spec =
     tie.close (tie.spec (λ c. search needs) (λ c. search needs) (λ c. search needs) (λ c. search needs) (λ c κs. search needs)
-        (λ c. c .key-of .ensures ∙ ap keyOf (part-is _ _ _ _ refl)))
+    (λ c. c .key-of .ensures ∙ ap keyOf (part-is _ _ _ _ refl)))

@@ -20,5 +20,5 @@ pub key-of-spec : {M : Type 1} → statement M
 unfolding keyOf isKey
 key-of-spec =
     tie.close (tie.spec
-        (λ c. no _ _ _ (ne-eqb _ _ (c .if1 .taken)) refl)
-        (λ c. search needs) (λ c κs. search needs) returns-2)
+    (λ c. no _ _ _ (ne-eqb _ _ (c .if1 .taken)) refl)
+    (λ c. search needs) (λ c κs. search needs) returns-2)

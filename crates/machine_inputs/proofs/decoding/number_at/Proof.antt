@@ -8,4 +8,4 @@ use Rattle.machine_inputs.proofs.decoding.number_at.Tie as tie
 pub number-at-spec : {M : Type 1} → statement M
 number-at-spec =
     tie.close (tie.spec (λ c. search needs) (λ c. search needs) (λ c. search needs) (λ c. search needs) (λ c κs. search needs)
-        (λ c. c .number-of .ensures ∙ ap number (part-is _ _ _ _ refl)))
+    (λ c. c .number-of .ensures ∙ ap number (part-is _ _ _ _ refl)))

@@ -63,5 +63,5 @@ returns-4 c =
 pub read-args-spec : {M : Type 1} → statement M
 read-args-spec =
     tie.close (tie.spec (λ c. search needs) (λ c. search needs) (λ c. search needs) key-at-requires (λ c κs. search needs) returns
-        number-at-requires (λ c. search needs) (λ c. search needs) (λ c κs. search needs) returns-2 number-at-requires-2 (λ c. search needs)
-        (λ c. search needs) (λ c κs. search needs) returns-3 returns-4)
+    number-at-requires (λ c. search needs) (λ c. search needs) (λ c κs. search needs) returns-2 number-at-requires-2 (λ c. search needs)
+    (λ c. search needs) (λ c κs. search needs) returns-3 returns-4)

@@ -30,4 +30,4 @@ returns-2 c =
 pub size-args-spec : {M : Type 1} → statement M
 size-args-spec =
     tie.close (tie.spec (λ c. search needs) number-at-requires (λ c. search needs) (λ c. search needs) (λ c κs. search needs) returns
-        returns-2)
+    returns-2)

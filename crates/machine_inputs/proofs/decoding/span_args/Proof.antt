@@ -64,6 +64,6 @@ returns-4 c =
 pub span-args-spec : {M : Type 1} → statement M
 span-args-spec =
     tie.close (tie.spec (λ c. search needs) (λ c. search needs) (λ c. search needs) number-at-requires (λ c. search needs)
-        (λ c. search needs) (λ c κs. search needs) returns number-at-requires-2 (λ c. search needs) (λ c. search needs)
-        (λ c κs. search needs) returns-2 number-at-requires-3 (λ c. search needs) (λ c. search needs) (λ c κs. search needs) returns-3
-        returns-4)
+    (λ c. search needs) (λ c κs. search needs) returns number-at-requires-2 (λ c. search needs) (λ c. search needs)
+    (λ c κs. search needs) returns-2 number-at-requires-3 (λ c. search needs) (λ c. search needs) (λ c κs. search needs) returns-3
+    returns-4)

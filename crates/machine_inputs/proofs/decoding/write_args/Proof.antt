@@ -64,5 +64,5 @@ returns-3 c =
 pub write-args-spec : {M : Type 1} → statement M
 write-args-spec =
     tie.close (tie.spec (λ c. search needs) (λ c. search needs) number-at-requires (λ c. search needs) (λ c. search needs)
-        (λ c κs. search needs) returns data-at-requires (λ c. search needs) (λ c. search needs) (λ c κs. search needs) returns-2 add-from
-        returns-3)
+    (λ c κs. search needs) returns data-at-requires (λ c. search needs) (λ c. search needs) (λ c κs. search needs) returns-2 add-from
+    returns-3)

@@ -7,6 +7,6 @@ use Rattle.machine_inputs.proofs.operands.end_of.Tie as tie
 pub end-of-spec : {M : Type 1} → statement M
 end-of-spec =
     tie.close (tie.spec
-        (λ c. yes _ _ _ (eq-eqb _ _ (c .if1 .taken)) refl)
-        (λ c. search needs)
-        (λ c. no _ _ _ (ne-eqb _ _ (c .before .if1 .left)) refl))
+    (λ c. yes _ _ _ (eq-eqb _ _ (c .if1 .taken)) refl)
+    (λ c. search needs)
+    (λ c. no _ _ _ (ne-eqb _ _ (c .before .if1 .left)) refl))

@@ -48,5 +48,5 @@ returns c =
 pub largest-end-spec : {M : Type 1} → statement M
 largest-end-spec =
     tie.close (tie.spec Inv-loop μ-loop
-        (λ c. (omega arith, c .pre .1, largest-first (c .args .t2) (c .args .n)))
-        (λ c. search needs) (λ c. omega arith) end-of-requires (λ c κs. tt) (λ c. search needs) (λ c. omega arith) loop-again returns)
+    (λ c. (omega arith, c .pre .1, largest-first (c .args .t2) (c .args .n)))
+    (λ c. search needs) (λ c. omega arith) end-of-requires (λ c κs. tt) (λ c. search needs) (λ c. omega arith) loop-again returns)

@@ -45,5 +45,5 @@ pub need-spec : {M : Type 1} → statement M
 unfolding need
 need-spec =
     tie.close (tie.spec (λ c κs. search needs)
-        (λ c. yes _ _ _ (sym (c .before .ill-formed .ensures) ∙ c .if1 .taken) refl)
-        (λ c κs. search needs) returns-2 (λ c κs. search needs) largest-end-requires returns-3)
+    (λ c. yes _ _ _ (sym (c .before .ill-formed .ensures) ∙ c .if1 .taken) refl)
+    (λ c κs. search needs) returns-2 (λ c κs. search needs) largest-end-requires returns-3)

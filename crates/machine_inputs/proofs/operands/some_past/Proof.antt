@@ -39,4 +39,4 @@ returns-2 c =
 pub some-past-spec : {M : Type 1} → statement M
 some-past-spec =
     tie.close (tie.spec Inv-loop μ-loop (λ c. (omega arith, refl)) (λ c. search needs) (λ c. omega arith) (λ c κs. tt) returns
-        (λ c. search needs) (λ c. omega arith) loop-again returns-2)
+    (λ c. search needs) (λ c. omega arith) loop-again returns-2)

@@ -7,4 +7,4 @@ use Rattle.machine_plan.proofs.Source.missing.Tie as tie
 pub missing-spec : {M : Type 1} → statement M
 missing-spec =
     tie.close (tie.spec (λ c κs. search needs)
-        (λ c. shows-missing _ (c .no-sectors .ensures)))
+    (λ c. shows-missing _ (c .no-sectors .ensures)))

@@ -7,4 +7,4 @@ use Rattle.machine_plan.proofs.Source.nothing.Tie as tie
 pub nothing-spec : {M : Type 1} → statement M
 nothing-spec =
     tie.close (tie.spec (λ c κs. search needs)
-        (λ c. shows-seen _ _ (c .no-sectors .ensures)))
+    (λ c. shows-seen _ _ (c .no-sectors .ensures)))

@@ -92,7 +92,7 @@ returns-2 c =
     let then2 = c .before .before in let at-source-of = then2 .before .before in
     c .failed2 .ensures
     ∙ fails _ _ _ _ _ _ 24 (c .before .refused2 .ensures) (no _ _ _ (may (at-source-of .before .before))
-        (yes _ _ _ (ap not (sym (shown at-source-of .there) ∙ not-true _ (then2 .if2 .taken))) refl))
+    (yes _ _ _ (ap not (sym (shown at-source-of .there) ∙ not-true _ (then2 .if2 .taken))) refl))
 
 weighed-requires : tie.Need-weighed-requires
 weighed-requires c κs =
@@ -131,6 +131,6 @@ pub argued-spec : {M : Type 1} → statement M
 unfolding argued plannedArgs
 argued-spec =
     tie.close (tie.spec (λ c κs. search needs) (λ c κs. search needs) (λ c κs. search needs)
-        (λ c. c .failed .ensures ∙ fails _ _ _ _ _ _ 23 (c .before .refused .ensures)
-            (yes _ _ _ (mode (c .before .before .before) ∙ c .before .before .if1 .taken) refl))
-        source-of-requires (λ c κs. search needs) (λ c κs. search needs) returns-2 weighed-requires (λ c κs. search needs) returns-3 returns-4)
+    (λ c. c .failed .ensures ∙ fails _ _ _ _ _ _ 23 (c .before .refused .ensures)
+    (yes _ _ _ (mode (c .before .before .before) ∙ c .before .before .if1 .taken) refl))
+    source-of-requires (λ c κs. search needs) (λ c κs. search needs) returns-2 weighed-requires (λ c κs. search needs) returns-3 returns-4)

@@ -13,5 +13,5 @@ returns-2 c =
 pub changes-nothing-spec : {M : Type 1} → statement M
 changes-nothing-spec =
     tie.close (tie.spec (λ c κs. search needs)
-        (λ c. no _ _ _ (ap (λ (k : Kind). k .changes) (sym (c .before .before .kind .ensures)) ∙ not-true _ (c .if1 .taken)) refl)
-        (λ c κs. search needs) returns-2)
+    (λ c. no _ _ _ (ap (λ (k : Kind). k .changes) (sym (c .before .before .kind .ensures)) ∙ not-true _ (c .if1 .taken)) refl)
+    (λ c κs. search needs) returns-2)

@@ -120,11 +120,11 @@ returns-4 c =
     let s = start-2 at-if1 in
     c .argued .ensures
     ∙ (λ k. argued (s .args .z) (the-set s) (the-roots s) (s .args .p) (s .args .i .proof) (at-if1 .before .before .op-of .ensures k)
-        (heard-args at-if3 k) (heard-from at-if3 k))
+    (heard-args at-if3 k) (heard-from at-if3 k))
     ∙ argued-is (s .args .z) (the-set s) (the-roots s) (s .args .p) (s .args .i) (s .args .input .now) (formed at-if1) (within at-if2) (told at-if3)
 
 pub planned-spec : {M : Type 1} → statement M
 planned-spec =
     tie.close (tie.spec (λ c κs. search needs) (λ c κs. search needs) (λ c κs. search needs) (λ c κs. search needs) returns (λ c κs. search needs)
-        (λ c κs. search needs) (λ c κs. search needs) returns-2 decoded-requires (λ c κs. search needs) (λ c κs. search needs) returns-3
-        argued-requires returns-4)
+    (λ c κs. search needs) (λ c κs. search needs) returns-2 decoded-requires (λ c κs. search needs) (λ c κs. search needs) returns-3
+    argued-requires returns-4)

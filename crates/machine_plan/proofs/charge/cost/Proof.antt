@@ -38,4 +38,4 @@ returns c =
 pub cost-spec : {M : Type 1} → statement M
 cost-spec =
     tie.close (tie.spec (λ c. search needs) (λ c κs. search needs) (λ c κs. search needs) (λ c. search needs) mul-result mul-result-2
-        add-result-2 returns)
+    add-result-2 returns)

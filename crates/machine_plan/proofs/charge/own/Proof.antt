@@ -113,6 +113,6 @@ returns-7 c =
 pub own-spec : {M : Type 1} → statement M
 own-spec =
     tie.close (tie.spec (λ c. search needs) read-price-requires (λ c. search needs) read-price-requires-2 (λ c. search needs)
-        write-price-requires (λ c. search needs) read-price-requires-3 write-price-requires-2 (λ c. search needs) (λ c. search needs)
-        read-price-requires-4 write-price-requires-3 (λ c. search needs) (λ c. search needs) (λ c. search needs) (λ c. search needs)
-        (λ c. search needs) returns returns-2 returns-3 returns-4 returns-5 returns-6 returns-7)
+    write-price-requires (λ c. search needs) read-price-requires-3 write-price-requires-2 (λ c. search needs) (λ c. search needs)
+    read-price-requires-4 write-price-requires-3 (λ c. search needs) (λ c. search needs) (λ c. search needs) (λ c. search needs)
+    (λ c. search needs) returns returns-2 returns-3 returns-4 returns-5 returns-6 returns-7)

@@ -102,10 +102,10 @@ pub fitted-spec : {M : Type 1} → statement M
 unfolding fitted
 fitted-spec =
     tie.close (tie.spec (λ c κs. search needs) (λ c κs. search needs)
-        (λ c. yes _ _ _ (slots (c .before .before) ∙ c .before .if1 .taken) (c .refused .ensures))
-        (λ c κs. search needs) mul-sizes-fit (λ c κs. search needs) (λ c κs. search needs) returns-2 (λ c κs. search needs)
-        (λ c κs. search needs) (λ c κs. search needs) (λ c κs. search needs) returns-3
-        (λ c. omega (arith, short (c .before) (c .if3 .left)))
-        (λ c. omega (arith, short (c .before) (c .if3 .left)))
-        (λ c. omega (arith, short (c .before) (c .if3 .left)))
-        returns-4)
+    (λ c. yes _ _ _ (slots (c .before .before) ∙ c .before .if1 .taken) (c .refused .ensures))
+    (λ c κs. search needs) mul-sizes-fit (λ c κs. search needs) (λ c κs. search needs) returns-2 (λ c κs. search needs)
+    (λ c κs. search needs) (λ c κs. search needs) (λ c κs. search needs) returns-3
+    (λ c. omega (arith, short (c .before) (c .if3 .left)))
+    (λ c. omega (arith, short (c .before) (c .if3 .left)))
+    (λ c. omega (arith, short (c .before) (c .if3 .left)))
+    returns-4)

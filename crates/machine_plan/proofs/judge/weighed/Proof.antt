@@ -65,12 +65,12 @@ returns-4 c =
     no _ _ _ (right-spans (at-if2 .before .before)) (no _ _ _ (asked-well at-if2) (no _ _ _ (budget at-above ∙ c .before .if3 .left)
     (c .fitted .ensures
     ∙ ap (fitted (a .z) (setting (a .sectors) (a .copies) (a .places) (a .terms) [] []) (a .p) (a .asked) (a .seen) (a .op) (a .args))
-        (at-above .before .cost .ensures))))
+    (at-above .before .cost .ensures))))
 
 pub weighed-spec : {M : Type 1} → statement M
 unfolding weighed
 weighed-spec =
     tie.close (tie.spec (λ c κs. search needs) (λ c κs. search needs)
-        (λ c. yes _ _ _ (sym (c .before .before .bad-spans .ensures) ∙ c .before .if1 .taken) (c .refused .ensures))
-        (λ c κs. search needs) (λ c κs. search needs) returns-2
-        cost-requires (λ c κs. search needs) (λ c κs. search needs) returns-3 fitted-requires returns-4)
+    (λ c. yes _ _ _ (sym (c .before .before .bad-spans .ensures) ∙ c .before .if1 .taken) (c .refused .ensures))
+    (λ c κs. search needs) (λ c κs. search needs) returns-2
+    cost-requires (λ c κs. search needs) (λ c κs. search needs) returns-3 fitted-requires returns-4)

@@ -55,4 +55,4 @@ returns-3 c =
 pub contract-source-spec : {M : Type 1} → statement M
 contract-source-spec =
     tie.close (tie.spec (λ c κs. search needs) (λ c κs. search needs) returns (λ c κs. search needs) (λ c κs. search needs) returns-2
-        committed-seen-requires returns-3)
+    committed-seen-requires returns-3)

@@ -29,4 +29,4 @@ returns-2 c =
 pub sector-source-spec : {M : Type 1} → statement M
 sector-source-spec =
     tie.close (tie.spec (λ c κs. search needs) (λ c. search needs) (λ c. search needs) (λ c κs. search needs) returns one-requires
-        returns-2)
+    returns-2)

@@ -69,6 +69,6 @@ returns-7 c =
 pub source-of-spec : {M : Type 1} → statement M
 source-of-spec =
     tie.close (tie.spec (λ c. search needs) contract-source-requires (λ c. search needs) sector-source-requires (λ c. search needs)
-        (λ c κs. search needs) (λ c. search needs) (λ c κs. search needs) (λ c. search needs) (λ c κs. search needs) (λ c. search needs)
-        (λ c κs. search needs) (λ c. search needs) (λ c κs. search needs) returns returns-2 returns-3 returns-4 returns-5 returns-6
-        returns-7)
+    (λ c κs. search needs) (λ c. search needs) (λ c κs. search needs) (λ c. search needs) (λ c κs. search needs) (λ c. search needs)
+    (λ c κs. search needs) (λ c. search needs) (λ c κs. search needs) returns returns-2 returns-3 returns-4 returns-5 returns-6
+    returns-7)

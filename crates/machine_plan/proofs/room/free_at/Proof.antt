@@ -7,5 +7,5 @@ use Rattle.machine_plan.proofs.room.free_at.Tie as tie
 pub free-at-spec : {M : Type 1} → statement M
 free-at-spec =
     tie.close (tie.spec (λ c κs. search needs)
-        (λ c. (no _ _ _ (ap not (sym (c .before .staged-in .ensures) ∙ c .if1 .taken)) refl, omega arith))
-        (λ c. (yes _ _ _ (ap not (sym (c .before .staged-in .ensures) ∙ c .if1 .left)) refl, omega arith)))
+    (λ c. (no _ _ _ (ap not (sym (c .before .staged-in .ensures) ∙ c .if1 .taken)) refl, omega arith))
+    (λ c. (yes _ _ _ (ap not (sym (c .before .staged-in .ensures) ∙ c .if1 .left)) refl, omega arith)))

@@ -30,7 +30,7 @@ returns c =
 pub free-copies-spec : {M : Type 1} → statement M
 free-copies-spec =
     tie.close (tie.spec Inv-loop μ-loop
-        (λ c. (omega arith, omega arith, count-first (unused (c .args .staged)) (c .args .copies)))
-        (λ c κs. tt)
-        (λ c. omega (arith, c .free-at .ensures .1))
-        (λ c. search needs) (λ c. omega arith) loop-again returns)
+    (λ c. (omega arith, omega arith, count-first (unused (c .args .staged)) (c .args .copies)))
+    (λ c κs. tt)
+    (λ c. omega (arith, c .free-at .ensures .1))
+    (λ c. search needs) (λ c. omega arith) loop-again returns)

@@ -10,5 +10,5 @@ pub output-count-spec : {M : Type 1} → statement M
 unfolding outputCount
 output-count-spec =
     tie.close (tie.spec (λ c κs. search needs)
-        (λ c. yes _ _ _ (ap (λ (k : Kind). k .reads) (sym (c .before .kind .ensures)) ∙ c .if1 .taken) refl)
-        (λ c. no _ _ _ (ap (λ (k : Kind). k .reads) (sym (c .before .kind .ensures)) ∙ c .if1 .left) refl))
+    (λ c. yes _ _ _ (ap (λ (k : Kind). k .reads) (sym (c .before .kind .ensures)) ∙ c .if1 .taken) refl)
+    (λ c. no _ _ _ (ap (λ (k : Kind). k .reads) (sym (c .before .kind .ensures)) ∙ c .if1 .left) refl))

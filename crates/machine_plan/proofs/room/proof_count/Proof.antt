@@ -17,6 +17,6 @@ pub proof-count-spec : {M : Type 1} → statement M
 unfolding proofCount
 proof-count-spec =
     tie.close (tie.spec
-        (λ c. no _ _ _ (not-true _ (c .if1 .taken)) refl)
-        (λ c κs. (c .before .pre .0, (c .before .pre .1 .0, c .before .pre .1 .1 (not-false _ (c .if1 .left)))))
-        returns-2)
+    (λ c. no _ _ _ (not-true _ (c .if1 .taken)) refl)
+    (λ c κs. (c .before .pre .0, (c .before .pre .1 .0, c .before .pre .1 .1 (not-false _ (c .if1 .left)))))
+    returns-2)

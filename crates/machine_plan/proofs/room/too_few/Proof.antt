@@ -13,4 +13,4 @@ returns c =
 pub too-few-spec : {M : Type 1} → statement M
 too-few-spec =
     tie.close (tie.spec (λ c κs. search needs) returns (λ c κs. search needs)
-        (λ c. ap₂ ltb (c .free-copies .ensures) (c .before .before .before .wanted .ensures)))
+    (λ c. ap₂ ltb (c .free-copies .ensures) (c .before .before .before .wanted .ensures)))

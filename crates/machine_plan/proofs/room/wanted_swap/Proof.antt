@@ -25,5 +25,5 @@ returns-2 c =
 pub wanted-swap-spec : {M : Type 1} → statement M
 wanted-swap-spec =
     tie.close (tie.spec (λ c. search needs) (λ c. search needs) (λ c κs. search needs) returns (λ c κs. search needs) (λ c κs. search needs)
-        (λ c. omega (arith, c .before .lacks2 .ensures .1, c .lacks3 .ensures .1))
-        returns-2)
+    (λ c. omega (arith, c .before .lacks2 .ensures .1, c .lacks3 .ensures .1))
+    returns-2)

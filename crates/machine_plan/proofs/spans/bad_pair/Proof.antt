@@ -12,5 +12,5 @@ returns-2 c =
 pub bad-pair-spec : {M : Type 1} → statement M
 bad-pair-spec =
     tie.close (tie.spec (λ c κs. search needs)
-        (λ c. yes _ _ _ (sym (c .before .bad-span .ensures) ∙ c .if1 .taken) refl)
-        (λ c κs. search needs) returns-2)
+    (λ c. yes _ _ _ (sym (c .before .bad-span .ensures) ∙ c .if1 .taken) refl)
+    (λ c κs. search needs) returns-2)

@@ -22,5 +22,5 @@ pub bad-proof-spec : {M : Type 1} → statement M
 unfolding badProof
 bad-proof-spec =
     tie.close (tie.spec (λ c κs. search needs)
-        (λ c. yes _ _ _ (ap (λ (k : Kind). not (k .reads)) (sym (c .before .before .kind .ensures)) ∙ c .if1 .taken) refl)
-        returns-2 returns-3)
+    (λ c. yes _ _ _ (ap (λ (k : Kind). not (k .reads)) (sym (c .before .before .kind .ensures)) ∙ c .if1 .taken) refl)
+    returns-2 returns-3)

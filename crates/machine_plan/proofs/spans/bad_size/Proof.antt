@@ -22,5 +22,5 @@ pub bad-size-spec : {M : Type 1} → statement M
 unfolding badSize
 bad-size-spec =
     tie.close (tie.spec (λ c. search needs)
-        (λ c. yes _ _ _ (ap not (ne-eqb _ _ (c .if1 .taken))) refl)
-        (λ c κs. search needs) returns-2 (λ c κs. search needs) returns-3)
+    (λ c. yes _ _ _ (ap not (ne-eqb _ _ (c .if1 .taken))) refl)
+    (λ c κs. search needs) returns-2 (λ c κs. search needs) returns-3)

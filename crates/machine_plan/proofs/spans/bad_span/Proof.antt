@@ -27,5 +27,5 @@ pub bad-span-spec : {M : Type 1} → statement M
 unfolding badSpan
 bad-span-spec =
     tie.close (tie.spec
-        (λ c. yes _ _ _ (eq-eqb _ _ (c .if1 .taken)) refl)
-        (λ c κs. search needs) returns-2 (λ c. search needs) add-result returns-3)
+    (λ c. yes _ _ _ (eq-eqb _ _ (c .if1 .taken)) refl)
+    (λ c κs. search needs) returns-2 (λ c. search needs) add-result returns-3)

@@ -62,5 +62,5 @@ returns-7 c =
 pub bad-spans-spec : {M : Type 1} → statement M
 bad-spans-spec =
     tie.close (tie.spec (λ c. search needs) mul-bad-span (λ c κs. search needs) (λ c. search needs) mul-bad-span-2 (λ c κs. search needs)
-        (λ c. search needs) (λ c κs. search needs) (λ c. search needs) (λ c κs. search needs) (λ c. search needs) (λ c κs. search needs)
-        (λ c. search needs) (λ c κs. search needs) (λ c. search needs) returns returns-2 returns-3 returns-4 returns-5 returns-6 returns-7)
+    (λ c. search needs) (λ c κs. search needs) (λ c. search needs) (λ c κs. search needs) (λ c. search needs) (λ c κs. search needs)
+    (λ c. search needs) (λ c κs. search needs) (λ c. search needs) returns returns-2 returns-3 returns-4 returns-5 returns-6 returns-7)

@@ -29,10 +29,10 @@ pub class-of-spec : {M : Type 1} → statement M
 unfolding classOf
 class-of-spec =
     tie.close (tie.spec
-        (λ c. yes _ _ _ (eq-eqb _ _ (c .if1 .taken)) refl)
-        (λ c. no _ _ _ (ne-eqb _ _ (c .before .if1 .left)) (yes _ _ _ (eq-eqb _ _ (c .if2 .taken)) refl))
-        returns-3
-        (λ c. is-invalid _ (c .before .if3 .left) (c .if4 .taken))
-        returns-5
-        (λ c. is-host _ (c .before .if5 .left) (c .if6 .taken))
-        returns-7)
+    (λ c. yes _ _ _ (eq-eqb _ _ (c .if1 .taken)) refl)
+    (λ c. no _ _ _ (ne-eqb _ _ (c .before .if1 .left)) (yes _ _ _ (eq-eqb _ _ (c .if2 .taken)) refl))
+    returns-3
+    (λ c. is-invalid _ (c .before .if3 .left) (c .if4 .taken))
+    returns-5
+    (λ c. is-host _ (c .before .if5 .left) (c .if6 .taken))
+    returns-7)

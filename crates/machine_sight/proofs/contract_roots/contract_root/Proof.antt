@@ -36,4 +36,4 @@ returns-3 c =
 pub contract-root-spec : {M : Type 1} → statement M
 contract-root-spec =
     tie.close (tie.spec returns first-root-requires returns-2 (λ c κs. search needs) (λ c. search needs) (λ c. search needs)
-        slice-aggregate-join (λ c κs. search needs) returns-3)
+    slice-aggregate-join (λ c κs. search needs) returns-3)

@@ -23,5 +23,5 @@ returns c =
 pub first-root-spec : {M : Type 1} → statement M
 first-root-spec =
     tie.close (tie.spec (λ c κs. omega arith) kept-root-requires (λ c. search needs)
-        (λ c κs. (omega (arith, c .before .kept-root .ensures .1), omega arith))
-        returns)
+    (λ c κs. (omega (arith, c .before .kept-root .ensures .1), omega arith))
+    returns)

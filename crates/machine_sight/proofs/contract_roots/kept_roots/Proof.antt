@@ -83,6 +83,6 @@ returns c =
 pub kept-roots-spec : {M : Type 1} → statement M
 kept-roots-spec =
     tie.close (tie.spec Inv-loop μ-loop
-        (λ c. (omega arith, refl, none-gathered _ _))
-        spot-of-requires kept-root-requires slice-aggregate-copy-between mul-copy-between copy-between-requires add-i loop-less loop-again
-        returns)
+    (λ c. (omega arith, refl, none-gathered _ _))
+    spot-of-requires kept-root-requires slice-aggregate-copy-between mul-copy-between copy-between-requires add-i loop-less loop-again
+    returns)

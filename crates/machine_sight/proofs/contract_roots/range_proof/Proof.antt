@@ -65,5 +65,5 @@ returns-2 c =
 pub range-proof-spec : {M : Type 1} → statement M
 range-proof-spec =
     tie.close (tie.spec (λ c. search needs) (λ c κs. search needs) sector-requires (λ c. search needs) (λ c. search needs)
-        (λ c κs. search needs) (λ c. search needs) returns (λ c κs. search needs) (λ c. search needs) (λ c. search needs)
-        slice-aggregate-prove-in (λ c κs. search needs) (λ c. search needs) returns-2)
+    (λ c κs. search needs) (λ c. search needs) returns (λ c κs. search needs) (λ c. search needs) (λ c. search needs)
+    slice-aggregate-prove-in (λ c κs. search needs) (λ c. search needs) returns-2)

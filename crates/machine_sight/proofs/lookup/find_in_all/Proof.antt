@@ -15,5 +15,5 @@ returns c =
 pub find-in-all-spec : {M : Type 1} → statement M
 find-in-all-spec =
     tie.close (tie.spec
-        (λ c κs. seeks-none _ _ _ (c .before .before .pre) _ _ _)
-        returns)
+    (λ c κs. seeks-none _ _ _ (c .before .before .pre) _ _ _)
+    returns)

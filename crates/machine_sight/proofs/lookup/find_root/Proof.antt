@@ -65,4 +65,4 @@ returns-2 c =
 pub find-root-spec : {M : Type 1} → statement M
 find-root-spec =
     tie.close (tie.spec (λ c κs. search needs) (λ c κs. search needs) (λ c κs. search needs) first-in-requires (λ c κs. search needs)
-        returns (λ c κs. search needs) returns-2)
+    returns (λ c κs. search needs) returns-2)

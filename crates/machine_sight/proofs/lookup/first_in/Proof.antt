@@ -72,6 +72,6 @@ returns-2 c =
 pub first-in-spec : {M : Type 1} → statement M
 first-in-spec =
     tie.close (tie.spec Inv-loop μ-loop (λ c. position-all _ _ _ _ _) spot-of-requires has-root-requires returns
-        (λ c. omega (arith, c .before .before .before .loop-test .taken))
-        (λ c. omega (arith, c .before .before .before .loop-test .taken))
-        loop-again returns-2)
+    (λ c. omega (arith, c .before .before .before .loop-test .taken))
+    (λ c. omega (arith, c .before .before .before .loop-test .taken))
+    loop-again returns-2)

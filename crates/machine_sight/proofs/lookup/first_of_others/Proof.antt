@@ -63,4 +63,4 @@ returns-2 c =
 pub first-of-others-spec : {M : Type 1} → statement M
 first-of-others-spec =
     tie.close (tie.spec Inv-loop μ-loop loop-holds (λ c. search needs) (λ c. search needs) first-unless-requires (λ c κs. tt) returns
-        (λ c. search needs) (λ c. search needs) loop-again returns-2)
+    (λ c. search needs) (λ c. search needs) loop-again returns-2)

@@ -8,5 +8,5 @@ pub is-found-spec : {M : Type 1} → statement M
 unfolding isFound
 is-found-spec =
     tie.close (tie.spec (λ c. search needs) (λ c. search needs)
-        (λ c. cc)
-        (λ c. cc))
+    (λ c. cc)
+    (λ c. cc))

@@ -25,5 +25,5 @@ returns c =
 pub range-count-spec : {M : Type 1} → statement M
 range-count-spec =
     tie.close (tie.spec
-        (λ c. omega (arith, segments-few _ (c .pre .0) (c .args .sectors) (omega arith)))
-        add-count (λ c κs. search needs) returns)
+    (λ c. omega (arith, segments-few _ (c .pre .0) (c .args .sectors) (omega arith)))
+    add-count (λ c κs. search needs) returns)

@@ -28,5 +28,5 @@ returns-2 c =
 pub sector-spec : {M : Type 1} → statement M
 sector-spec =
     tie.close (tie.spec (λ c. search needs) (λ c. omega (arith, disk-holds c)) (λ c. omega (arith, disk-holds c)) (λ c. search needs)
-        (λ c. search needs) (λ c. omega (arith, disk-holds c)) (λ c. search needs) (λ c. omega (arith, stage-holds c))
-        (λ c. omega (arith, stage-holds c)) (λ c. search needs) (λ c. search needs) (λ c. omega (arith, stage-holds c)) returns returns-2)
+    (λ c. search needs) (λ c. omega (arith, disk-holds c)) (λ c. search needs) (λ c. omega (arith, stage-holds c))
+    (λ c. omega (arith, stage-holds c)) (λ c. search needs) (λ c. search needs) (λ c. omega (arith, stage-holds c)) returns returns-2)

@@ -20,4 +20,4 @@ returns c =
 pub span-spec : {M : Type 1} → statement M
 span-spec =
     tie.close (tie.spec (λ c. search needs) (λ c κs. search needs) sector-requires (λ c. search needs) (λ c. search needs)
-        (λ c. search needs) (λ c. search needs) (λ c. search needs) returns)
+    (λ c. search needs) (λ c. search needs) (λ c. search needs) returns)

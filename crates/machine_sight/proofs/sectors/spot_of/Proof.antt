@@ -7,6 +7,6 @@ use Rattle.machine_sight.proofs.sectors.spot_of.Tie as tie
 pub spot-of-spec : {M : Type 1} → statement M
 spot-of-spec =
     tie.close (tie.spec (λ c. search needs) (λ c. search needs) (λ c. search needs)
-        (λ c. spot-disk _ _ _ 64 (c .before .good .1 .0 .1 .0 .1) (c .before .pre) (c .if1 .taken))
-        (λ c. search needs)
-        (λ c. spot-stage _ _ _ 64 (c .before .good .1 .0 .1 .0 .1) (c .before .pre) (c .if1 .left)))
+    (λ c. spot-disk _ _ _ 64 (c .before .good .1 .0 .1 .0 .1) (c .before .pre) (c .if1 .taken))
+    (λ c. search needs)
+    (λ c. spot-stage _ _ _ 64 (c .before .good .1 .0 .1 .0 .1) (c .before .pre) (c .if1 .left)))

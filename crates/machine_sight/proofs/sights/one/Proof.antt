@@ -20,5 +20,5 @@ pub one-spec : {M : Type 1} → statement M
 unfolding spotsOf tab
 one-spec =
     tie.close (tie.spec (λ c. search needs) (λ c. omega (arith, on-disk c)) (λ c. search needs) (λ c. omega (arith, in-stage c))
-        (λ c. ap (λ (x : Spot). x ∷ []) (one-on-disk _ ∙ sym (c .before .spot .given .1)))
-        (λ c. ap (λ (x : Spot). x ∷ []) (one-in-stage _ 0 (in-stage c) ∙ sym (c .before .spot2 .given .1))))
+    (λ c. ap (λ (x : Spot). x ∷ []) (one-on-disk _ ∙ sym (c .before .spot .given .1)))
+    (λ c. ap (λ (x : Spot). x ∷ []) (one-in-stage _ 0 (in-stage c) ∙ sym (c .before .spot2 .given .1))))

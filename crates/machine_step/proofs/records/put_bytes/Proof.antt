@@ -34,4 +34,4 @@ pub put-bytes-spec : {M : Type 1} → statement M
 unfolding shownBytes
 put-bytes-spec =
     tie.close (tie.spec span-requires copy-between-requires (λ c. search needs) returns
-        (λ c. sym (ap (put _ 0) (skips _ _ [] (c .if1 .left)) ∙ put-nil _ 0)))
+    (λ c. sym (ap (put _ 0) (skips _ _ [] (c .if1 .left)) ∙ put-nil _ 0)))

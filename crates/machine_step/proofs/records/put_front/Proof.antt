@@ -25,4 +25,4 @@ returns c =
 pub put-front-spec : {M : Type 1} → statement M
 put-front-spec =
     tie.close (tie.spec (λ c κs. search needs) (λ c κs. search needs) (λ c κs. search needs) (λ c. search needs) (λ c κs. search needs)
-        (λ c κs. search needs) (λ c. search needs) returns)
+    (λ c κs. search needs) (λ c. search needs) returns)

@@ -28,4 +28,4 @@ pub put-proof-spec : {M : Type 1} → statement M
 unfolding shownProof
 put-proof-spec =
     tie.close (tie.spec range-proof-requires (λ c. search needs) returns
-        (λ c. sym (ap (put _ 0) (skips _ _ [] (c .if1 .left)) ∙ put-nil _ 0)))
+    (λ c. sym (ap (put _ 0) (skips _ _ [] (c .if1 .left)) ∙ put-nil _ 0)))

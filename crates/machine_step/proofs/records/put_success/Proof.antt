@@ -58,6 +58,6 @@ returns c =
 pub put-success-spec : {M : Type 1} → statement M
 put-success-spec =
     tie.close (tie.spec (λ c κs. search needs) (λ c. search needs) (λ c. search needs) (λ c. search needs) put-proof-requires
-        (λ c. search needs) (λ c. search needs) (λ c κs. search needs) (λ c κs. search needs)
-        (λ c. omega (arith, at-start (at-front (at-proof (c .before .before)))))
-        (λ c. search needs) (λ c. search needs) (λ c. search needs) put-bytes-requires (λ c. search needs) returns)
+    (λ c. search needs) (λ c. search needs) (λ c κs. search needs) (λ c κs. search needs)
+    (λ c. omega (arith, at-start (at-front (at-proof (c .before .before)))))
+    (λ c. search needs) (λ c. search needs) (λ c. search needs) put-bytes-requires (λ c. search needs) returns)

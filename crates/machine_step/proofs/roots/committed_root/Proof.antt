@@ -13,4 +13,4 @@ contract-root-requires c κs =
 pub committed-root-spec : {M : Type 1} → statement M
 committed-root-spec =
     tie.close (tie.spec (λ c κs. search needs) (λ c. search needs) contract-root-requires
-        (λ c. c .contract-root .ensures ∙ ap (contractRoot _) (c .before .before .committed-seen .ensures .0)))
+    (λ c. c .contract-root .ensures ∙ ap (contractRoot _) (c .before .before .committed-seen .ensures .0)))

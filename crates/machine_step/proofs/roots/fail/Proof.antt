@@ -22,4 +22,4 @@ returns c =
 pub fail-spec : {M : Type 1} → statement M
 fail-spec =
     tie.close (tie.spec (λ c κs. search needs) (λ c. search needs) (λ c. search needs) (λ c. search needs) (λ c κs. search needs)
-        (λ c. search needs) (λ c. search needs) returns)
+    (λ c. search needs) (λ c. search needs) returns)

@@ -13,4 +13,4 @@ contract-root-requires c κs =
 pub running-root-spec : {M : Type 1} → statement M
 running-root-spec =
     tie.close (tie.spec (λ c κs. search needs) contract-root-requires
-        (λ c. c .contract-root .ensures ∙ ap (contractRoot _) (c .before .parent-seen .ensures .0)))
+    (λ c. c .contract-root .ensures ∙ ap (contractRoot _) (c .before .parent-seen .ensures .0)))

@@ -86,4 +86,4 @@ returns c =
 pub succeed-spec : {M : Type 1} → statement M
 succeed-spec =
     tie.close (tie.spec effect-requires rehash-requires advanced-requires running-root-requires (λ c κs. search needs) (λ c. within c)
-        (λ c. within c) (λ c. search needs) put-success-requires (λ c. search needs) (λ c. search needs) (λ c. search needs) returns)
+    (λ c. within c) (λ c. search needs) put-success-requires (λ c. search needs) (λ c. search needs) (λ c. search needs) returns)

@@ -39,7 +39,7 @@ operands s = known-instruction (s .args .i) _ (s .good .1 .1 .1 .1 .1 .1 .1 .1 .
 -- the plan, of the setting as it is, and with its roots
 planned-is : (c : tie.After-planned) → let s = at-start c in
     said (c .planned .result) ≡ planOf (s .args .z) (the-set s) (rootAt (s .args .z) (the-set s) (the-turn s)) (s .args .progress) (s .args .i)
-        (s .args .input .now)
+    (s .args .input .now)
 planned-is c =
     let s = at-start c in
     let a = s .args in
@@ -51,7 +51,7 @@ planned-is c =
 number : (c : tie.After-place-of) → let s = at-start (at-planned c) in
     at-planned c .planned .result .plan .number
     ≡ judged (s .args .z) (the-set s) (rootAt (s .args .z) (the-set s) (the-turn s)) (s .args .progress) (s .args .i)
-        (inputsOf (s .args .i) (s .args .input .now))
+    (inputsOf (s .args .i) (s .args .input .now))
 unfolding parent
 number c =
     let p = at-planned c in
@@ -107,4 +107,4 @@ returns-2 c =
 pub step-spec : {M : Type 1} → statement M
 step-spec =
     tie.close (tie.spec planned-requires (λ c κs. search needs) fail-requires (λ c. search needs) (λ c. search needs) returns
-        succeed-requires (λ c. search needs) (λ c. search needs) (λ c. search needs) returns-2)
+    succeed-requires (λ c. search needs) (λ c. search needs) (λ c. search needs) returns-2)

@@ -7,5 +7,5 @@ use Rattle.machine_step.proofs.turns.goes_on.Tie as tie
 pub goes-on-spec : {M : Type 1} → statement M
 goes-on-spec =
     tie.close (tie.spec
-        (λ c. no _ _ _ (ap not (c .if1 .taken)) refl)
-        (λ c. yes _ _ _ (ap not (c .before .if1 .left)) refl))
+    (λ c. no _ _ _ (ap not (c .if1 .taken)) refl)
+    (λ c. yes _ _ _ (ap not (c .before .if1 .left)) refl))

@@ -6,4 +6,4 @@ use Rattle.machine_step.proofs.turns.ready.Tie as tie
 pub ready-spec : {M : Type 1} → statement M
 ready-spec =
     tie.close (tie.spec (λ c κs. search needs)
-        (λ c. ap (λ (n : ℕ). leb n (c .before .args .k)) (c .need .ensures)))
+    (λ c. ap (λ (n : ℕ). leb n (c .before .args .k)) (c .need .ensures)))

@@ -116,8 +116,8 @@ returns-2 c =
 pub run-spec : {M : Type 1} → statement M
 run-spec =
     tie.close (tie.spec Inv-loop μ-loop loop-holds (λ c κs. tt) (λ c. omega (arith, below c)) (λ c. below c) (λ c κs. search needs)
-        same-length same-length-2 same-length-3 returns step-requires loop-less loop-again
-        (λ c. c .before .before .loop .inv .kept .stageroots ∙ sym (start-of c .pre .stageroots))
-        (λ c. c .before .before .loop .inv .kept .stage ∙ sym (start-of c .pre .stage))
-        (λ c. c .before .before .loop .inv .kept .output ∙ sym (start-of c .pre .output))
-        returns-2)
+    same-length same-length-2 same-length-3 returns step-requires loop-less loop-again
+    (λ c. c .before .before .loop .inv .kept .stageroots ∙ sym (start-of c .pre .stageroots))
+    (λ c. c .before .before .loop .inv .kept .stage ∙ sym (start-of c .pre .stage))
+    (λ c. c .before .before .loop .inv .kept .output ∙ sym (start-of c .pre .output))
+    returns-2)

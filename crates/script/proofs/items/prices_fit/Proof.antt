@@ -14,4 +14,4 @@ abbrev μ-loop : tie.MeasureT-loop
 pub prices-fit-spec : {M : Type 1} → statement M
 prices-fit-spec =
     tie.close (tie.spec Inv-loop μ-loop (λ c. tt) (λ c κs. search needs) (λ c. search needs) (λ c. omega arith) (λ c. omega arith) (λ c. tt)
-        (λ c. search needs))
+    (λ c. search needs))

@@ -19,19 +19,21 @@ returns c =
     let in-loop = c .before .before .before in let at-loop = in-loop .before in let s = at-loop .before in
     let l = at-loop .loop in
     sym (l .inv .1 ∙ every-not fewOperands _ _ (l .i) _ (in-loop .loop-test .taken) (omega (arith, s .good .0 .1 .0 .1))
-        (lt-leb _ _ (c .if1 .taken)))
+    (lt-leb _ _ (c .if1 .taken)))
 
 loop-again : tie.Need-loop-again Inv-loop μ-loop
 loop-again c =
     let in-loop = c .before .before .before in let at-loop = in-loop .before in let s = at-loop .before in
-    let l = at-loop .loop in
-    (omega arith, l .inv .1 ∙ every-next fewOperands _ _ (l .i) _ (in-loop .loop-test .taken)
-        (omega (arith, s .good .0 .1 .0 .1)) (le-leb _ _ (c .if1 .left)))
+    let l = at-loop .loop in (
+      omega arith,
+      l .inv .1 ∙ every-next fewOperands _ _ (l .i) _ (in-loop .loop-test .taken)
+          (omega (arith, s .good .0 .1 .0 .1)) (le-leb _ _ (c .if1 .left)),
+    )
 
 pub few-spec : {M : Type 1} → statement M
 few-spec = tie.close (tie.spec
     Inv-loop μ-loop (λ c. (omega arith, refl)) (λ c. search needs) (λ c. omega arith) returns (λ c. search needs)
     (λ c. omega arith) loop-again
     (λ c. let l = c .before .loop in
-        let s = c .before .before in
-        sym (l .inv .1 ∙ every-end fewOperands _ _ (l .i) noInstruction (c .loop-test .left) (omega (arith, s .good .0 .1 .0 .1)))))
+    let s = c .before .before in
+    sym (l .inv .1 ∙ every-end fewOperands _ _ (l .i) noInstruction (c .loop-test .left) (omega (arith, s .good .0 .1 .0 .1)))))

@@ -12,4 +12,4 @@ within-spec = tie.close (tie.spec
     (λ c. yes _ _ _ (le-leb _ _ (c .before .before .if1 .left)) (no _ _ _ (lt-leb _ _ (c .if2 .taken)) refl))
     (λ c κs. search needs)
     (λ c. let back-3 = c .before .before .before in let back-4 = back-3 .before in
-        yes _ _ _ (le-leb _ _ (back-4 .if1 .left)) (yes _ _ _ (le-leb _ _ (c .before .before .if2 .left)) (c .few .ensures))))
+    yes _ _ _ (le-leb _ _ (back-4 .if1 .left)) (yes _ _ _ (le-leb _ _ (c .before .before .if2 .left)) (c .few .ensures))))

@@ -17,6 +17,9 @@ is-power-spec = tie.close (tie.spec
     Inv-loop μ-loop (λ c. (omega arith, refl)) (λ c. omega arith) (λ c κs. omega arith)
     (λ c. sym (c .before .before .before .loop .inv .1 ∙ power-here _ _ _ (c .before .before .loop-test .taken) (c .before .power .ensures) (c .if1 .taken)))
     (λ c. omega arith)
-    (λ c. (omega arith, c .before .before .before .loop .inv .1 ∙ power-further _ _ _ (c .before .before .loop-test .taken)
-        (c .before .power .ensures) (c .if1 .left)))
+    (λ c. (
+      omega arith,
+      c .before .before .before .loop .inv .1 ∙ power-further _ _ _ (c .before .before .loop-test .taken)
+          (c .before .power .ensures) (c .if1 .left),
+    ))
     (λ c. sym (c .before .loop .inv .1 ∙ power-none _ _ (c .loop-test .left))))

@@ -23,7 +23,7 @@ returns-5 c =
     let at-shared-slice-known = else1 .before .before .before in let start = at-shared-slice-known .before in
     let a = start .args in
     let other : length (a .hashes .now) ≡ 32 * hashes 64 0 (a .count) (a .first) (a .end) → ⊥ =
-        λ e. omega (arith, e, c .if5 .taken, c .before .count .ensures) in
+    λ e. omega (arith, e, c .if5 .taken, c .before .count .ensures) in
     yes _ _ _ (limited _ (else1 .if1 .left) (else2 .if2 .left))
     (yes _ _ _ (sym (at-ranged .ranged .ensures) ∙ not-false _ (else3 .if3 .left))
     (yes _ _ _ (eq-eqb _ _ (c .before .before .if4 .left)) (no _ _ _ (ne-eqb _ _ other) refl)))
@@ -61,14 +61,14 @@ check-spec = tie.close (tie.spec
     (λ c. no _ _ _ (both-not-right _ _ (lt-leb _ _ (c .if2 .taken))) refl)
     (λ c κs. search needs)
     (λ c. yes _ _ _ (limited _ (c .before .before .before .if1 .left) (c .before .before .if2 .left))
-        (no _ _ _ (sym (c .before .ranged .ensures) ∙ not-true _ (c .if3 .taken)) refl))
+    (no _ _ _ (sym (c .before .ranged .ensures) ∙ not-true _ (c .if3 .taken)) refl))
     (λ c. let r = ranged-tells _ _ _ (sym (c .before .ranged .ensures) ∙ not-false _ (c .if3 .left)) in omega arith)
     (λ c. let r = ranged-tells _ _ _ (sym (c .before .ranged .ensures) ∙ not-false _ (c .if3 .left)) in omega arith)
     (λ c. let back-3 = c .before .before .before in let back-4 = back-3 .before in
-        yes _ _ _ (limited _ (back-4 .if1 .left) (c .before .before .before .if2 .left))
-        (yes _ _ _ (sym (c .before .before .ranged .ensures) ∙ not-false _ (c .before .if3 .left)) (no _ _ _ (ne-eqb _ _ (c .if4 .taken)) refl)))
+    yes _ _ _ (limited _ (back-4 .if1 .left) (c .before .before .before .if2 .left))
+    (yes _ _ _ (sym (c .before .before .ranged .ensures) ∙ not-false _ (c .before .if3 .left)) (no _ _ _ (ne-eqb _ _ (c .if4 .taken)) refl)))
     (λ c κs. omega arith)
     (λ c. let back-3 = c .before .before .before in let back-6 = back-3 .before .before .before in let back-9 = back-6 .before .before .before in
-        let a = back-9 .args in
-        omega (arith, c .count .ensures, hashes-few 64 0 (a .count) (a .first) (a .end) (omega arith) (omega arith)))
+    let a = back-9 .args in
+    omega (arith, c .count .ensures, hashes-few 64 0 (a .count) (a .first) (a .end) (omega arith) (omega arith)))
     returns-5 (λ c κs. search needs) rebuild-requires (λ c. search needs) (λ c κs. search needs) returns-6)

@@ -18,6 +18,6 @@ zeros-root-spec = tie.close (tie.spec
     (λ c. come-leaf _ (c .before .before .pre) (omega arith) (c .leaf .ensures)) (λ c κs. search needs)
     (λ c. omega arith) (λ c. let back-3 = c .before .before .before in let back-4 = back-3 .before in omega (arith, come-some (back-4 .loop .inv)))
     (λ c. let test = c .before .before .before in
-        let loop = test .before in
-        come-node _ (loop .before .before .before .pre) (loop .loop .inv) (test .loop-test .taken) (omega arith) (c .node .ensures))
+    let loop = test .before in
+    come-node _ (loop .before .before .before .pre) (loop .loop .inv) (test .loop-test .taken) (omega arith) (c .node .ensures))
     (λ c. let back-3 = c .before .before .before in let back-4 = back-3 .before in come-all _ (back-4 .pre) (c .before .loop .inv) (c .loop-test .left)))

@@ -23,8 +23,20 @@ abbrev here : ℕ → In 2 kinds.ps
 here t = and 2 kinds.ps (is 2 kinds.ps depth t) walk.Pre
 
 abbrev calls : ℕ → lts.Claims
-calls t = (outside-reads.Asked, outside-reads.Learnt, over-reads.Asked, over-reads.Learnt, copy-between-reads.Asked, copy-between-reads.Learnt,
-    inside-reads.Asked, inside-reads.Learnt, power-reads.Asked, power-reads.Learnt, and 2 kinds.ps (falls 2 kinds.ps _<_ depth t) walk.Pre, walk.Post)
+calls t = (
+  outside-reads.Asked,
+  outside-reads.Learnt,
+  over-reads.Asked,
+  over-reads.Learnt,
+  copy-between-reads.Asked,
+  copy-between-reads.Learnt,
+  inside-reads.Asked,
+  inside-reads.Learnt,
+  power-reads.Asked,
+  power-reads.Learnt,
+  and 2 kinds.ps (falls 2 kinds.ps _<_ depth t) walk.Pre,
+  walk.Post,
+)
 
 -- past both tests
 abbrev Past : ℕ → Type 0
@@ -43,44 +55,44 @@ pub +walk-spec : {M : Type 1} → statement M
     (λ c κs. c .before .before .pre .1 .walked .top)
     -- outside
     (λ c κs. let out = c .before in let w = out .before .before .before .pre .1 in
-        record { some = w .walked .some; deep = w .walked .deep; all = w .all })
+    record { some = w .walked .some; deep = w .walked .deep; all = w .all })
     (λ c. search needs)
     (λ c κs. let test = c .before .before .before in let out = test .before in let w = out .before .before .before .pre .1 in
-        let long = root-long _ _ _ _ _ (w .walked .some) (w .all) (c .before .before .over .ensures) in
-        (omega (arith, long), room-out _ _ _ _ _ _ _ (sym (out .outside .ensures) ∙ test .if1 .taken) (w .room)))
+    let long = root-long _ _ _ _ _ (w .walked .some) (w .all) (c .before .before .over .ensures) in
+    (omega (arith, long), room-out _ _ _ _ _ _ _ (sym (out .outside .ensures) ∙ test .if1 .taken) (w .room)))
     (λ c. let laid = c .before .before .before in let test = laid .before .before .before in let out = test .before in
-        let first = out .before .before .before in
-        let room = room-out _ _ _ _ _ _ _ (sym (out .outside .ensures) ∙ test .if1 .taken) (first .pre .1 .room) in
-        omega (arith, room, first .good .1 .1 .1 .1 .1 .1 .1 .0))
+    let first = out .before .before .before in
+    let room = room-out _ _ _ _ _ _ _ (sym (out .outside .ensures) ∙ test .if1 .taken) (first .pre .1 .room) in
+    omega (arith, room, first .good .1 .1 .1 .1 .1 .1 .1 .0))
     (λ c. search needs)
     (λ c. let copied = c .before .before in let root = copied .before .before .before in let test = root .before in let out = test .before in
-        let w = out .before .before .before .pre .1 in
-        laid-out _ _ _ _ _ _ _ _ _ (w .walked .some) (w .all) (sym (out .outside .ensures) ∙ test .if1 .taken) (root .over .ensures)
-            (copied .copy-between .ensures))
+    let w = out .before .before .before .pre .1 in
+    laid-out _ _ _ _ _ _ _ _ _ (w .walked .some) (w .all) (sym (out .outside .ensures) ∙ test .if1 .taken) (root .over .ensures)
+    (copied .copy-between .ensures))
     -- wholly inside
     (λ c κs. let out = c .before in out .before .before .before .pre .1 .walked .top)
     (λ c. let out = c .before .before in
-        laid-in _ _ _ _ _ _ _ _ _ (told-in _ _ _ _ (out .before .outside .ensures) (out .if1 .left) (c .before .inside .ensures) (c .if2 .taken)))
+    laid-in _ _ _ _ _ _ _ _ _ (told-in _ _ _ _ (out .before .outside .ensures) (out .if1 .left) (c .before .inside .ensures) (c .if2 .taken)))
     (λ c. past t c .deep)
     (λ c κs. half-deep (past t c))
     -- no more leaves than the half
     (λ c. past t (c .before .before) .deep)
     (λ c κs. let half = c .before .before in let l = past t (half .before) in
-        (omega (arith, l .deep), written-less _ l (half .power .ensures) (c .before .if3 .taken) (start t (half .before) .pre .1)))
+    (omega (arith, l .deep), written-less _ l (half .power .ensures) (c .before .if3 .taken) (start t (half .before) .pre .1)))
     (λ c. search needs)
     (λ c. let call = c .before .before in let test = call .before .before in let half = test .before in
-        laid-less _ _ _ _ _ (past t (half .before)) (half .power .ensures) (test .if3 .taken) (call .walk .ensures))
+    laid-less _ _ _ _ _ (past t (half .before)) (half .power .ensures) (test .if3 .taken) (call .walk .ensures))
     -- the left half, and the right
     (λ c. omega (arith, past t (c .before .before) .walked .top))
     (λ c. omega arith)
     (λ c. past t (c .before .before) .deep)
     (λ c κs. let half = c .before .before in let l = past t (half .before) in
-        (omega (arith, l .deep), written-left _ l (half .power .ensures) (c .before .if3 .left) (start t (half .before) .pre .1)))
+    (omega (arith, l .deep), written-left _ l (half .power .ensures) (c .before .if3 .left) (start t (half .before) .pre .1)))
     (λ c. let back-3 = c .before .before .before in let back-4 = back-3 .before in let test = back-4 in past t (test .before .before) .deep)
     (λ c κs. let one = c .before .before .before in let test = one .before .before in let half = test .before in let l = past t (half .before) in
-        (omega (arith, l .deep), written-right _ l (half .power .ensures) (test .if3 .left) (start t (half .before) .pre .1) (one .walk2 .ensures)))
+    (omega (arith, l .deep), written-right _ l (half .power .ensures) (test .if3 .left) (start t (half .before) .pre .1) (one .walk2 .ensures)))
     (λ c. search needs)
     (λ c. let two = c .before .before in let one-3 = two .before .before .before in let one = one-3 .before in let test = one .before .before in
-        let half = test .before in
-        laid-more _ _ _ _ _ (past t (half .before)) (half .power .ensures) (start t (half .before) .pre .1 .all) (test .if3 .left)
-            (one .walk2 .ensures) (two .walk3 .ensures))
+    let half = test .before in
+    laid-more _ _ _ _ _ (past t (half .before)) (half .power .ensures) (start t (half .before) .pre .1 .all) (test .if3 .left)
+    (one .walk2 .ensures) (two .walk3 .ensures))

@@ -9,8 +9,8 @@ pub write-spec : {M : Type 1} → statement M
 write-spec = tie.close (tie.spec
     (λ c κs. search needs)
     (λ c κs. let back-3 = c .before .before .before in let back-4 = back-3 .before in let holds = c .before .depth .ensures in
-        let w = back-4 .pre in
-        record { walked = walked-deep (w .walked) holds; all = w .all; room = room-deep _ _ _ _ _ _ _ holds (w .room) })
+    let w = back-4 .pre in
+    record { walked = walked-deep (w .walked) holds; all = w .all; room = room-deep _ _ _ _ _ _ _ holds (w .room) })
     (λ c. search needs)
     (λ c. let back-3 = c .before .before .before in let back-4 = back-3 .before in
-        laid-deep _ _ _ _ _ _ _ _ _ (back-4 .depth .ensures) (c .before .before .walk .ensures)))
+    laid-deep _ _ _ _ _ _ _ _ _ (back-4 .depth .ensures) (c .before .before .walk .ensures)))

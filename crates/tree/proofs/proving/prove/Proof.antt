@@ -35,11 +35,11 @@ returns-3 c =
     let at-provable = else1 .before in let start = at-provable .before .before .before in
     let a = start .args in
     let t = sym (at-provable .provable .ensures)
-        ∙ not-false _ (else1 .if1 .left) in
+    ∙ not-false _ (else1 .if1 .left) in
     let p = provable-tells _ _ _ t in
     let long = proof-long (a .bytes .now) (a .first) (a .end) (omega arith) (omega arith) in
     all-laid _ _ _ t (omega (arith, long, at-count .count .ensures))
-        (omega (arith, long, at-count .count .ensures, else2 .if2 .left))
+    (omega (arith, long, at-count .count .ensures, else2 .if2 .left))
     (proof-put _ _ _ _ (at-write .write .ensures .1))
 
 pub prove-spec : {M : Type 1} → statement M

@@ -21,8 +21,16 @@ abbrev here : ℕ → In 0 kinds.ps
 here t = and 0 kinds.ps (is 0 kinds.ps depth t) hashes.Pre
 
 abbrev calls : ℕ → lts.Claims
-calls t = (outside-reads.Asked, outside-reads.Learnt, inside-reads.Asked, inside-reads.Learnt, power-reads.Asked, power-reads.Learnt,
-    and 0 kinds.ps (falls 0 kinds.ps _<_ depth t) hashes.Pre, hashes.Post)
+calls t = (
+  outside-reads.Asked,
+  outside-reads.Learnt,
+  inside-reads.Asked,
+  inside-reads.Learnt,
+  power-reads.Asked,
+  power-reads.Learnt,
+  and 0 kinds.ps (falls 0 kinds.ps _<_ depth t) hashes.Pre,
+  hashes.Post,
+)
 
 -- past both tests
 past : (t : ℕ) (c : lts.Else2 (calls t) (here t) hashes.Post)
@@ -37,14 +45,14 @@ pub +hashes-spec : {M : Type 1} → statement M
     (λ c. sym (hashes-out _ _ _ _ _ (sym (c .before .outside .ensures) ∙ c .if1 .taken)))
     (λ c κs. c .before .before .pre .1 .top)
     (λ c. let out = c .before .before in
-        sym (hashes-in _ _ _ _ _ (told-in _ _ _ _ (out .before .outside .ensures) (out .if1 .left) (c .before .inside .ensures) (c .if2 .taken))))
+    sym (hashes-in _ _ _ _ _ (told-in _ _ _ _ (out .before .outside .ensures) (out .if1 .left) (c .before .inside .ensures) (c .if2 .taken))))
     (λ c. past t c .deep)
     (λ c κs. half-deep (past t c))
     -- no more leaves than the half
     (λ c. past t (c .before .before) .deep)
     (λ c κs. let l = past t (c .before .before) in (omega (arith, l .deep), walked-less _ l (c .before .power .ensures) (c .if3 .taken)))
     (λ c. let half = c .before .before in let l = past t (half .before) in
-        omega (arith, c .hashes .ensures, hashes-less _ _ _ _ _ _ (l .deep) (half .power .ensures) (c .before .if3 .taken) (l .cut)))
+    omega (arith, c .hashes .ensures, hashes-less _ _ _ _ _ _ (l .deep) (half .power .ensures) (c .before .if3 .taken) (l .cut)))
     -- the left half, and the right
     (λ c. omega (arith, past t (c .before .before) .walked .top))
     (λ c. omega arith)
@@ -52,10 +60,10 @@ pub +hashes-spec : {M : Type 1} → statement M
     (λ c κs. let l = past t (c .before .before) in (omega (arith, l .deep), walked-left _ l (c .before .power .ensures) (c .if3 .left)))
     (λ c. past t (c .before .before .before) .deep)
     (λ c κs. let half = c .before .before in let l = past t (half .before) in
-        (omega (arith, l .deep), walked-right _ l (half .power .ensures) (c .before .if3 .left)))
+    (omega (arith, l .deep), walked-right _ l (half .power .ensures) (c .before .if3 .left)))
     (λ c. let half = c .before .before .before in let l = past t (half .before) in
-        let sum = hashes-more _ _ _ _ _ _ (l .deep) (half .power .ensures) (c .before .before .if3 .left) (l .cut) in
-        omega (arith, c .hashes3 .ensures, c .before .hashes2 .ensures, sum, few l, l .walked .top))
+    let sum = hashes-more _ _ _ _ _ _ (l .deep) (half .power .ensures) (c .before .before .if3 .left) (l .cut) in
+    omega (arith, c .hashes3 .ensures, c .before .hashes2 .ensures, sum, few l, l .walked .top))
     (λ c. let half = c .before .before .before in let l = past t (half .before) in
-        let sum = hashes-more _ _ _ _ _ _ (l .deep) (half .power .ensures) (c .before .before .if3 .left) (l .cut) in
-        omega (arith, c .hashes3 .ensures, c .before .hashes2 .ensures, sum))
+    let sum = hashes-more _ _ _ _ _ _ (l .deep) (half .power .ensures) (c .before .before .if3 .left) (l .cut) in
+    omega (arith, c .hashes3 .ensures, c .before .hashes2 .ensures, sum))

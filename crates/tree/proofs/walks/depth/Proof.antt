@@ -23,9 +23,9 @@ pub depth-spec : {M : Type 1} → statement M
 depth-spec = tie.close (tie.spec
     Inv-loop μ-loop (λ c. (omega arith, λ k h. absurd (omega arith))) (λ c κs. omega arith)
     (λ c. let loop = c .before .before .before .loop in
-        record { deep = omega arith; holds = omega (arith, c .if1 .taken, c .before .power .ensures); least = loop .inv .1 })
+    record { deep = omega arith; holds = omega (arith, c .if1 .taken, c .before .power .ensures); least = loop .inv .1 })
     (λ c. omega arith) (λ c. omega arith)
     (λ c. (omega arith, nor-here _ _ (c .before .before .before .loop .inv .1) (omega (arith, c .if1 .left, c .before .power .ensures))))
     (λ c. let loop = c .before .loop in
-        let most = pow-mono {i = 64} {j = loop .d} (omega (arith, c .loop-test .left)) in
-        record { deep = loop .inv .0; holds = omega (arith, most); least = loop .inv .1 }))
+    let most = pow-mono {i = 64} {j = loop .d} (omega (arith, c .loop-test .left)) in
+    record { deep = loop .inv .0; holds = omega (arith, most); least = loop .inv .1 }))
