@@ -15,7 +15,7 @@ use Rattle.host.specs.With.{withPlaces, withProgram, withDiskRoots, withSize, w
 use Rattle.host.specs.Places.{hasId, whose, taken}
 use Rattle.host.specs.Order.{placeInOrder, inOrder, slotInOrder, parentInOrder, termsInOrder}
 use Rattle.host.specs.Calls.{replaced}
-use Rattle.machine_rules.specs.View.{settingOf, settingBy, parent, areasRight}
+use Rattle.machine_rules.specs.View.{parent, areasRight, settingOf, volumeBy, volumeOf}
 use Rattle.machine_rules.specs.Facts.{Good, Solid}
 use Rattle.machine_rules.specs.Commit.{Closed, closed, finalSlots, copiedBack, finalPlace, commit}
 use Rattle.machine_rules.specs.Visit.{Declared}
@@ -91,10 +91,10 @@ module _ (disk : List ℕ) (h : Host) (stage : List ℕ) (sound : Declared h) (o
   abbrev staged : List ℕ
   staged = h .program .progress .staged
 
-  good : Good z (settingOf h disk) (h .program .progress)
+  good : Good (settingOf h) (h .program .progress)
   good = order-good h disk o live (sound .staged)
 
-  solid : Solid z (settingOf h disk)
+  solid : Solid (settingOf h) (volumeOf h disk)
   solid = order-solid h disk stage o areas
 
   -- what `final_slots` asks
@@ -102,7 +102,7 @@ module _ (disk : List ℕ) (h : Host) (stage : List ℕ) (sound : Declared h) (o
   few-slots = order-places h o .1
 
   in-slots : size ≤ 64 * z
-  unfolding settingBy
+  unfolding volumeBy
   in-slots = omega (arith, good .orderly .within, mul-le-mul-right z few-slots)
 
   pub few-sectors : size / z ≤ 64
@@ -113,7 +113,7 @@ module _ (disk : List ℕ) (h : Host) (stage : List ℕ) (sound : Declared h) (o
   last-size = omega (arith, in-slots, solid .lent .size .most)
 
   pub first-size : {p : Place} → p ≡ whose id (h .places) → p .size ≤ 268435456
-  unfolding settingBy
+  unfolding volumeBy
   first-size e =
       let small = whose-small z id (h .places) (order-some h o) (solid .small) in
       let whole = whole-sectors z (whose id (h .places) .size) (whose-whole z id (h .places) (solid .small)) in
@@ -121,7 +121,7 @@ module _ (disk : List ℕ) (h : Host) (stage : List ℕ) (sound : Declared h) (o
 
   -- where there is no parent, nothing is committed
   nobody : whose id (h .places) .held ≡ false → size ≡ 0
-  unfolding parentInOrder termsInOrder settingBy
+  unfolding parentInOrder termsInOrder volumeBy
   nobody e =
       let t = both-left _ _ (good .terms) in
       by (same id readOnly)
@@ -129,14 +129,14 @@ module _ (disk : List ℕ) (h : Host) (stage : List ℕ) (sound : Declared h) (o
       (λ u. never (sym t ∙ skips (same id readOnly) _ _ u ∙ e))
 
   staged-below : (j : ℕ) → eqb (getD staged j none) none ≡ false → getD staged j none < h .stage
-  unfolding slotInOrder settingBy
+  unfolding slotInOrder volumeBy
   staged-below j e =
       ltb-true _ _ (sym (skips (eqb (getD staged j none) none) true _ e)
       ∙ every-at (slotInOrder (h .stage)) staged j none (good .orderly .staged .slots) (picks (eqb none none) true _ refl))
 
   -- the final slots are slots of the disk
   pub final-below : (j : ℕ) → j < size / z → getD (finalSlots z (h .disk) (h .places) (whose id (h .places)) size) j 0 < h .disk
-  unfolding settingBy
+  unfolding volumeBy
   final-below j lt =
       by (whose id (h .places) .held)
       (λ e. let q = order-places h o in
@@ -168,13 +168,13 @@ module _ (disk : List ℕ) (h : Host) (stage : List ℕ) (sound : Declared h) (o
   -- what `copy_back` asks, of the bytes
   pub backs : {p : Place} {slots : List ℕ} → p ≡ whose id (h .places) → slots ≡ filled (finalSlots z (h .disk) (h .places) p size)
       → Back z stage staged slots (size / z) disk
-  unfolding settingBy
+  unfolding volumeBy
   backs e q = backs-at z stage disk (omega (arith, areas-stage h disk stage areas)) (omega (arith, solid .disk)) e q
 
   -- and of the roots kept beside the slots
   pub roots-back : {p : Place} {slots : List ℕ} → p ≡ whose id (h .places) → slots ≡ filled (finalSlots z (h .disk) (h .places) p size)
       → Back 32 (h .stageroots) staged slots (size / z) (h .diskroots)
-  unfolding settingBy
+  unfolding volumeBy
   roots-back e q =
       backs-at 32 (h .stageroots) (h .diskroots) (omega (arith, sound .stage, solid .lent .few)) (omega (arith, sound .disk, few-slots)) e q
 
@@ -189,7 +189,7 @@ pub commit-made : {p place : Place} {slots after roots : List ℕ} {places : Lis
     → roots ≡ copiedBack 32 (h .stageroots) (h .program .progress .staged) slots 0 (size / h .sector) (h .diskroots)
     → closed 0 (h .program .progress .tally) growth (withDiskRoots (withProgram (withPlaces h places) noProgram) roots) after
     ≡ commit disk h stage
-unfolding commit parent settingBy
+unfolding commit parent volumeBy
 commit-made {p} {place} {slots} {after} {roots} {places} {growth} disk h stage e s q r g a b =
     let id = h .program .terms .head .contract in
     let size = h .program .progress .size in

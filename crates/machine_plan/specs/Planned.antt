@@ -6,7 +6,7 @@ use Prim.Native.Nat.{ℕ}
 use lib.Dec.{eqb}
 use Rattle.lists.specs.Pick.{pick}
 use Rattle.sia.specs.Names.{opOf}
-use Rattle.machine_rules.specs.View.{Setting}
+use Rattle.machine_rules.specs.declared.Setting.{Setting}
 use Rattle.machine_rules.specs.Inputs.{inputsOf, argsOf}
 use Rattle.machine_rules.specs.Plan.{plannedArgs, planned, spots, sourceOf}
 use Rattle.machine_rules.specs.Facts.{Lent}
@@ -22,9 +22,9 @@ use Rattle.machine_rules.specs.declared.Plan.{Plan}
 use Rattle.machine_plan.specs.declared.Task.{Task}
 
 -- what a plan asks: the numbers of a host in order, and what its look-up asks
-pub record Plans (z : ℕ) (s : Setting) (p : Progress) (diskroots stageroots : List ℕ) : Type 0 where
-  pub lent : Lent z s
-  pub sources : Sources z diskroots stageroots (s .places) (s .terms .head .contract) p
+pub record Plans (s : Setting) (p : Progress) (diskroots stageroots : List ℕ) : Type 0 where
+  pub lent : Lent s
+  pub sources : Sources (s .sector) diskroots stageroots (s .places) (s .terms .head .contract) p
 
 -- a plan and what goes with it: of what is read, the sectors
 pub record Said : Type 0 where
@@ -46,11 +46,11 @@ unfoldable pub says : Plan → Op → Args → ℕ → List Spot → Said
 says w op a from l = pick (eqb (w .number) 0) (record { plan = w; op = op; args = a; from = from; sectors = l }) (failed op w)
 
 -- 24 to 42, of arguments that are told
-unfoldable pub argued : ℕ → Setting → (Spot → List ℕ) → Progress → Bool → Op → Args → ℕ → Said
-argued z s f p asked op a from = says (plannedArgs z s f p asked op a) op a from (spots (sourceOf z s f p op (a .key)))
+unfoldable pub argued : Setting → (Spot → List ℕ) → Progress → Bool → Op → Args → ℕ → Said
+argued s f p asked op a from = says (plannedArgs s f p asked op a) op a from (spots (sourceOf s f p op (a .key)))
 
-unfoldable pub planOf : ℕ → Setting → (Spot → List ℕ) → Progress → Instruction → List ℕ → Said
-planOf z s f p i area =
+unfoldable pub planOf : Setting → (Spot → List ℕ) → Progress → Instruction → List ℕ → Said
+planOf s f p i area =
     let op = opOf (i .name) in
     let a = argsOf op (inputsOf i area) in
-    says (planned z s f p i (inputsOf i area)) op a (fromOf op i) (spots (sourceOf z s f p op (a .key)))
+    says (planned s f p i (inputsOf i area)) op a (fromOf op i) (spots (sourceOf s f p op (a .key)))

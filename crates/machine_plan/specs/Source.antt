@@ -4,7 +4,7 @@ use mathlib.Core.List.{List, []}
 use Prim.Native.Nat.{ℕ, _*_, _≤_}
 use lib.ListN.{length}
 use Rattle.host.specs.Empty.{noPrices}
-use Rattle.machine_rules.specs.View.{Setting, setting}
+use Rattle.machine_rules.specs.declared.Setting.{Setting}
 use Rattle.machine_rules.specs.Plan.{isThere, spots}
 use Rattle.machine_rules.specs.Plan as Says
 use Rattle.machine_sight.specs.Seen.{spotsOf}

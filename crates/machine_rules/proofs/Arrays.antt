@@ -12,7 +12,8 @@ use Rattle.host.specs.Empty.{noPlace, noProgram, noProgress, newPlace, bare, st
 use Rattle.host.specs.With.{withPlaces, withProgram, withCame, withProgress, withSize, withSlots, withStageRoots, withDiskRoots}
 use Rattle.host.specs.Places.{hasId, whose}
 use Rattle.host.specs.Calls.{freshed, formedAt, formed, replaced, dropped}
-use Rattle.machine_rules.specs.View.{Setting, Turn, settingOf, turnOf, withRun, parent, settingBy}
+use Rattle.machine_rules.specs.View.{Turn, turnOf, withRun, parent, Volume, settingOf, volumeBy, volumeOf}
+use Rattle.machine_rules.specs.declared.Setting.{Setting}
 use Rattle.machine_rules.specs.Inputs.{dataIn, inputsOf, argsOf}
 use Rattle.machine_rules.specs.Plan.{judged}
 use Rattle.machine_rules.specs.Effect.{groundOf}
@@ -42,24 +43,24 @@ use Rattle.machine_rules.specs.declared.Answer.{Answer}
 
 -- ---- arrays keep their lengths
 
-stepped-entries : (z : ℕ) (s : Setting) (i : Instruction) (l : List (List ℕ)) (t : Turn)
-    → length (stepped z s i l t .progress .staged) ≡ length (t .progress .staged)
+stepped-entries : (s : Setting) (vol : Volume) (i : Instruction) (l : List (List ℕ)) (t : Turn)
+    → length (stepped s vol i l t .progress .staged) ≡ length (t .progress .staged)
 unfolding stepped succeeding failing ranProgress failedProgress
-stepped-entries z s i l t =
-    by (eqb (judged z s (rootAt z s t) (t .progress) i l) 0)
-    (λ e. ap (λ (x : Turn). length (x .progress .staged)) (picks (eqb (judged z s (rootAt z s t) (t .progress) i l) 0) _ _ e)
-    ∙ effect-length z (groundOf s) (t .progress .size) (opOf (i .name)) (argsOf (opOf (i .name)) l) (dataIn l) _)
-    (λ e. ap (λ (x : Turn). length (x .progress .staged)) (skips (eqb (judged z s (rootAt z s t) (t .progress) i l) 0) _ _ e))
+stepped-entries s vol i l t =
+    by (eqb (judged s (rootAt s vol t) (t .progress) i l) 0)
+    (λ e. ap (λ (x : Turn). length (x .progress .staged)) (picks (eqb (judged s (rootAt s vol t) (t .progress) i l) 0) _ _ e)
+    ∙ effect-length (s .sector) (groundOf s vol) (t .progress .size) (opOf (i .name)) (argsOf (opOf (i .name)) l) (dataIn l) _)
+    (λ e. ap (λ (x : Turn). length (x .progress .staged)) (skips (eqb (judged s (rootAt s vol t) (t .progress) i l) 0) _ _ e))
 
-runs-entries : (z : ℕ) (s : Setting) (a : List ℕ) (k n : ℕ) (t : Turn)
-    → length (runs z s a k n t .progress .staged) ≡ length (t .progress .staged)
+runs-entries : (s : Setting) (vol : Volume) (a : List ℕ) (k n : ℕ) (t : Turn)
+    → length (runs s vol a k n t .progress .staged) ≡ length (t .progress .staged)
 unfolding runs step
-runs-entries z s a k zero t = refl
-runs-entries z s a k (suc n) t =
+runs-entries s vol a k zero t = refl
+runs-entries s vol a k (suc n) t =
     by (ready s k t)
-    (λ r. ap (λ (x : Turn). length (x .progress .staged)) (runs-go z s a k n t r) ∙ runs-entries z s a k n (step z s a t)
-    ∙ stepped-entries z s (current s t) (inputsOf (current s t) a) t)
-    (λ r. ap (λ (x : Turn). length (x .progress .staged)) (runs-stop z s a k (suc n) t r))
+    (λ r. ap (λ (x : Turn). length (x .progress .staged)) (runs-go s vol a k n t r) ∙ runs-entries s vol a k n (step s vol a t)
+    ∙ stepped-entries s vol (current s t) (inputsOf (current s t) a) t)
+    (λ r. ap (λ (x : Turn). length (x .progress .staged)) (runs-stop s vol a k (suc n) t r))
 
 -- what opening and pieces keep: arrays as declared, and the contracts, the roots kept beside the disk's slots and the sector size of h
 pub record Same (h x : Host) : Type 0 where
@@ -96,13 +97,14 @@ accepted-same : (disk : List ℕ) (w : Pieced) (b : List ℕ) → Declared (w .h
     → Takes (w .host) (accepted disk (w .host) (w .stage) (w .input) (w .output) b)
 unfolding acceptedBy withRun withStageRoots withProgram withProgress withCame run turnOf
 accepted-same disk w b d =
-    let s = settingOf (w .host) disk in
+    let s = settingOf (w .host) in
+    let vol = volumeOf (w .host) disk in
     record {
       declared = record {
         places = d .places;
-        staged = runs-entries (w .host .sector) s _ _ (s .terms .head .count) (turnOf (w .host) (w .stage) (w .output)) ∙ d .staged;
+        staged = runs-entries s vol _ _ (s .terms .head .count) (turnOf (w .host) (w .stage) (w .output)) ∙ d .staged;
         disk = d .disk;
-        stage = runs-alike (w .host .sector) s _ _ (s .terms .head .count) (turnOf (w .host) (w .stage) (w .output)) .roots ∙ d .stage;
+        stage = runs-alike s vol _ _ (s .terms .head .count) (turnOf (w .host) (w .stage) (w .output)) .roots ∙ d .stage;
       };
       places = refl;
       roots = refl;
@@ -205,7 +207,7 @@ module _ (disk : List ℕ) (h : Host) (stage : List ℕ) (r : Ready h) (live : h
 
   shaped-commit : let old = whose id (h .places) in
       Shaped (replaced id (finalPlace old size (finalSlots (h .sector) (h .disk) (h .places) old size)) (h .places))
-  unfolding settingBy
+  unfolding volumeBy
   shaped-commit =
       let d = r .declared in
       by (whose (h .program .terms .head .contract) (h .places) .held)
@@ -222,7 +224,7 @@ module _ (disk : List ℕ) (h : Host) (stage : List ℕ) (r : Ready h) (live : h
       (λ e. subst Shaped (sym (replaced-none id _ (h .places) (none-of id (h .places) e))) (d .places))
 
   commit-declared : Declared (commit disk h stage .host)
-  unfolding commit parent settingBy withProgram withPlaces noProgram noProgress withDiskRoots
+  unfolding commit parent volumeBy withProgram withPlaces noProgram noProgress withDiskRoots
   commit-declared = record {
     places = shaped-commit;
     staged = refl;

@@ -70,7 +70,7 @@ open-host = 0
 
 -- opens the definitions of rules
 unfoldable open-rules : ℕ
-unfolding RulesView.settingBy RulesView.turnOf RulesView.withRun RulesView.diskRight RulesView.areasRight RulesView.readOnlyMode
+unfolding RulesView.volumeBy RulesView.turnOf RulesView.withRun RulesView.diskRight RulesView.areasRight RulesView.readOnlyMode
     RulesView.parent RulesView.freeCopies RulesView.sector RulesView.spotOf RulesView.parentSpots RulesView.committedSpots
     RulesView.whole RulesRoots.contractRoot RulesRoots.rangeCount RulesSeats.seated RulesSeats.committedSeats RulesSeats.seats
     RulesSeats.nobody RulesSeats.seatsOf RulesSeats.firstSeat RulesKinds.kind

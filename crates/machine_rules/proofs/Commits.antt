@@ -22,7 +22,7 @@ use Rattle.host.specs.With.{withPlaces, withProgram, withDiskRoots, withSize, w
 use Rattle.host.specs.Places.{hasId, whose, committed, taken}
 use Rattle.host.specs.Order.{inOrder, slotInOrder, termsInOrder}
 use Rattle.host.specs.Calls.{replaced}
-use Rattle.machine_rules.specs.View.{settingBy, settingOf, parent, areasRight, sector, spotOf, parentSpots, committedSpots, whole}
+use Rattle.machine_rules.specs.View.{parent, areasRight, sector, spotOf, parentSpots, committedSpots, whole, settingOf, volumeBy, volumeOf}
 use Rattle.machine_rules.specs.Roots.{keptRoot, rootBy, rootOf, contractRoot}
 use Rattle.machine_rules.specs.Record.{pairing, samePair, pairOf, startingPair, runningPair}
 use Rattle.machine_rules.specs.Facts.{Good, Solid}
@@ -77,17 +77,17 @@ module _ (disk : List ℕ) (h : Host) (stage : List ℕ) (sound : Declared h) (o
       (copiedBack z stage staged l 0 (size / z) disk)
 
   commit-left : commit disk h stage ≡ left (whose id (h .places)) (finalSlots z (h .disk) (h .places) (whose id (h .places)) size)
-  unfolding left commit parent settingBy id size staged
+  unfolding left commit parent volumeBy id size staged
   commit-left = refl
 
-  good : Good z (settingOf h disk) (h .program .progress)
+  good : Good (settingOf h) (h .program .progress)
   good = order-good h disk o live (sound .staged)
 
-  solid : Solid z (settingOf h disk)
+  solid : Solid (settingOf h) (volumeOf h disk)
   solid = order-solid h disk stage o areas
 
   few : h .program .progress .size / z ≤ length (h .program .progress .staged)
-  unfolding settingBy
+  unfolding volumeBy
   few =
       let q : h .program .progress .size / z ≤ h .disk =
       le-of-mul-le-mul-right {m = h .program .progress .size / z} {n = h .disk} {k = z}
@@ -123,19 +123,19 @@ module _ (disk : List ℕ) (h : Host) (stage : List ℕ) (sound : Declared h) (o
         (every-fore _ (f .slots) _ (every-aft _ (taken z (s .before)) _ (f .below))))
 
     staged-below : (j : ℕ) → eqb (getD staged j none) none ≡ false → getD staged j none < h .stage
-    unfolding staged slotInOrder settingBy
+    unfolding staged slotInOrder volumeBy
     staged-below j e =
         ltb-true _ _ (sym (skips (eqb (getD (h .program .progress .staged) j none) none) true _ e)
         ∙ every-at (slotInOrder (h .stage)) (h .program .progress .staged) j none (good .orderly .staged .slots) (picks (eqb none none) true _ refl))
 
     disk-long : length disk ≡ h .disk * z
-    unfolding settingBy
+    unfolding volumeBy
     disk-long = solid .disk
 
     kept-below : (j : ℕ) → j < size / z → eqb (getD staged j none) none ≡ true → j < s .it .size / z
-    unfolding staged size id settingBy
+    unfolding staged size id volumeBy
     kept-below j lt e =
-        let q = unstaged z (settingOf h disk) (h .program .progress) solid (good .orderly .staged) few j lt e in
+        let q = unstaged (settingOf h) (volumeOf h disk) (h .program .progress) solid (good .orderly .staged) few j lt e in
         subst (λ (p : Place). j < p .size / z) (s .whose-is) q
 
     -- the sector of position j, as it is read before and after
@@ -161,12 +161,12 @@ module _ (disk : List ℕ) (h : Host) (stage : List ℕ) (sound : Declared h) (o
 
     roots-back : (j : ℕ) → j < size / z → part afterRoots (getD (f .slots) j 0 * 32) 32
         ≡ sector 32 (h .diskroots) (h .stageroots) (spotOf (s .it .slots) staged j)
-    unfolding afterRoots settingBy
+    unfolding afterRoots volumeBy
     roots-back j lt = position 32 (h .diskroots) (h .stageroots) (λ n lt. omega (arith, sound .disk, order-places h o .1))
         (λ n lt. omega (arith, sound .stage, solid .lent .few)) j lt
 
-    spots-are : parentSpots z (settingOf h disk) (h .program .progress) ≡ tab 0 (size / z) (spotOf (s .it .slots) staged)
-    unfolding parentSpots parent settingBy id size staged
+    spots-are : parentSpots (settingOf h) (h .program .progress) ≡ tab 0 (size / z) (spotOf (s .it .slots) staged)
+    unfolding parentSpots parent volumeBy id size staged
     spots-are = ap (λ (p : Place). tab 0 (h .program .progress .size / z) (spotOf (p .slots) (h .program .progress .staged))) (s .whose-is)
 
     alike-are : (y : ℕ) (new area copies : List ℕ) → ((j : ℕ) → j < size / z → part new (getD (f .slots) j 0 * y) y
@@ -186,12 +186,12 @@ module _ (disk : List ℕ) (h : Host) (stage : List ℕ) (sound : Declared h) (o
     unfolding committedSpots x
     own-spots = ap (each OnDisk) (f .place)
 
-    own-sectors : sectorsOf z after x ≡ whole z disk stage (parentSpots z (settingOf h disk) (h .program .progress))
+    own-sectors : sectorsOf z after x ≡ whole z disk stage (parentSpots (settingOf h) (h .program .progress))
     unfolding sectorsOf
     own-sectors = ap (whole z after []) own-spots ∙ bytes-are ∙ ap (whole z disk stage) (sym spots-are)
 
     own-root : contractRoot (sector 32 afterRoots []) (committedSpots z x) ≡ contractRoot (sector 32 (h .diskroots) (h .stageroots))
-        (parentSpots z (settingOf h disk) (h .program .progress))
+        (parentSpots (settingOf h) (h .program .progress))
     own-root =
         ap (contractRoot (sector 32 afterRoots [])) own-spots
         ∙ roots-alike (sector 32 afterRoots []) (sector 32 (h .diskroots) (h .stageroots)) (each OnDisk (f .slots))
@@ -201,7 +201,7 @@ module _ (disk : List ℕ) (h : Host) (stage : List ℕ) (sound : Declared h) (o
         ∙ ap (contractRoot (sector 32 (h .diskroots) (h .stageroots))) (sym spots-are)
 
     own-pair : pairOf z (sector 32 afterRoots []) x ≡ running h (lends disk stage)
-    unfolding pairOf runningPair x finalPlace withSlots withSize size settingBy rootOf rootBy keptRoot
+    unfolding pairOf runningPair x finalPlace withSlots withSize size volumeBy rootOf rootBy keptRoot
     own-pair = ap (λ (r : List ℕ). pairing (h .program .progress .size) r) own-root
 
     -- ---- the others
@@ -290,7 +290,7 @@ module _ (disk : List ℕ) (h : Host) (stage : List ℕ) (sound : Declared h) (o
     slot-is j lt = ap (λ (p : Place). getD (p .slots) j 0) parent-is ∙ List·getD-append (f .slots) _ 0 j (omega (arith, f .long))
 
     held-commits : Committed h (lends disk stage) (left (s .it) (f .slots))
-    unfolding left withProgram withPlaces withDiskRoots id x size staged after afterRoots settingBy rootOf rootBy keptRoot
+    unfolding left withProgram withPlaces withDiskRoots id x size staged after afterRoots volumeBy rootOf rootBy keptRoot
     held-commits = record {
       parent = ap (pairOf z (sector 32 afterRoots [])) parent-is ∙ own-pair;
       sectors = ap (sectorsOf z after) parent-is ∙ own-sectors;
@@ -308,16 +308,16 @@ module _ (disk : List ℕ) (h : Host) (stage : List ℕ) (sound : Declared h) (o
   -- ---- no parent: read-only mode
 
   nobody : whose id (h .places) .held ≡ false → h .program .progress .size ≡ 0
-  unfolding id termsInOrder settingBy
+  unfolding id termsInOrder volumeBy
   nobody e = nothing-reached (h .places) (h .program .terms .head .contract) _ (both-left _ _ (good .terms)) e
 
   none-committed : whose id (h .places) .held ≡ false → committedSpots z (whose id (h .places)) ≡ []
   unfolding committedSpots committed each
   none-committed e = ap (each OnDisk) (skips (whose id (h .places) .held) _ [] e)
 
-  none-read : whose id (h .places) .held ≡ false → parentSpots z (settingOf h disk) (h .program .progress) ≡ []
-  unfolding parentSpots tab settingBy
-  none-read e = ap (λ (n : ℕ). tab 0 n (spotOf (parent (settingOf h disk) .slots) (h .program .progress .staged)))
+  none-read : whose id (h .places) .held ≡ false → parentSpots (settingOf h) (h .program .progress) ≡ []
+  unfolding parentSpots tab volumeBy
+  none-read e = ap (λ (n : ℕ). tab 0 n (spotOf (parent (settingOf h) .slots) (h .program .progress .staged)))
       (ap (λ (n : ℕ). n / z) (nobody e) ∙ zero-div z)
 
   nothing-back : (l : List ℕ) → whose id (h .places) .held ≡ false → copiedBack z stage (h .program .progress .staged) l 0
@@ -326,7 +326,7 @@ module _ (disk : List ℕ) (h : Host) (stage : List ℕ) (sound : Declared h) (o
   nothing-back l e = ap (λ (n : ℕ). copiedBack z stage (h .program .progress .staged) l 0 n disk) (ap (λ (n : ℕ). n / z) (nobody e) ∙ zero-div z)
 
   nobody-sectors : whose id (h .places) .held ≡ false → sectorsOf z disk (whose id (h .places))
-      ≡ whole z disk stage (parentSpots z (settingOf h disk) (h .program .progress))
+      ≡ whole z disk stage (parentSpots (settingOf h) (h .program .progress))
   unfolding sectorsOf whole joined
   nobody-sectors e = ap (whole z disk []) (none-committed e) ∙ sym (ap (whole z disk stage) (none-read e))
 
@@ -337,11 +337,11 @@ module _ (disk : List ℕ) (h : Host) (stage : List ℕ) (sound : Declared h) (o
       ap (λ (n : ℕ). copiedBack 32 (h .stageroots) (h .program .progress .staged) l 0 n (h .diskroots)) (ap (λ (n : ℕ). n / z) (nobody e) ∙ zero-div z)
 
   nobody-pair : whose id (h .places) .held ≡ false → pairIn z h disk (whose id (h .places)) ≡ running h (lends disk stage)
-  unfolding startingPair parent settingBy id
-  nobody-pair e = none-starts z (settingOf h disk) e ∙ sym (none-runs z (settingOf h disk) _ (h .program .progress) (nobody e))
+  unfolding startingPair parent volumeBy id
+  nobody-pair e = none-starts (settingOf h) (volumeOf h disk) e ∙ sym (none-runs (settingOf h) _ (h .program .progress) (nobody e))
 
   nobody-commits : whose id (h .places) .held ≡ false → (l : List ℕ) → Committed h (lends disk stage) (left (whose id (h .places)) l)
-  unfolding left withProgram withPlaces withDiskRoots id size staged settingBy rootOf rootBy keptRoot
+  unfolding left withProgram withPlaces withDiskRoots id size staged volumeBy rootOf rootBy keptRoot
   nobody-commits e l =
       let x = whose (h .program .terms .head .contract) (h .places) in
       let same-places = replaced-none (h .program .terms .head .contract) (finalPlace x (h .program .progress .size) l) (h .places)
@@ -387,7 +387,7 @@ module _ (disk : List ℕ) (h : Host) (stage : List ℕ) (sound : Declared h) (o
   agrees y = same (sector 32 (h .diskroots) (h .stageroots) y) (root (sector z disk stage y))
 
   held-left : (s : Split id (h .places)) (f : Final z (h .disk) size id (h .places) s)
-      → every agrees (parentSpots z (settingOf h disk) (h .program .progress)) ≡ true
+      → every agrees (parentSpots (settingOf h) (h .program .progress)) ≡ true
       → every (right z disk (h .diskroots)) (taken z (h .places)) ≡ true → Right (left (s .it) (f .slots))
   unfolding left withProgram withPlaces withDiskRoots after afterRoots x
   held-left s f now before =
@@ -400,10 +400,10 @@ module _ (disk : List ℕ) (h : Host) (stage : List ℕ) (sound : Declared h) (o
       before
 
   -- a commit leaves roots that are right, where they were right of all that is committed and of the parent as it is read
-  pub commit-right : every agrees (parentSpots z (settingOf h disk) (h .program .progress)) ≡ true
+  pub commit-right : every agrees (parentSpots (settingOf h) (h .program .progress)) ≡ true
       → every (right z disk (h .diskroots)) (taken z (h .places)) ≡ true
       → Right (commit disk h stage)
-  unfolding id size settingBy
+  unfolding id size volumeBy
   commit-right now before =
       by (whose id (h .places) .held)
       (λ e. let q = order-places h o in
@@ -414,7 +414,7 @@ module _ (disk : List ℕ) (h : Host) (stage : List ℕ) (sound : Declared h) (o
       (λ e. subst Right (sym commit-left) (nobody-right e _ _ before))
 
   commits : Committed h (lends disk stage) (commit disk h stage)
-  unfolding id size settingBy
+  unfolding id size volumeBy
   commits =
       by (whose id (h .places) .held)
       (λ e. let q = order-places h o in
@@ -465,7 +465,7 @@ module _ (h : Host) (a : Areas) (g : Agreement) (agrees : g .agree ≡ true) whe
   standing r = pairIn (h .sector) (r .host) (r .disk) (parentIn h (r .host .places))
 
   stands : Declared h → closes h a g .number ≡ 0 → standing (closes h a g) ≡ running h a
-  unfolding startingPair parent settingBy rootOf rootBy keptRoot
+  unfolding startingPair parent volumeBy rootOf rootBy keptRoot
   stands declared e =
       by (samePair (running h a) (starting h a))
       (λ t. let u = same-pairs _ _ t in

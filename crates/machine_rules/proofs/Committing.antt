@@ -16,7 +16,7 @@ use Rattle.host.specs.Places.{whose, others, committed, taken}
 use Rattle.host.specs.Order.{placeInOrder, twins, placesInOrder, inOrder}
 use Rattle.host.specs.Calls.{replaced}
 use Rattle.host.proofs.Laws.Order.{facts-contracts, order-facts}
-use Rattle.machine_rules.specs.View.{settingBy, parent}
+use Rattle.machine_rules.specs.View.{parent, volumeBy}
 use Rattle.machine_rules.specs.Commit.{cut, newSlots, finalSlots, finalPlace, copiedBack, commit}
 use Rattle.machine_rules.specs.Visit.{Shaped, Declared}
 use Rattle.machine_rules.proofs.Laws.Effects.{whole-sectors}
@@ -227,7 +227,7 @@ commit-places : (disk : List ℕ) (h : Host) (stage : List ℕ) → let old = wh
     (finalSlots (h .sector) (h .disk) (h .places) old (h .program .progress .size))) (h .places))) noProgram)
     (copiedBack 32 (h .stageroots) (h .program .progress .staged) (finalSlots (h .sector) (h .disk) (h .places) old (h .program .progress .size)) 0
     (h .program .progress .size / h .sector) (h .diskroots))
-unfolding commit parent settingBy
+unfolding commit parent volumeBy
 commit-places disk h stage = refl
 
 idle-order : (h : Host) (ps : List Place) (roots : List ℕ) → inOrder h ≡ true → placesInOrder (h .sector) (h .disk) ps ≡ true
@@ -256,7 +256,7 @@ final-place z disk size id ps it l e f =
 
 pub commit-order : (disk : List ℕ) (h : Host) (stage : List ℕ) → Declared h → inOrder h ≡ true → h .program .active ≡ true
     → inOrder (commit disk h stage .host) ≡ true
-unfolding settingBy place old
+unfolding volumeBy place old
 commit-order disk h stage sound o live =
     let id = h .program .terms .head .contract in
     let size = h .program .progress .size in

@@ -5,7 +5,8 @@ use Rattle.lists.specs.Pick.{pick}
 use Rattle.area.specs.Area.{put}
 use Rattle.area.proofs.Laws.Puts.{put-append, take-put}
 use Rattle.host.specs.With.{withProgram, withCame, withProgress, withStageRoots}
-use Rattle.machine_rules.specs.View.{Setting, Turn, settingOf, turnOf, withRun, settingBy}
+use Rattle.machine_rules.specs.View.{Turn, turnOf, withRun, settingOf, volumeBy, volumeOf, Volume}
+use Rattle.machine_rules.specs.declared.Setting.{Setting}
 use Rattle.machine_rules.specs.Run.{run}
 use Rattle.machine_rules.specs.Calls.{Pieced, pieced, accepted, piece, acceptedBy, pieceBy}
 use Rattle.machine_rules.specs.Visit.{Areas}
@@ -38,17 +39,17 @@ same-made : (h : Host) (k m : ℕ) (t u : Turn) (a b : List ℕ) → k ≡ m →
 same-made h k m t u a b p q r = rw (p, q, r)
 
 accepted-made : (disk : List ℕ) (h : Host) (stage input output b : List ℕ) (c : ℕ) → h .program .came ≡ c
-    → accepted disk h stage input output b ≡ made h (c + length b) (run (h .sector) (settingOf h disk) (put input c b) (c + length b)
+    → accepted disk h stage input output b ≡ made h (c + length b) (run (settingOf h) (volumeOf h disk) (put input c b) (c + length b)
     (turnOf h stage output)) (put input c b)
 unfolding acceptedBy made
 accepted-made disk h stage input output b c e =
-    ap (λ (n : ℕ). made h (n + length b) (run (h .sector) (settingOf h disk) (put input n b) (n + length b) (turnOf h stage output)) (put input n b)) e
+    ap (λ (n : ℕ). made h (n + length b) (run (settingOf h) (volumeOf h disk) (put input n b) (n + length b) (turnOf h stage output)) (put input n b)) e
 
 -- a piece after others looks at the host only by what stays and by what they left
 accepted-again : (disk : List ℕ) (h : Host) (k : ℕ) (t : Turn) (area b : List ℕ)
     → accepted disk (withRun h k (t .progress) (t .roots)) (t .stage) area (t .output) b
-    ≡ made h (k + length b) (run (h .sector) (settingOf h disk) (put area k b) (k + length b) t) (put area k b)
-unfolding acceptedBy made withRun withStageRoots withProgram withProgress withCame settingBy turnOf
+    ≡ made h (k + length b) (run (settingOf h) (volumeOf h disk) (put area k b) (k + length b) t) (put area k b)
+unfolding acceptedBy made withRun withStageRoots withProgram withProgress withCame volumeBy turnOf
 accepted-again disk h k t area b = refl
 
 module _ (h : Host) (a : Areas) (all : List ℕ) (roomy : length all ≤ length (a .input)) where
@@ -60,10 +61,10 @@ module _ (h : Host) (a : Areas) (all : List ℕ) (roomy : length all ≤ length 
       let k : 0 + length b ≡ length b = omega arith in
       let u : take (length b) (put (a .input) 0 b) ≡ take (length b) all = take-put (a .input) 0 b (length b) (omega arith)
       (omega (arith, length-append b rest, ap length e)) ∙ sym g in
-      let r : run (h .sector) (settingOf h (a .disk)) (put (a .input) 0 b) (0 + length b) (turnOf h (a .stage) (a .output))
-      ≡ run (h .sector) (settingOf h (a .disk)) all (length b) (turnOf h (a .stage) (a .output)) =
-      ap (λ (n : ℕ). run (h .sector) (settingOf h (a .disk)) (put (a .input) 0 b) n (turnOf h (a .stage) (a .output))) k
-      ∙ run-below (h .sector) (settingOf h (a .disk)) (put (a .input) 0 b) all (length b) (turnOf h (a .stage) (a .output)) u in
+      let r : run (settingOf h) (volumeOf h (a .disk)) (put (a .input) 0 b) (0 + length b) (turnOf h (a .stage) (a .output))
+      ≡ run (settingOf h) (volumeOf h (a .disk)) all (length b) (turnOf h (a .stage) (a .output)) =
+      ap (λ (n : ℕ). run (settingOf h) (volumeOf h (a .disk)) (put (a .input) 0 b) n (turnOf h (a .stage) (a .output))) k
+      ∙ run-below (settingOf h) (volumeOf h (a .disk)) (put (a .input) 0 b) all (length b) (turnOf h (a .stage) (a .output)) u in
       accepted-made (a .disk) h (a .stage) (a .input) (a .output) b 0 c ∙ same-made h (0 + length b) (length b) _ _ _ _ k r area
 
   next : (x b rest : List ℕ) → x ++ (b ++ rest) ≡ all
@@ -71,7 +72,8 @@ module _ (h : Host) (a : Areas) (all : List ℕ) (roomy : length all ≤ length 
       accepted (a .disk) (w .host) (w .stage) (w .input) (w .output) b ≡ after h a all (length (x ++ b))
   unfolding after made
   next x b rest e =
-      let s : Setting = settingOf h (a .disk) in
+      let s : Setting = settingOf h in
+      let vol : Volume = volumeOf h (a .disk) in
       let t : Turn = turnOf h (a .stage) (a .output) in
       let m : length (x ++ b) ≡ length x + length b = length-append x b in
       let gx : take (length x) all ≡ x = ap (λ (y : List ℕ). take (length x) y) (sym e) ∙ take-append-seam x (b ++ rest) in
@@ -83,13 +85,13 @@ module _ (h : Host) (a : Areas) (all : List ℕ) (roomy : length all ≤ length 
       let u : take (length (x ++ b)) (put (a .input) 0 (x ++ b)) ≡ take (length (x ++ b)) all =
       take-put (a .input) 0 (x ++ b) (length (x ++ b)) (omega arith)
       (omega (arith, length-append (x ++ b) rest, ap length (append-assoc x b rest ∙ e))) ∙ sym gb in
-      let r : run (h .sector) s (put (put (a .input) 0 (take (length x) all)) (length x) b) (length x + length b) (run (h .sector) s all (length x) t)
-      ≡ run (h .sector) s all (length (x ++ b)) t =
-      ap (λ (y : List ℕ). run (h .sector) s y (length x + length b) (run (h .sector) s all (length x) t)) area
-      ∙ ap (λ (n : ℕ). run (h .sector) s (put (a .input) 0 (x ++ b)) n (run (h .sector) s all (length x) t)) (sym m)
-      ∙ run-below (h .sector) s (put (a .input) 0 (x ++ b)) all (length (x ++ b)) (run (h .sector) s all (length x) t) u
-      ∙ run-on (h .sector) s all (length x) (length (x ++ b)) t (omega arith) in
-      accepted-again (a .disk) h (length x) (run (h .sector) s all (length x) t) (put (a .input) 0 (take (length x) all)) b
+      let r : run s vol (put (put (a .input) 0 (take (length x) all)) (length x) b) (length x + length b) (run s vol all (length x) t)
+      ≡ run s vol all (length (x ++ b)) t =
+      ap (λ (y : List ℕ). run s vol y (length x + length b) (run s vol all (length x) t)) area
+      ∙ ap (λ (n : ℕ). run s vol (put (a .input) 0 (x ++ b)) n (run s vol all (length x) t)) (sym m)
+      ∙ run-below s vol (put (a .input) 0 (x ++ b)) all (length (x ++ b)) (run s vol all (length x) t) u
+      ∙ run-on s vol all (length x) (length (x ++ b)) t (omega arith) in
+      accepted-again (a .disk) h (length x) (run s vol all (length x) t) (put (a .input) 0 (take (length x) all)) b
       ∙ same-made h _ _ _ _ _ _ (sym m) r (area ∙ ap (λ (y : List ℕ). put (a .input) 0 y) (sym gb))
 
   -- after pieces that were accepted, x before them

@@ -21,7 +21,7 @@ use Rattle.host.specs.Order.{slotInOrder, clash, parentInOrder, termsInOrder, p
 use Rattle.host.specs.Facts.{Staged}
 use Rattle.host.specs.Calls.{formed, dropped}
 use Rattle.host.proofs.Laws.Order.{order-facts, facts-staged, came-within}
-use Rattle.machine_rules.specs.View.{settingBy, settingOf, turnOf}
+use Rattle.machine_rules.specs.View.{turnOf, settingOf, volumeBy, volumeOf}
 use Rattle.machine_rules.specs.Run.{failing, going, run}
 use Rattle.machine_rules.specs.Calls.{roomRight, begun, openedHead, opened, Pieced, accepted, piece, Interrupted, stopped, interrupt}
 use Rattle.machine_rules.specs.Calls.{reached, acceptedBy, pieceBy, interruptBy, stoppedBy, reachedBy}
@@ -118,8 +118,8 @@ pub accepted-order : (disk : List ℕ) (h : Host) (stage input output bytes : Li
 unfolding acceptedBy run turnOf
 accepted-order disk h stage input output bytes sound o live fit =
     good-order h disk (h .program .came + length bytes) _ _ o fit
-    (runs-good (h .sector) (settingOf h disk) (put input (h .program .came) bytes) (h .program .came + length bytes)
-    (settingOf h disk .terms .head .count) (turnOf h stage output)
+    (runs-good (settingOf h) (volumeOf h disk) (put input (h .program .came) bytes) (h .program .came + length bytes)
+    (h .program .terms .head .count) (turnOf h stage output)
     (order-lent h disk o) (order-good h disk o live (sound .staged)))
 
 pieces : (disk : List ℕ) (h : Host) (stage input output bytes : List ℕ) → Declared h → inOrder h ≡ true
@@ -134,10 +134,10 @@ pieces disk h stage input output bytes sound o =
 
 pub stopped-order : (disk : List ℕ) (h : Host) (output : List ℕ) → Declared h → inOrder h ≡ true → h .program .active ≡ true
     → going (h .program .terms) (h .program .progress) ≡ true → inOrder (stopped disk h output .host) ≡ true
-unfolding stoppedBy failing turnOf settingBy
+unfolding stoppedBy failing turnOf volumeBy
 stopped-order disk h output sound o live g =
     good-order h disk (h .program .came) _ _ o (came-within h o live)
-    (failed-good (h .sector) (settingOf h disk) (h .program .progress) (not-failed (settingOf h disk) (turnOf h [] output) g)
+    (failed-good (settingOf h) (h .program .progress) (not-failed (settingOf h) (turnOf h [] output) g)
     (order-good h disk o live (sound .staged)))
 
 interrupts : (disk : List ℕ) (h : Host) (output : List ℕ) → Declared h → inOrder h ≡ true → inOrder (interrupt disk h output .host) ≡ true

@@ -10,7 +10,7 @@ use Rattle.host.specs.Empty.{noPlace, newPlace, bare}
 use Rattle.host.specs.With.{withPlaces, withProgram, withSize, withSlots, withDiskRoots}
 use Rattle.host.specs.Places.{hasId, whose}
 use Rattle.host.specs.Calls.{freshed, padded, formedAt, formed, replaced, dropped}
-use Rattle.machine_rules.specs.View.{settingBy, parent}
+use Rattle.machine_rules.specs.View.{parent, volumeBy}
 use Rattle.machine_rules.specs.Commit.{givenUp, finalPlace, commit}
 use Rattle.machine_rules.specs.Visit.{Areas, Agreement, closes}
 use Rattle.host.proofs.Padded.{padding, word, fifteen}
@@ -112,7 +112,7 @@ own id c old q size slots f g e =
 
 -- a commit leaves its contract under its id
 committed-before : (h : Host) (a : Areas) (id : List ℕ) → Before h id (commit (a .disk) h (a .stage) .host)
-unfolding commit withProgram withPlaces parent settingBy withDiskRoots
+unfolding commit withProgram withPlaces parent volumeBy withDiskRoots
 committed-before h a id k =
     let c = h .program .terms .head .contract in
     let old = whose c (h .places) in

@@ -8,7 +8,8 @@ use Rattle.lists.proofs.Kit.{eqb}
 use Rattle.area.specs.Area.{part}
 use Rattle.area.specs.Little.{bytesOf, le8}
 use Rattle.host.specs.With.{withProgram, withCame, withProgress, withRunning, withStaged, withStageRoots}
-use Rattle.machine_rules.specs.View.{Setting, Turn, settingBy, settingOf, turnOf, withRun, parentSpots}
+use Rattle.machine_rules.specs.View.{Turn, turnOf, withRun, parentSpots, Volume, settingOf, volumeBy, volumeOf}
+use Rattle.machine_rules.specs.declared.Setting.{Setting}
 use Rattle.machine_rules.specs.Inputs.{inputsOf}
 use Rattle.machine_rules.specs.Plan.{judged}
 use Rattle.machine_rules.specs.Record.{pairing, runningPair, recordBytes, successBytes}
@@ -37,16 +38,16 @@ record-shows number cost pair hashes proof count output e =
     let rest = le8 hashes ++ (proof ++ (le8 count ++ output)) in
     ap (λ (l : List ℕ). le8 (pair .size) ++ l) (ap (λ (n : ℕ). take n (pair .root ++ rest)) (sym e) ∙ take-append-seam (pair .root) rest)
 
-module _ (z : ℕ) (s : Setting) where
+module _ (s : Setting) (vol : Volume) where
   -- what a turn shows
   abbrev shows : Turn → List ℕ
-  shows t = shown (runningPair z s (rootAt z s t) (t .progress))
+  shows t = shown (runningPair s (rootAt s vol t) (t .progress))
 
-  stepped-shows : (i : Instruction) (l : List (List ℕ)) (t : Turn) → stepped z s i l t .progress .failed ≡ false
-      → part (recordOf z s i l t) 16 40 ≡ shows (stepped z s i l t)
+  stepped-shows : (i : Instruction) (l : List (List ℕ)) (t : Turn) → stepped s vol i l t .progress .failed ≡ false
+      → part (recordOf s vol i l t) 16 40 ≡ shows (stepped s vol i l t)
   unfolding stepped recordOf succeeding failing ranProgress failedProgress successBytes runningPair parentSpots withStaged withRunning pick
   stepped-shows i l t =
-      under (eqb (judged z s (rootAt z s t) (t .progress) i l) 0) _ _ _ _ (record-shows 0 _ _ _ _ _ _ (length-root _ _)) refl
+      under (eqb (judged s (rootAt s vol t) (t .progress) i l) 0) _ _ _ _ (record-shows 0 _ _ _ _ _ _ (length-root _ _)) refl
     where
       under : (b : Bool) (x y : Turn) (u v : List ℕ) → part u 16 40 ≡ shows x → y .progress .failed ≡ true
           → pick b x y .progress .failed ≡ false → part (pick b u v) 16 40 ≡ shows (pick b x y)
@@ -54,50 +55,51 @@ module _ (z : ℕ) (s : Setting) where
       under false x y u v p q f = never (sym q ∙ f)
 
   module _ (a : List ℕ) (k : ℕ) where
-    step-shows : (t : Turn) → step z s a t .progress .failed ≡ false → part (recorded z s a t) 16 40 ≡ shows (step z s a t)
+    step-shows : (t : Turn) → step s vol a t .progress .failed ≡ false → part (recorded s vol a t) 16 40 ≡ shows (step s vol a t)
     unfolding step recorded
     step-shows t = stepped-shows (current s t) (inputsOf (current s t) a) t
 
     -- r shows what the turn before shows, if that has not failed
     runs-last : (n : ℕ) (t : Turn) (r : List ℕ) → (t .progress .failed ≡ false → part r 16 40 ≡ shows t)
-        → runs z s a k n t .progress .failed ≡ false → part (lastOf r (trail z s a k n t)) 16 40 ≡ shows (runs z s a k n t)
+        → runs s vol a k n t .progress .failed ≡ false → part (lastOf r (trail s vol a k n t)) 16 40 ≡ shows (runs s vol a k n t)
     unfolding lastOf
     runs-last zero t r h f =
-        ap (λ (l : List (List ℕ)). part (lastOf r l) 16 40) (trail-zero z s a k t)
-        ∙ h (ap (λ (x : Turn). x .progress .failed) (sym (runs-zero z s a k t)) ∙ f) ∙ ap shows (sym (runs-zero z s a k t))
+        ap (λ (l : List (List ℕ)). part (lastOf r l) 16 40) (trail-zero s vol a k t)
+        ∙ h (ap (λ (x : Turn). x .progress .failed) (sym (runs-zero s vol a k t)) ∙ f) ∙ ap shows (sym (runs-zero s vol a k t))
     runs-last (suc n) t r h f =
         by (ready s k t)
-        (λ e. let go = runs-go z s a k n t e in
-        ap (λ (l : List (List ℕ)). part (lastOf r l) 16 40) (trail-go z s a k n t e)
-        ∙ runs-last n (step z s a t) (recorded z s a t) (step-shows t) (ap (λ (x : Turn). x .progress .failed) (sym go) ∙ f)
+        (λ e. let go = runs-go s vol a k n t e in
+        ap (λ (l : List (List ℕ)). part (lastOf r l) 16 40) (trail-go s vol a k n t e)
+        ∙ runs-last n (step s vol a t) (recorded s vol a t) (step-shows t) (ap (λ (x : Turn). x .progress .failed) (sym go) ∙ f)
         ∙ ap shows (sym go))
-        (λ e. let stop = runs-stop z s a k (suc n) t e in
-        ap (λ (l : List (List ℕ)). part (lastOf r l) 16 40) (trail-stop z s a k (suc n) t e)
+        (λ e. let stop = runs-stop s vol a k (suc n) t e in
+        ap (λ (l : List (List ℕ)). part (lastOf r l) 16 40) (trail-stop s vol a k (suc n) t e)
         ∙ h (ap (λ (x : Turn). x .progress .failed) (sym stop) ∙ f) ∙ ap shows (sym stop))
 
-    runs-shows : (n : ℕ) (t : Turn) → 0 < length (trail z s a k n t) → runs z s a k n t .progress .failed ≡ false
-        → part (lastOf [] (trail z s a k n t)) 16 40 ≡ shows (runs z s a k n t)
+    runs-shows : (n : ℕ) (t : Turn) → 0 < length (trail s vol a k n t) → runs s vol a k n t .progress .failed ≡ false
+        → part (lastOf [] (trail s vol a k n t)) 16 40 ≡ shows (runs s vol a k n t)
     unfolding lastOf
-    runs-shows zero t some f = absurd (omega (arith, ap length (trail-zero z s a k t)))
+    runs-shows zero t some f = absurd (omega (arith, ap length (trail-zero s vol a k t)))
     runs-shows (suc n) t some f =
         by (ready s k t)
-        (λ e. let go = runs-go z s a k n t e in
-        ap (λ (l : List (List ℕ)). part (lastOf [] l) 16 40) (trail-go z s a k n t e)
-        ∙ runs-last n (step z s a t) (recorded z s a t) (step-shows t) (ap (λ (x : Turn). x .progress .failed) (sym go) ∙ f)
+        (λ e. let go = runs-go s vol a k n t e in
+        ap (λ (l : List (List ℕ)). part (lastOf [] l) 16 40) (trail-go s vol a k n t e)
+        ∙ runs-last n (step s vol a t) (recorded s vol a t) (step-shows t) (ap (λ (x : Turn). x .progress .failed) (sym go) ∙ f)
         ∙ ap shows (sym go))
-        (λ e. absurd (omega (arith, ap length (trail-stop z s a k (suc n) t e))))
+        (λ e. absurd (omega (arith, ap length (trail-stop s vol a k (suc n) t e))))
 
 module _ (h : Host) (a : Areas) (all : List ℕ) (k : ℕ) (le : k ≤ h .program .terms .head .length) where
   -- at least one instruction ran, and none failed
   pub after-shows : 0 < length (firstRecords h a all k) → let w = after h a all k in w .host .program .progress .failed ≡ false
       → part (lastOf [] (firstRecords h a all k)) 16 40 ≡ shown (running (w .host) (leftBy a w))
-  unfolding after made run settingBy turnOf withRun withStageRoots withProgram withProgress withCame
+  unfolding after made run volumeBy turnOf withRun withStageRoots withProgram withProgress withCame
   after-shows some f =
-      let s = settingOf h (a .disk) in
+      let s = settingOf h in
+      let vol = volumeOf h (a .disk) in
       let u = turnOf h (a .stage) (a .output) in
       let q = first-records h a all k le in
       ap (λ (l : List (List ℕ)). part (lastOf [] l) 16 40) q
-      ∙ runs-shows (h .sector) s all k (h .program .terms .head .count) u (omega (arith, some, ap length q)) f
+      ∙ runs-shows s vol all k (h .program .terms .head .count) u (omega (arith, some, ap length q)) f
 
 -- ---- the call that tells it
 

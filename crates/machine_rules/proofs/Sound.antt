@@ -14,7 +14,8 @@ use Rattle.area.specs.Slots.{Size}
 use Rattle.tree.specs.Tree as Tree
 use Rattle.host.specs.Places.{whose, committed}
 use Rattle.host.specs.Calls.{freshed}
-use Rattle.machine_rules.specs.View.{kept, worked, Setting, settingBy, settingOf, areasRight, parent, sector, spotOf, parentSpots, committedSpots}
+use Rattle.machine_rules.specs.View.{kept, worked, areasRight, parent, sector, spotOf, parentSpots, committedSpots, Volume, settingOf, volumeBy, volumeOf}
+use Rattle.machine_rules.specs.declared.Setting.{Setting}
 use Rattle.machine_rules.specs.Roots.{rootBy, rootOf, rootOnDisk}
 use Rattle.machine_rules.specs.Record.{pairOf, runningPair}
 use Rattle.machine_rules.specs.Facts.{Solid, valid}
@@ -89,61 +90,61 @@ few-segments : (z n : ℕ) (size : Size z) → n ≤ 64 → n * 2 ^ (size .depth
 few-segments z n size few = let hi = mul-le-mul-right {m = n} {n = 64} (2 ^ size .depth) few in omega (arith, hi, size .segments, size .most)
 
 -- And document 01 is what they give with roots worked out.
-bytewise : (z : ℕ) (s : Setting) (stage : List ℕ) (l : List Spot) → Solid z s → length stage ≡ s .copies * z → every (valid s) l ≡ true → length l ≤ 64
-    → Bytewise z s stage l
-bytewise z s stage l solid e v few =
+bytewise : (s : Setting) (vol : Volume) (stage : List ℕ) (l : List Spot) → Solid s vol → length stage ≡ s .stagesectors * s .sector → every (valid s) l ≡ true → length l ≤ 64
+    → Bytewise s vol stage l
+bytewise s vol stage l solid e v few =
     let size = solid .lent .size in
-    let long : (x : Spot) → valid s x ≡ true → length (sector z (s .disk) stage x) ≡ z = λ x u. sector-length z s stage x (solid .disk) e u in
-    let most = few-segments z (length l) size few in
+    let long : (x : Spot) → valid s x ≡ true → length (sector (s .sector) (vol .disk) stage x) ≡ (s .sector) = λ x u. sector-length s vol stage x (solid .disk) e u in
+    let most = few-segments (s .sector) (length l) size few in
     record {
-      root = contract-worked z (size .depth) (size .segments) (s .disk) stage (valid s) long l v most;
-      proof = proof-worked z (size .depth) (size .segments) (s .disk) stage (valid s) long l v most;
+      root = contract-worked (s .sector) (size .depth) (size .segments) (vol .disk) stage (valid s) long l v most;
+      proof = proof-worked (s .sector) (size .depth) (size .segments) (vol .disk) stage (valid s) long l v most;
     }
 
-parent-long : (z : ℕ) (s : Setting) (p : Progress) → length (parentSpots z s p) ≡ p .size / z
+parent-long : (s : Setting) (p : Progress) → length (parentSpots s p) ≡ p .size / s .sector
 unfolding parentSpots
-parent-long z s p = length-tab 0 (p .size / z) (spotOf (parent s .slots) (p .staged))
+parent-long s p = length-tab 0 (p .size / s .sector) (spotOf (parent s .slots) (p .staged))
 
 -- the root of the running pair is that of the parent's bytes
 running-bytes : (h : Host) (a : Areas) → Sound h (a .disk) (a .stage) → areasRight h (a .disk) (a .stage) ≡ true → h .program .active ≡ true
     → running h a .root ≡ Tree.root (runningSectors h a)
-unfolding runningPair rootOf rootBy settingBy parentSpots parent
+unfolding runningPair rootOf rootBy volumeBy parentSpots parent
 running-bytes h a s areas live =
     let g = order-good h (a .disk) (sound-order (a .disk) h (a .stage) (s .right)) live (s .declared .staged) in
     let solid = order-solid h (a .disk) (a .stage) (sound-order (a .disk) h (a .stage) (s .right)) areas in
-    let few = few-sectors (h .sector) (settingOf h (a .disk)) (h .program .progress) (solid .lent) g in
+    let few = few-sectors (settingOf h) (h .program .progress) (solid .lent) g in
     ap (λ (x : Pair). x .root) (pair-alike (a .disk) h (a .stage) (s .declared) (s .right) areas live)
-    ∙ bytewise (h .sector) (settingOf h (a .disk)) (a .stage) (parentSpots (h .sector) (settingOf h (a .disk)) (h .program .progress)) solid
+    ∙ bytewise (settingOf h) (volumeOf h (a .disk)) (a .stage) (parentSpots (settingOf h) (h .program .progress)) solid
     (areas-stage h (a .disk) (a .stage) areas)
-    (parent-valid (h .sector) (settingOf h (a .disk)) (h .program .progress) solid (g .orderly .staged) (omega (arith, few, g .entries)))
-    (omega (arith, few, parent-long (h .sector) (settingOf h (a .disk)) (h .program .progress))) .root
+    (parent-valid (settingOf h) (volumeOf h (a .disk)) (h .program .progress) solid (g .orderly .staged) (omega (arith, few, g .entries)))
+    (omega (arith, few, parent-long (settingOf h) (h .program .progress))) .root
 
-few-held : (h : Host) (disk id : List ℕ) → Solid (h .sector) (settingOf h disk) → length (committedSpots (h .sector) (whose id (h .places))) ≤ 64
-unfolding committedSpots settingBy
+few-held : (h : Host) (disk id : List ℕ) → Solid (settingOf h) (volumeOf h disk) → length (committedSpots (h .sector) (whose id (h .places))) ≤ 64
+unfolding committedSpots volumeBy
 few-held h disk id solid = omega (arith, length-each OnDisk (committed (h .sector) (whose id (h .places))), few-whose (h .sector) id (h .places) (solid .small))
 
 -- committed sectors are on the disk, so a stage of no slots will do
-abbrev unlent : Host → List ℕ → Setting
-unlent h disk = record { sectors = h .disk; copies = 0; places = h .places; terms = h .program .terms; disk = disk; roots = h .diskroots; way = kept }
+abbrev unlent : Host → Setting
+unlent h = record { sector = h .sector; disksectors = h .disk; stagesectors = 0; places = h .places; terms = h .program .terms }
 
-held-valid : (h : Host) (disk id : List ℕ) → Solid (h .sector) (settingOf h disk) → every (valid (unlent h disk))
+held-valid : (h : Host) (disk id : List ℕ) → Solid (settingOf h) (volumeOf h disk) → every (valid (unlent h))
     (committedSpots (h .sector) (whose id (h .places))) ≡ true
-unfolding committedSpots settingBy
-held-valid h disk id solid = disk-valid (unlent h disk) (committed (h .sector) (whose id (h .places))) (whose-every _ (h .sector) id (h .places) (solid .slots))
+unfolding committedSpots volumeBy
+held-valid h disk id solid = disk-valid (unlent h) (committed (h .sector) (whose id (h .places))) (whose-every _ (h .sector) id (h .places) (solid .slots))
 
 -- the root of a contract is that of its bytes
 held-bytes : (h : Host) (a : Areas) → Sound h (a .disk) (a .stage) → areasRight h (a .disk) (a .stage) ≡ true → (id : List ℕ)
-    → pairOf (h .sector) (rootOnDisk (h .sector) (settingOf h (a .disk))) (whose id (h .places)) .root
+    → pairOf (h .sector) (rootOnDisk (settingOf h) (volumeOf h (a .disk))) (whose id (h .places)) .root
     ≡ Tree.root (sectorsOf (h .sector) (a .disk) (whose id (h .places)))
-unfolding pairOf sectorsOf rootOf rootBy settingBy withWay
+unfolding pairOf sectorsOf rootOf rootBy volumeBy withWay
 held-bytes h a s areas id =
     let solid = order-solid h (a .disk) (a .stage) (sound-order (a .disk) h (a .stage) (s .right)) areas in
-    root-agree (rootOnDisk (h .sector) (settingBy kept h (a .disk))) (rootOnDisk (h .sector) (settingBy worked h (a .disk)))
+    root-agree (rootOnDisk (settingOf h) (volumeBy kept h (a .disk))) (rootOnDisk (settingOf h) (volumeBy worked h (a .disk)))
     (committedSpots (h .sector) (whose id (h .places)))
-    (all-committed (h .sector) (settingOf h (a .disk)) _ (known-disk (h .sector) (settingOf h (a .disk)) [] []
+    (all-committed (settingOf h) _ (known-disk (settingOf h) (volumeOf h (a .disk)) [] []
     (sound-disk (a .disk) h (a .stage) (s .right))) id)
-    ∙ contract-worked (h .sector) (solid .lent .size .depth) (solid .lent .size .segments) (a .disk) [] (valid (unlent h (a .disk)))
-    (λ x u. sector-length (h .sector) (unlent h (a .disk)) [] x (solid .disk) (sym (zero-mul (h .sector))) u)
+    ∙ contract-worked (h .sector) (solid .lent .size .depth) (solid .lent .size .segments) (a .disk) [] (valid (unlent h))
+    (λ x u. sector-length (unlent h) (volumeOf h (a .disk)) [] x (solid .disk) (sym (zero-mul (h .sector))) u)
     (committedSpots (h .sector) (whose id (h .places))) (held-valid h (a .disk) id solid)
     (few-segments (h .sector) (length (committedSpots (h .sector) (whose id (h .places)))) (solid .lent .size) (few-held h (a .disk) id solid))
 

@@ -13,7 +13,8 @@ use Rattle.sia.specs.Encode.{joined}
 use Rattle.host.specs.Places.{hasId, whose, committed, taken}
 use Rattle.host.specs.Order.{inOrder, twins, parentInOrder}
 use Rattle.host.proofs.Laws.Order.{order-facts}
-use Rattle.machine_rules.specs.View.{Way, Setting, Turn, settingBy, settingOf, turnOf, readOnlyMode, sector, parent, spotOf, parentSpots, committedSpots}
+use Rattle.machine_rules.specs.View.{Way, Turn, turnOf, readOnlyMode, sector, parent, spotOf, parentSpots, committedSpots, Volume, settingOf, volumeBy, volumeOf}
+use Rattle.machine_rules.specs.declared.Setting.{Setting}
 use Rattle.machine_rules.specs.Roots.{sectorRoot, rootBy, rootOf, rootAt}
 use Rattle.machine_rules.specs.Seats.{seated, committedSeats, seats, nobody, allSeats, seatsOf, firstSeat, seatsIn, isStaged, notLocated}
 use Rattle.machine_rules.specs.Seats.{locatedAt, locatedBy}
@@ -75,62 +76,62 @@ sought-first f key (x ∷ l) =
 same-finds : (q : Search) (f : Spot → List ℕ) (key : List ℕ) {r s : Sought} → r ≡ s → Finds q f key r → Finds q f key s
 same-finds q f key e h = subst (Finds q f key) e h
 
-module _ (z : ℕ) (s : Setting) (f : Spot → List ℕ) (p : Progress) (key : List ℕ) where
+module _ (s : Setting) (f : Spot → List ℕ) (p : Progress) (key : List ℕ) where
   abbrev id : List ℕ
   id = s .terms .head .contract
 
   abbrev found : Sought
-  found = firstSeat f key (seatsOf z s p)
+  found = firstSeat f key (seatsOf s p)
 
-  seats-reading : readOnlyMode (s .terms) ≡ true → seatsOf z s p ≡ committedSeats z nobody 0 (s .places)
+  seats-reading : readOnlyMode (s .terms) ≡ true → seatsOf s p ≡ committedSeats (s .sector) nobody 0 (s .places)
   unfolding seatsOf seats seated
-  seats-reading e = picks (readOnlyMode (s .terms)) (allSeats z (s .places)) _ e
+  seats-reading e = picks (readOnlyMode (s .terms)) (allSeats (s .sector) (s .places)) _ e
 
-  all-reading : readOnlyMode (s .terms) ≡ true → Finds (reading z (s .places)) f key found
+  all-reading : readOnlyMode (s .terms) ≡ true → Finds (reading (s .sector) (s .places)) f key found
   unfolding seatsOf
   all-reading e =
-      let l = allSeats z (s .places) in
+      let l = allSeats (s .sector) (s .places) in
       let is : firstSeat f key l ≡ found = ap (firstSeat f key) (sym (picks (readOnlyMode (s .terms)) l _ e)) in
-      same-finds (reading z (s .places)) f key is (finds (reading z (s .places)) f key (apart-reading z (s .places)))
+      same-finds (reading (s .sector) (s .places)) f key is (finds (reading (s .sector) (s .places)) f key (apart-reading (s .sector) (s .places)))
 
-  look-reading : readOnlyMode (s .terms) ≡ true → sectorSource z s f p key ≡ firstRoot f key (allSpots z (s .places))
+  look-reading : readOnlyMode (s .terms) ≡ true → sectorSource s f p key ≡ firstRoot f key (allSpots (s .sector) (s .places))
   unfolding sectorSource
   look-reading e =
       ap (λ (l : List Seat). soughtSource (firstSeat f key l)) (seats-reading e)
-      ∙ sought-first f key (committedSeats z nobody 0 (s .places))
-      ∙ ap (firstRoot f key) (committed-spots z 0 (s .places))
+      ∙ sought-first f key (committedSeats (s .sector) nobody 0 (s .places))
+      ∙ ap (firstRoot f key) (committed-spots (s .sector) 0 (s .places))
 
   module _ (a : apart twins (s .places) ≡ true) (held : whose id (s .places) .held ≡ true) (e : readOnlyMode (s .terms) ≡ false) where
-    look-writing : Finds (writing z s p) f key found
+    look-writing : Finds (writing s p) f key found
     unfolding seatsOf
     look-writing =
-        let l = seats z (hasId id) (parentSpots z s p) (s .places) in
-        let is : firstSeat f key l ≡ found = ap (firstSeat f key) (sym (skips (readOnlyMode (s .terms)) (allSeats z (s .places)) l e)) in
-        same-finds (writing z s p) f key is (finds (writing z s p) f key (apart-writing z s p a held))
+        let l = seats (s .sector) (hasId id) (parentSpots s p) (s .places) in
+        let is : firstSeat f key l ≡ found = ap (firstSeat f key) (sym (skips (readOnlyMode (s .terms)) (allSeats (s .sector) (s .places)) l e)) in
+        same-finds (writing s p) f key is (finds (writing s p) f key (apart-writing s p a held))
 
     -- the parent's sector at position j
-    module _ (j : ℕ) (below : j < p .size / z) (root : f (spotOf (parent s .slots) (p .staged) j) ≡ key) where
+    module _ (j : ℕ) (below : j < p .size / s .sector) (root : f (spotOf (parent s .slots) (p .staged) j) ≡ key) where
       abbrev home : ℕ
       home = firstOf (hasId id) (s .places)
 
       abbrev written : Seat
       written = record { place = home; position = j; spot = spotOf (parent s .slots) (p .staged) j }
 
-      mine : isMine (writing z s p) home ≡ true
+      mine : isMine (writing s p) home ≡ true
       mine = first-place id (s .places) held
 
-      own-sectors : sectorsAt (writing z s p) home ≡ parentSpots z s p
+      own-sectors : sectorsAt (writing s p) home ≡ parentSpots s p
       unfolding sectorsAt
-      own-sectors = picks (isMine (writing z s p) home) (parentSpots z s p) _ mine
+      own-sectors = picks (isMine (writing s p) home) (parentSpots s p) _ mine
 
-      written-sits : Sits (writing z s p) written
+      written-sits : Sits (writing s p) written
       unfolding parentSpots
       written-sits =
           let g = spotOf (parent s .slots) (p .staged) in
           let at : 0 + j ≡ j = omega arith in
           record {
-            within = omega (arith, below, ap length own-sectors, length-tab 0 (p .size / z) g);
-            spot = sym (ap (λ (l : List Spot). getD l j (OnDisk 0)) own-sectors ∙ getD-tab 0 (p .size / z) g j (OnDisk 0) below ∙ ap g at);
+            within = omega (arith, below, ap length own-sectors, length-tab 0 (p .size / s .sector) g);
+            spot = sym (ap (λ (l : List Spot). getD l j (OnDisk 0)) own-sectors ∙ getD-tab 0 (p .size / s .sector) g j (OnDisk 0) below ∙ ap g at);
           }
 
       has : same (f (written .spot)) key ≡ true
@@ -141,7 +142,7 @@ module _ (z : ℕ) (s : Setting) (f : Spot → List ℕ) (p : Progress) (key : L
 
       module _ (x : Seat) (q : found ≡ At x) where
         -- nothing that has the root is searched before what is found
-        not-earlier : earlier (writing z s p) written x ≡ true → ⊥
+        not-earlier : earlier (writing s p) written x ≡ true → ⊥
         not-earlier b = never (sym has ∙ look-writing .found x q .first written written-sits b)
 
         in-parent : x .place ≡ home
@@ -149,7 +150,7 @@ module _ (z : ℕ) (s : Setting) (f : Spot → List ℕ) (p : Progress) (key : L
         in-parent =
             by (eqb home (x .place))
             (λ t. sym (eqb-true _ _ t))
-            (λ t. absurd (not-earlier (skips (eqb home (x .place)) (ltb j (x .position)) _ t ∙ picks (isMine (writing z s p) home) true _ mine)))
+            (λ t. absurd (not-earlier (skips (eqb home (x .place)) (ltb j (x .position)) _ t ∙ picks (isMine (writing s p) home) true _ mine)))
 
         not-later : x .position ≤ j
         unfolding earlier
@@ -160,7 +161,7 @@ module _ (z : ℕ) (s : Setting) (f : Spot → List ℕ) (p : Progress) (key : L
             absurd (not-earlier (picks (eqb home (x .place)) (ltb j (x .position)) _ (eq-eqb _ _ (sym in-parent))
             ∙ lt-ltb j (x .position) (omega (arith, later)))))
 
-  pub looks-in : apart twins (s .places) ≡ true → (readOnlyMode (s .terms) ≡ false → whose id (s .places) .held ≡ true) → Looks z s f p key
+  pub looks-in : apart twins (s .places) ≡ true → (readOnlyMode (s .terms) ≡ false → whose id (s .places) .held ≡ true) → Looks s f p key
   looks-in a held = record {
     writer = λ e. look-writing a (held e) e;
     written = λ e j below root. (is-found a (held e) e j below root, λ x q. (in-parent a (held e) e j below root x q, not-later a (held e) e j below root x q));
@@ -169,41 +170,41 @@ module _ (z : ℕ) (s : Setting) (f : Spot → List ℕ) (p : Progress) (key : L
   }
 
 looks : (h : Host) → inOrder h ≡ true → h .program .active ≡ true → (disk : List ℕ) (f : Spot → List ℕ) (p : Progress) (key : List ℕ)
-    → Looks (h .sector) (settingOf h disk) f p key
-unfolding settingBy readOnlyMode parentInOrder
+    → Looks (settingOf h) f p key
+unfolding volumeBy readOnlyMode parentInOrder
 looks h o live disk f p key =
     let facts = order-facts h o in
     let id = h .program .terms .head .contract in
-    looks-in (h .sector) (settingOf h disk) f p key (facts .contracts .differ)
+    looks-in (settingOf h) f p key (facts .contracts .differ)
     (λ e. sym (skips (readOnlyMode (h .program .terms)) (eqb (h .program .progress .size) 0) (whose id (h .places) .held) e)
     ∙ facts .running live .terms .parent)
 
 -- ---- what ReadSector reads
 
-reads : (z : ℕ) (s : Setting) (t : Turn) (key : List ℕ) → Reads z s t key
+reads : (s : Setting) (vol : Volume) (t : Turn) (key : List ℕ) → Reads s vol t key
 unfolding sourceOf sectorSource soughtSource rootOf rootBy sectorRoot
-reads z s t key = record {
+reads s vol t key = record {
   finds = λ x e. ap soughtSource e;
   misses = λ e. ap soughtSource e;
-  bytes = λ w x e. sym (ap (λ (way : Way). rootBy way z (s .disk) (t .stage) (s .roots) (t .roots) x) w)
-      ∙ source-root z s (rootAt z s t) (t .progress) key x e;
+  bytes = λ w x e. sym (ap (λ (way : Way). rootBy way (s .sector) (vol .disk) (t .stage) (vol .roots) (t .roots) x) w)
+      ∙ source-root s (rootAt s vol t) (t .progress) key x e;
 }
 
 -- 25, down the chain of checks
-inputs-missing : (z : ℕ) (s : Setting) (f : Spot → List ℕ) (p : Progress) (i : Instruction) (l : List (List ℕ)) → wellFormed ReadSector l ≡ true
-    → sourceOf z s f p ReadSector (argsOf ReadSector l .key) ≡ missing → plannedInputs z s f p i ReadSector l ≡ refused 25
+inputs-missing : (s : Setting) (f : Spot → List ℕ) (p : Progress) (i : Instruction) (l : List (List ℕ)) → wellFormed ReadSector l ≡ true
+    → sourceOf s f p ReadSector (argsOf ReadSector l .key) ≡ missing → plannedInputs s f p i ReadSector l ≡ refused 25
 unfolding plannedInputs plannedArgs kind isThere pick
-inputs-missing z s f p i l well none =
-    let from = sourceOf z s f p ReadSector (argsOf ReadSector l .key) in
+inputs-missing s f p i l well none =
+    let from = sourceOf s f p ReadSector (argsOf ReadSector l .key) in
     skips (not (wellFormed ReadSector l)) (refused 23) _ (ap not well)
     ∙ picks (not (isThere from)) (refused 25) _ (ap (λ (x : Source). not (isThere x)) none)
 
-refuses : (z : ℕ) (s : Setting) (t : Turn) → NotFound z s t
+refuses : (s : Setting) (vol : Volume) (t : Turn) → NotFound s vol t
 unfolding judged planned refused
-refuses z s t i l formed within name well none =
+refuses s vol t i l formed within name well none =
     ap (λ (r : Plan). r .number) (skips (illFormed i) (refused 21) _ formed ∙ skips (pastEnd (s .terms .head .length) i) (refused 22) _ within
-    ∙ ap (λ (op : Op). plannedInputs z s (rootAt z s t) (t .progress) i op l) name
-    ∙ inputs-missing z s (rootAt z s t) (t .progress) i l well (reads z s t (argsOf ReadSector l .key) .misses none))
+    ∙ ap (λ (op : Op). plannedInputs s (rootAt s vol t) (t .progress) i op l) name
+    ∙ inputs-missing s (rootAt s vol t) (t .progress) i l well (reads s vol t (argsOf ReadSector l .key) .misses none))
 
 -- ---- the call `locate`
 
@@ -215,7 +216,7 @@ locates h key = record {
   nowhere = λ o q. skips (not (inOrder h)) (notLocated 1) _ (ap not o) ∙ ap locatedAt q;
   program = λ e. picks (h .program .active) _ (allSeats (h .sector) (h .places)) e;
   none = λ e.
-      let f = rootOf (h .sector) (settingOf h []) [] (h .stageroots) in
+      let f = rootOf (settingOf h) (volumeOf h []) [] (h .stageroots) in
       let is : firstSeat f key (allSeats (h .sector) (h .places)) ≡ firstSeat f key (seatsIn h) =
       ap (firstSeat f key) (sym (skips (h .program .active) _ (allSeats (h .sector) (h .places)) e)) in
       same-finds (reading (h .sector) (h .places)) f key is

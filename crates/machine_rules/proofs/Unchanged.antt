@@ -5,7 +5,7 @@ use Rattle.lists.specs.Pick.{pick}
 use Rattle.lists.proofs.Laws.Pick.{picks, skips, either-join}
 use Rattle.host.specs.Order.{inOrder}
 use Rattle.host.proofs.Laws.Order.{order-facts}
-use Rattle.machine_rules.specs.View.{settingOf, parent, areasRight, readOnlyMode, settingBy}
+use Rattle.machine_rules.specs.View.{parent, areasRight, readOnlyMode, settingOf, volumeBy, volumeOf}
 use Rattle.machine_rules.specs.Record.{samePair}
 use Rattle.machine_rules.specs.Calls.{noPair}
 use Rattle.machine_rules.specs.Commit.{Closed, closed, givenUp, agreed, commit, unfinished, closeBy, agreedBy}
@@ -78,13 +78,13 @@ module _ (h : Host) (a : Areas) where
 
   module _ (f : Finished h a) (mode : readOnlyMode (h .program .terms) ≡ true) where
     starts : starting h a ≡ noPair
-    unfolding readOnlyMode parent settingBy
-    starts = none-starts (h .sector) (settingOf h (a .disk)) (read-only-free (h .sector) _ (h .places) (order-facts h (f .order) .contracts .each) mode)
+    unfolding readOnlyMode parent volumeBy
+    starts = none-starts (settingOf h) (volumeOf h (a .disk)) (read-only-free (h .sector) _ (h .places) (order-facts h (f .order) .contracts .each) mode)
 
     runs : running h a ≡ noPair
     unfolding readOnlyMode
     runs =
-        none-runs (h .sector) (settingOf h (a .disk)) _ (h .program .progress)
+        none-runs (settingOf h) _ (h .program .progress)
         (read-only-reached (h .places) _ _ (order-facts h (f .order) .running (f .live) .terms .parent) mode)
 
     reading : (g : Agreement) → g .agree ≡ true → Reading h a g

@@ -3,7 +3,7 @@ use Rattle.lists.proofs.Kit.{_≡_, refl, sym, ap, _∙_, subst, false, List, [
 use Rattle.area.specs.Area.{part}
 use Rattle.area.specs.Little.{le8}
 use Rattle.machine_rules.specs.View as View
-use Rattle.machine_rules.specs.View.{settingBy, settingOf, turnOf, parent}
+use Rattle.machine_rules.specs.View.{turnOf, parent, settingOf, volumeBy, volumeOf}
 use Rattle.machine_rules.specs.Roots.{keptRoot, rootBy, rootOf}
 use Rattle.machine_rules.specs.Record.{pairOf, startingPair}
 use Rattle.machine_rules.specs.Calls.{Pieced, accepted}
@@ -39,11 +39,11 @@ module _ (h : Host) (o : Opening) (a : Areas) (all : List ℕ) (v : Visit h o a 
 
   -- "Init, is tallied at opening"
   tallies : (k : ℕ) → (after x a all k .tally ≡ o .prices .init + charged x a all k) × (after x a all k .tally ≤ o .budget)
-  unfolding after made settingBy turnOf
+  unfolding after made volumeBy turnOf
   tallies k =
       let q = opening-begins h o (v .opening) in
-      let sum = summed (x .sector) (settingOf x (a .disk)) all k (turnOf x (a .stage) (a .output)) in
-      let most = within (x .sector) (settingOf x (a .disk)) all k (turnOf x (a .stage) (a .output)) (omega (arith, q .0, q .1, q .2)) in
+      let sum = summed (settingOf x) (volumeOf x (a .disk)) all k (turnOf x (a .stage) (a .output)) in
+      let most = within (settingOf x) (volumeOf x (a .disk)) all k (turnOf x (a .stage) (a .output)) (omega (arith, q .0, q .1, q .2)) in
       (sum ∙ ap (λ (n : ℕ). n + charged x a all k) (q .0), omega (arith, most, q .1))
 
   module _ (b : List ℕ) (bs : List (List ℕ)) (rest : List ℕ) (e : together (b ∷ bs) ++ rest ≡ all) where
@@ -90,7 +90,7 @@ before a b h g r e p q u = record { bytes = u .bytes ∙ e; places = u .places �
 
 pub closing-visits : (h : Host) (o : Opening) (a : Areas) (bs : List (List ℕ)) (g : Agreement) → Declared h
     → Closes h a (visited h o a bs) g
-unfolding startingPair parent settingBy rootOf rootBy keptRoot
+unfolding startingPair parent volumeBy rootOf rootBy keptRoot
 closing-visits h o a bs g d =
     let first = same-opens h o d in
     let w = visited h o a bs in

@@ -14,7 +14,7 @@ use Rattle.host.specs.Empty.{started}
 use Rattle.host.specs.With.{withProgram}
 use Rattle.host.specs.Places.{whose}
 use Rattle.host.specs.Order.{inOrder}
-use Rattle.machine_rules.specs.View.{Way, kept, settingBy, turnOf, withRun, diskRight, areasRight}
+use Rattle.machine_rules.specs.View.{Way, kept, turnOf, withRun, diskRight, areasRight, settingOf, volumeBy}
 use Rattle.machine_rules.specs.Roots.{rootOf}
 use Rattle.machine_rules.specs.Record.{startingPair, runningPair}
 use Rattle.machine_rules.specs.Run.{failing, going, run}
@@ -78,7 +78,7 @@ unfoldable pub acceptedBy : Way → List ℕ → Host → List ℕ → List ℕ 
 acceptedBy way disk h stage input output bytes =
     let k = h .program .came + length bytes in
     let area = put input (h .program .came) bytes in
-    let t = run (h .sector) (settingBy way h disk) area k (turnOf h stage output) in
+    let t = run (settingOf h) (volumeBy way h disk) area k (turnOf h stage output) in
     pieced 0 (t .progress .tally) (withRun h k (t .progress) (t .roots)) (t .stage) area (t .output)
 
 abbrev pub accepted : List ℕ → Host → List ℕ → List ℕ → List ℕ → List ℕ → Pieced
@@ -120,7 +120,7 @@ interrupted n tally h output = record { number = n; tally = tally; host = h; out
 -- "An interrupt writes record 20 .. for the first instruction not run"
 unfoldable pub stoppedBy : Way → List ℕ → Host → List ℕ → Interrupted
 stoppedBy way disk h output =
-    let t = failing (h .sector) (settingBy way h disk) 20 (turnOf h [] output) in
+    let t = failing (settingOf h) (volumeBy way h disk) 20 (turnOf h [] output) in
     interrupted 0 (t .progress .tally) (withRun h (h .program .came) (t .progress) (t .roots)) (t .output)
 
 abbrev pub stopped : List ℕ → Host → List ℕ → Interrupted
@@ -146,9 +146,10 @@ interrupt disk h output = interruptBy kept disk h output
 unfoldable pub reachedPairBy : Way → List ℕ → Host → List ℕ → Pair
 reachedPairBy way disk h stage =
     let p = h .program .progress in
-    let s = settingBy way h disk in
-    let starting = startingPair (h .sector) s in
-    let running = runningPair (h .sector) s (rootOf (h .sector) s stage (h .stageroots)) p in
+    let s = settingOf h in
+    let vol = volumeBy way h disk in
+    let starting = startingPair s vol in
+    let running = runningPair s (rootOf s vol stage (h .stageroots)) p in
     pick (p .failed) starting running
 
 abbrev pub reachedPair : List ℕ → Host → List ℕ → Pair

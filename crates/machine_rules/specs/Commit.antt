@@ -14,7 +14,7 @@ use Rattle.host.specs.With.{withPlaces, withProgram, withDiskRoots, withSize, w
 use Rattle.host.specs.Places.{committed, taken}
 use Rattle.host.specs.Order.{inOrder}
 use Rattle.host.specs.Calls.{replaced}
-use Rattle.machine_rules.specs.View.{Way, kept, settingBy, settingOf, parent, areasRight}
+use Rattle.machine_rules.specs.View.{Way, kept, parent, areasRight, settingOf, volumeBy}
 use Rattle.machine_rules.specs.Roots.{rootOf}
 use Rattle.machine_rules.specs.Record.{pairing, samePair, startingPair, runningPair}
 use Rattle.machine_rules.specs.Run.{going}
@@ -72,7 +72,7 @@ finalPlace p size slots = withSlots (withSize p size) (slots ++ zeros (64 - leng
 unfoldable pub commit : List ℕ → Host → List ℕ → Closed
 commit disk h stage =
     let p = h .program .progress in
-    let old = parent (settingOf h disk) in
+    let old = parent (settingOf h) in
     let slots = finalSlots (h .sector) (h .disk) (h .places) old (p .size) in
     let places = replaced (h .program .terms .head .contract) (finalPlace old (p .size) slots) (h .places) in
     let roots = copiedBack 32 (h .stageroots) (p .staged) slots 0 (p .size / h .sector) (h .diskroots) in
@@ -83,9 +83,10 @@ commit disk h stage =
 -- names final size and root", all 32 bytes; 14: "agreed size or root differs: changes dropped, program closed"
 unfoldable pub agreedBy : Way → List ℕ → Host → List ℕ → Pair → Closed
 agreedBy way disk h stage named =
-    let s = settingBy way h disk in
-    let starting = startingPair (h .sector) s in
-    let running = runningPair (h .sector) s (rootOf (h .sector) s stage (h .stageroots)) (h .program .progress) in
+    let s = settingOf h in
+    let vol = volumeBy way h disk in
+    let starting = startingPair s vol in
+    let running = runningPair s (rootOf s vol stage (h .stageroots)) (h .program .progress) in
     let done = commit disk h stage in
     pick (samePair running starting) (givenUp 0 disk h)
     (pick (samePair named running) done

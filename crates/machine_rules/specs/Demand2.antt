@@ -10,7 +10,8 @@ use Rattle.area.specs.Little.{le8, Bytes}
 use Rattle.sia.specs.Encode.{encode, within}
 use Rattle.sia.specs.Decode.{decode, told}
 use Rattle.sia.specs.Trim.{trimmed, Proper}
-use Rattle.machine_rules.specs.View.{Setting, Turn}
+use Rattle.machine_rules.specs.View.{Turn, Volume}
+use Rattle.machine_rules.specs.declared.Setting.{Setting}
 use Rattle.machine_rules.specs.Seats.{firstSeat}
 use Rattle.machine_rules.specs.Record.{pairing}
 use Rattle.machine_rules.specs.Run.{going}
@@ -67,7 +68,7 @@ pub record Closes (h : Host) (a : Areas) (w : Pieced) (g : Agreement) : Type 0 w
   pub unended : going (w .host .program .terms) (w .host .program .progress) ≡ true → Untouched a h (closesAfter a w g)
 
 pub record Demand2 : Type 0 where
-  pub instructions : (z : ℕ) (s : Setting) (i : Instruction) (l : List (List ℕ)) (t : Turn) → Instructed z s i l t
+  pub instructions : (s : Setting) (vol : Volume) (i : Instruction) (l : List (List ℕ)) (t : Turn) → Instructed s vol i l t
   pub visits : (h : Host) (o : Opening) (a : Areas) (all : List ℕ) → Visit h o a all
       → (b : List ℕ) (bs : List (List ℕ)) (rest : List ℕ) → together (b ∷ bs) ++ rest ≡ all
       → Ran (opens h o .host) o a all (length (together (b ∷ bs))) (visited h o a (b ∷ bs))

@@ -8,7 +8,8 @@ use Rattle.area.specs.Area.{part, put, zeros}
 use Rattle.tree.specs.Tree.{root}
 use Rattle.host.specs.Empty.{none}
 use Rattle.host.specs.Places.{freeCopy}
-use Rattle.machine_rules.specs.View.{Setting, sector, parent, spotOf}
+use Rattle.machine_rules.specs.View.{Volume, sector, parent, spotOf}
+use Rattle.machine_rules.specs.declared.Setting.{Setting}
 use Rattle.machine_rules.specs.declared.Args.{Args}
 use Rattle.sia.specs.declared.Op.{Op}
 use Rattle.sia.specs.declared.Op.the-variants.{Read, ReadSector, Write, Copy, Swap, Truncate, Unknown}
@@ -19,8 +20,8 @@ pub record Ground : Type 0 where
   pub slots : List ℕ
   pub disk : List ℕ
 
-abbrev pub groundOf : Setting → Ground
-groundOf s = record { copies = s .copies; slots = parent s .slots; disk = s .disk }
+abbrev pub groundOf : Setting → Volume → Ground
+groundOf s vol = record { copies = s .stagesectors; slots = parent s .slots; disk = vol .disk }
 
 -- which stage slot holds which position, and the stage's bytes
 pub record Staging : Type 0 where

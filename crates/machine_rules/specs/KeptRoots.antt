@@ -12,7 +12,8 @@ use Rattle.tree.specs.Walk as Walk
 use Rattle.host.specs.Places.{whose}
 use Rattle.host.specs.Order.{inOrder}
 use Rattle.host.specs.Calls.{freshed, formed, dropped}
-use Rattle.machine_rules.specs.View.{kept, worked, Setting, areasRight, whole}
+use Rattle.machine_rules.specs.View.{kept, worked, areasRight, whole, Volume}
+use Rattle.machine_rules.specs.declared.Setting.{Setting}
 use Rattle.machine_rules.specs.Roots.{sectorRoot, contractRoot, rangeProof}
 use Rattle.machine_rules.specs.Sound.{sound, soundedAt, sounded}
 use Rattle.machine_rules.specs.Facts.{Solid, Within, valid}
@@ -42,10 +43,10 @@ pub record Faithful (h : Host) (a : Areas) : Type 0 where
       → pairIn (h .sector) h (a .disk) (whose id (h .places)) .root ≡ Tree.root (sectorsOf (h .sector) (a .disk) (whose id (h .places)))
 
 -- with roots worked out from the bytes, the root of a contract and the proof of a range are those of all its bytes, as document 01 has them
-pub record Bytewise (z : ℕ) (s : Setting) (stage : List ℕ) (l : List Spot) : Type 0 where
-  pub root : contractRoot (sectorRoot z (s .disk) stage) l ≡ Tree.root (whole z (s .disk) stage l)
-  pub proof : (at n : ℕ) → Within z (length l) at n
-      → rangeProof z (sectorRoot z (s .disk) stage) (s .disk) stage l at n ≡ Walk.proof (whole z (s .disk) stage l) (at / 64) ((at + n) / 64)
+pub record Bytewise (s : Setting) (vol : Volume) (stage : List ℕ) (l : List Spot) : Type 0 where
+  pub root : contractRoot (sectorRoot (s .sector) (vol .disk) stage) l ≡ Tree.root (whole (s .sector) (vol .disk) stage l)
+  pub proof : (at n : ℕ) → Within (s .sector) (length l) at n
+      → rangeProof (s .sector) (sectorRoot (s .sector) (vol .disk) stage) (vol .disk) stage l at n ≡ Walk.proof (whole (s .sector) (vol .disk) stage l) (at / 64) ((at + n) / 64)
 
 -- of a sound host: every call, refused or not, leaves it sound with the areas as the call leaves them
 pub record Sounds (h : Host) (a : Areas) : Type 0 where
@@ -87,8 +88,8 @@ pub record Asked (h : Host) (disk stage : List ℕ) : Type 0 where
 pub record KeptRoots : Type 0 where
   -- "for a sound host with areas lent back as left they are 01's"
   pub faithful : (h : Host) (a : Areas) → Sound h (a .disk) (a .stage) → Faithful h a
-  pub bytewise : (z : ℕ) (s : Setting) (stage : List ℕ) (l : List Spot) → Solid z s → length stage ≡ s .copies * z
-      → every (valid s) l ≡ true → length l ≤ 64 → Bytewise z s stage l
+  pub bytewise : (s : Setting) (vol : Volume) (stage : List ℕ) (l : List Spot) → Solid s vol → length stage ≡ s .stagesectors * s .sector
+      → every (valid s) l ≡ true → length l ≤ 64 → Bytewise s vol stage l
   -- "and any calls leave it sound"
   pub sounds : (h : Host) (a : Areas) → Sound h (a .disk) (a .stage) → Sounds h a
   -- a host that is made is sound, whatever bytes are lent with it: it has no contract

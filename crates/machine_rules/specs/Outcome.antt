@@ -16,7 +16,8 @@ use Rattle.host.specs.With.{withWritten, withFailed}
 use Rattle.host.specs.Empty.{none, noProgram}
 use Rattle.host.specs.Places.{whose}
 use Rattle.host.specs.Calls.{formed, dropped}
-use Rattle.machine_rules.specs.View.{Setting, Turn}
+use Rattle.machine_rules.specs.View.{Turn, Volume}
+use Rattle.machine_rules.specs.declared.Setting.{Setting}
 use Rattle.machine_rules.specs.Roots.{rootAt}
 use Rattle.machine_rules.specs.Inputs.{argsOf}
 use Rattle.machine_rules.specs.Plan.{cost, touched, judged}
@@ -49,35 +50,35 @@ pub record Kept (h : Host) (a : Areas) : Type 0 where
   pub closing : (g : Agreement) → Ready (closes h a g .host)
 
 -- "A failure ends the program and otherwise only writes its record.": its number, cost 0, the starting pair, both counts 0
-pub record Failed (z : ℕ) (s : Setting) (number : ℕ) (t after : Turn) : Type 0 where
+pub record Failed (s : Setting) (vol : Volume) (number : ℕ) (t after : Turn) : Type 0 where
   pub progress : after .progress ≡ withFailed (withWritten (t .progress) (t .progress .written + 72)) true
   pub stage : after .stage ≡ t .stage
   pub roots : after .roots ≡ t .roots
-  pub output : after .output ≡ put (t .output) (t .progress .written) (failureBytes z s number)
+  pub output : after .output ≡ put (t .output) (t .progress .written) (failureBytes s vol number)
 
 -- whether an instruction writes to a position
-abbrev pub writesTo : ℕ → Setting → Instruction → List (List ℕ) → Turn → ℕ → Bool
-writesTo z s i l t at = let op = opOf (i .name) in some (eqb at) (touched z (t .progress .size) op (argsOf op l))
+abbrev pub writesTo : Setting → Instruction → List (List ℕ) → Turn → ℕ → Bool
+writesTo s i l t at = let op = opOf (i .name) in some (eqb at) (touched (s .sector) (t .progress .size) op (argsOf op l))
 
 -- one instruction
-pub record Instructed (z : ℕ) (s : Setting) (i : Instruction) (l : List (List ℕ)) (t : Turn) : Type 0 where
+pub record Instructed (s : Setting) (vol : Volume) (i : Instruction) (l : List (List ℕ)) (t : Turn) : Type 0 where
   -- "each record": from the first free byte of the output area
-  pub writes : stepped z s i l t .output ≡ put (t .output) (t .progress .written) (recordOf z s i l t)
+  pub writes : stepped s vol i l t .output ≡ put (t .output) (t .progress .written) (recordOf s vol i l t)
   -- its number is one of document 01's table, and so has a class
-  pub classed : isKnown (classOf (judged z s (rootAt z s t) (t .progress) i l)) ≡ true
-  pub fails : (judged z s (rootAt z s t) (t .progress) i l ≡ 0 → ⊥)
-      → Failed z s (judged z s (rootAt z s t) (t .progress) i l) t (stepped z s i l t)
+  pub classed : isKnown (classOf (judged s (rootAt s vol t) (t .progress) i l)) ≡ true
+  pub fails : (judged s (rootAt s vol t) (t .progress) i l ≡ 0 → ⊥)
+      → Failed s vol (judged s (rootAt s vol t) (t .progress) i l) t (stepped s vol i l t)
   -- "A failure ends the program": nothing runs after it
-  pub ends : (input : List ℕ) (k : ℕ) → t .progress .failed ≡ true → run z s input k t ≡ t
-  pub costs : judged z s (rootAt z s t) (t .progress) i l ≡ 0 → stepped z s i l t .progress .tally
+  pub ends : (input : List ℕ) (k : ℕ) → t .progress .failed ≡ true → run s vol input k t ≡ t
+  pub costs : judged s (rootAt s vol t) (t .progress) i l ≡ 0 → stepped s vol i l t .progress .tally
       ≡ t .progress .tally + cost (s .terms .head .length) (s .terms .prices) (opOf (i .name)) (argsOf (opOf (i .name)) l .len)
   -- "rebuild only what an instruction touched": beside the stage slot of a position that it writes, the root of the sector's bytes after it
-  pub rehashes : judged z s (rootAt z s t) (t .progress) i l ≡ 0 → (at : ℕ) → writesTo z s i l t at ≡ true
-      → let after = stepped z s i l t in let n = getD (after .progress .staged) at none in
-      n * 32 + 32 ≤ length (t .roots) → part (after .roots) (n * 32) 32 ≡ root (part (after .stage) (n * z) z)
+  pub rehashes : judged s (rootAt s vol t) (t .progress) i l ≡ 0 → (at : ℕ) → writesTo s i l t at ≡ true
+      → let after = stepped s vol i l t in let n = getD (after .progress .staged) at none in
+      n * 32 + 32 ≤ length (t .roots) → part (after .roots) (n * 32) 32 ≡ root (part (after .stage) (n * s .sector) (s .sector))
   -- and no other root changes
-  pub stays : (n : ℕ) → let after = stepped z s i l t in
-      ((at : ℕ) → writesTo z s i l t at ≡ true → getD (after .progress .staged) at none ≡ n → ⊥)
+  pub stays : (n : ℕ) → let after = stepped s vol i l t in
+      ((at : ℕ) → writesTo s i l t at ≡ true → getD (after .progress .staged) at none ≡ n → ⊥)
       → part (after .roots) (n * 32) 32 ≡ part (t .roots) (n * 32) 32
 
 -- a call leaves the contracts as they were: their places, and the roots kept beside the disk's slots

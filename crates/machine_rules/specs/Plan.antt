@@ -12,7 +12,8 @@ use Rattle.sia.specs.Names.{opOf}
 use Rattle.host.specs.Empty.{none}
 use Rattle.host.specs.Places.{whose, others}
 use Rattle.machine_rules.specs.Kinds.{time, reads, changes}
-use Rattle.machine_rules.specs.View.{Setting, readOnlyMode, freeCopies, parentSpots, committedSpots}
+use Rattle.machine_rules.specs.View.{readOnlyMode, freeCopies, parentSpots, committedSpots}
+use Rattle.machine_rules.specs.declared.Setting.{Setting}
 use Rattle.machine_rules.specs.Roots.{rangeCount}
 use Rattle.machine_rules.specs.Seats.{seatsOf, firstSeat}
 use Rattle.machine_rules.specs.Inputs.{illFormed, pastEnd, wellFormed, argsOf}
@@ -43,11 +44,11 @@ spots missing = []
 spots (seen l) = l
 
 -- Read: the parent as it is now, another contract as committed
-unfoldable pub contractSource : ℕ → Setting → Progress → List ℕ → Source
-contractSource z s p id =
+unfoldable pub contractSource : Setting → Progress → List ℕ → Source
+contractSource s p id =
     let other = whose id (s .places) in
-    let own = seen (parentSpots z s p) in
-    let committed = seen (committedSpots z other) in
+    let own = seen (parentSpots s p) in
+    let committed = seen (committedSpots (s .sector) other) in
     pick (not (other .held)) missing (pick (same id (s .terms .head .contract)) own committed)
 
 -- ReadSector: the sector that has that root
@@ -55,18 +56,18 @@ unfoldable pub soughtSource : Sought → Source
 soughtSource (At x) = seen (x .spot ∷ [])
 soughtSource Nowhere = missing
 
-unfoldable pub sectorSource : ℕ → Setting → (Spot → List ℕ) → Progress → List ℕ → Source
-sectorSource z s f p key = soughtSource (firstSeat f key (seatsOf z s p))
+unfoldable pub sectorSource : Setting → (Spot → List ℕ) → Progress → List ℕ → Source
+sectorSource s f p key = soughtSource (firstSeat f key (seatsOf s p))
 
 -- the other instructions look nothing up
-unfoldable pub sourceOf : ℕ → Setting → (Spot → List ℕ) → Progress → Op → List ℕ → Source
-sourceOf z s f p Read key = contractSource z s p key
-sourceOf z s f p ReadSector key = sectorSource z s f p key
-sourceOf z s f p Write key = seen []
-sourceOf z s f p Copy key = seen []
-sourceOf z s f p Swap key = seen []
-sourceOf z s f p Truncate key = seen []
-sourceOf z s f p Unknown key = seen []
+unfoldable pub sourceOf : Setting → (Spot → List ℕ) → Progress → Op → List ℕ → Source
+sourceOf s f p Read key = contractSource s p key
+sourceOf s f p ReadSector key = sectorSource s f p key
+sourceOf s f p Write key = seen []
+sourceOf s f p Copy key = seen []
+sourceOf s f p Swap key = seen []
+sourceOf s f p Truncate key = seen []
+sourceOf s f p Unknown key = seen []
 
 -- ---- 26: spans
 
@@ -163,42 +164,42 @@ unfoldable pub refused : ℕ → Plan
 refused n = record { number = n; cost = 0; size = 0; hashes = 0; count = 0 }
 
 -- 40 to 42 of an instruction that costs so much
-unfoldable pub fitted : ℕ → Setting → Progress → Bool → ℕ → Op → Args → ℕ → Plan
-fitted z s p asked sectors op a price =
+unfoldable pub fitted : Setting → Progress → Bool → ℕ → Op → Args → ℕ → Plan
+fitted s p asked sectors op a price =
     let size = newSize (p .size) op a in
-    let count = recordCount z asked sectors op a in
-    pick (ltb (freeCopies s p) (wanted z p op a)) (refused 40)
-    (pick (ltb (s .sectors * z) (size + others (s .terms .head .contract) (s .places))) (refused 41)
+    let count = recordCount (s .sector) asked sectors op a in
+    pick (ltb (freeCopies s p) (wanted (s .sector) p op a)) (refused 40)
+    (pick (ltb (s .disksectors * s .sector) (size + others (s .terms .head .contract) (s .places))) (refused 41)
     (pick (ltb (s .terms .room) (p .written + count + 72)) (refused 42)
-    (record { number = 0; cost = price; size = size; hashes = proofCount z asked sectors a; count = count })))
+    (record { number = 0; cost = price; size = size; hashes = proofCount (s .sector) asked sectors a; count = count })))
 
 -- 26 to 42, where what is read was found: so many sectors
-unfoldable pub weighed : ℕ → Setting → Progress → Bool → ℕ → Op → Args → Plan
-weighed z s p asked sectors op a =
+unfoldable pub weighed : Setting → Progress → Bool → ℕ → Op → Args → Plan
+weighed s p asked sectors op a =
     let price = cost (s .terms .head .length) (s .terms .prices) op (a .len) in
-    pick (badSpans z (p .size) sectors op a) (refused 26)
+    pick (badSpans (s .sector) (p .size) sectors op a) (refused 26)
     (pick (both asked (badProof op a)) (refused 27)
     (pick (ltb (s .terms .budget) (p .tally + price)) (refused 28)
-    (fitted z s p asked sectors op a price)))
+    (fitted s p asked sectors op a price)))
 
 -- 24 to 42, of arguments that are told
-unfoldable pub plannedArgs : ℕ → Setting → (Spot → List ℕ) → Progress → Bool → Op → Args → Plan
-plannedArgs z s f p asked op a =
-    let from = sourceOf z s f p op (a .key) in
+unfoldable pub plannedArgs : Setting → (Spot → List ℕ) → Progress → Bool → Op → Args → Plan
+plannedArgs s f p asked op a =
+    let from = sourceOf s f p op (a .key) in
     pick (both (changes op) (readOnlyMode (s .terms))) (refused 24)
     (pick (not (isThere from)) (refused 25)
-    (weighed z s p asked (length (spots from)) op a))
+    (weighed s p asked (length (spots from)) op a))
 
 -- 23 to 42, where name and operands are right
-unfoldable pub plannedInputs : ℕ → Setting → (Spot → List ℕ) → Progress → Instruction → Op → List (List ℕ) → Plan
-plannedInputs z s f p i op l = pick (not (wellFormed op l)) (refused 23) (plannedArgs z s f p (i .proof) op (argsOf op l))
+unfoldable pub plannedInputs : Setting → (Spot → List ℕ) → Progress → Instruction → Op → List (List ℕ) → Plan
+plannedInputs s f p i op l = pick (not (wellFormed op l)) (refused 23) (plannedArgs s f p (i .proof) op (argsOf op l))
 
-unfoldable pub planned : ℕ → Setting → (Spot → List ℕ) → Progress → Instruction → List (List ℕ) → Plan
-planned z s f p i l =
+unfoldable pub planned : Setting → (Spot → List ℕ) → Progress → Instruction → List (List ℕ) → Plan
+planned s f p i l =
     pick (illFormed i) (refused 21)
     (pick (pastEnd (s .terms .head .length) i) (refused 22)
-    (plannedInputs z s f p i (opOf (i .name)) l))
+    (plannedInputs s f p i (opOf (i .name)) l))
 
 -- the failure's number, or 0 where it can run
-unfoldable pub judged : ℕ → Setting → (Spot → List ℕ) → Progress → Instruction → List (List ℕ) → ℕ
-judged z s f p i l = planned z s f p i l .number
+unfoldable pub judged : Setting → (Spot → List ℕ) → Progress → Instruction → List (List ℕ) → ℕ
+judged s f p i l = planned s f p i l .number

@@ -8,7 +8,8 @@ use Rattle.lists.specs.Pick.{pick, both}
 use Rattle.area.specs.Area.{same, part}
 use Rattle.area.specs.Little.{le8}
 use Rattle.host.specs.With.{withRunning, withStaged}
-use Rattle.machine_rules.specs.View.{Setting, sector, parent, parentSpots, committedSpots}
+use Rattle.machine_rules.specs.View.{sector, parent, parentSpots, committedSpots, Volume}
+use Rattle.machine_rules.specs.declared.Setting.{Setting}
 use Rattle.machine_rules.specs.Roots.{rootOnDisk, contractRoot, rangeProof}
 use Rattle.machine_rules.specs.declared.Args.{Args}
 use Rattle.machine_rules.specs.Plan.{Source, spots, proofCount, outputCount}
@@ -33,12 +34,12 @@ unfoldable pub pairOf : ℕ → (Spot → List ℕ) → Place → Pair
 pairOf z f p = record { size = p .size; root = contractRoot f (committedSpots z p) }
 
 -- the parent's; size 0 and root zeros in read-only mode
-unfoldable pub startingPair : ℕ → Setting → Pair
-startingPair z s = pairOf z (rootOnDisk z s) (parent s)
+unfoldable pub startingPair : Setting → Volume → Pair
+startingPair s vol = pairOf (s .sector) (rootOnDisk s vol) (parent s)
 
 -- the parent as it is read now
-unfoldable pub runningPair : ℕ → Setting → (Spot → List ℕ) → Progress → Pair
-runningPair z s f p = record { size = p .size; root = contractRoot f (parentSpots z s p) }
+unfoldable pub runningPair : Setting → (Spot → List ℕ) → Progress → Pair
+runningPair s f p = record { size = p .size; root = contractRoot f (parentSpots s p) }
 
 -- ---- records
 
@@ -48,8 +49,8 @@ recordBytes number cost pair hashes proof count output =
     le8 number ++ (le8 cost ++ (le8 (pair .size) ++ (pair .root ++ (le8 hashes ++ (proof ++ (le8 count ++ output))))))
 
 -- "Failure: cost 0, starting size and root, both counts 0."
-unfoldable pub failureBytes : ℕ → Setting → ℕ → List ℕ
-failureBytes z s number = recordBytes number 0 (startingPair z s) 0 [] 0 []
+unfoldable pub failureBytes : Setting → Volume → ℕ → List ℕ
+failureBytes s vol number = recordBytes number 0 (startingPair s vol) 0 [] 0 []
 
 -- what a Read or ReadSector hands out: its span of the sectors that are read
 unfoldable pub outputOf : ℕ → List ℕ → List ℕ → List Spot → Args → List ℕ
@@ -57,8 +58,8 @@ outputOf z disk stage [] a = []
 outputOf z disk stage (x ∷ xs) a = part (sector z disk stage (getD (x ∷ xs) (a .first / z) x)) (a .first % z) (a .len)
 
 -- of an instruction that ran: n is its cost, g the stage after it, f the roots after it, size the new size, p the progress before it
-unfoldable pub successBytes : ℕ → Setting → (Spot → List ℕ) → Progress → Bool → Source → Op → Args → ℕ → ℕ → Staging → List ℕ
-successBytes z s f p asked from op a n size g =
-    recordBytes 0 n (runningPair z s f (withStaged (withRunning p size) (g .staged)))
-    (proofCount z asked (length (spots from)) a) (pick asked (rangeProof z f (s .disk) (g .bytes) (spots from) (a .first) (a .len)) [])
-    (outputCount op a) (pick (eqb (outputCount op a) 0) [] (outputOf z (s .disk) (g .bytes) (spots from) a))
+unfoldable pub successBytes : Setting → Volume → (Spot → List ℕ) → Progress → Bool → Source → Op → Args → ℕ → ℕ → Staging → List ℕ
+successBytes s vol f p asked from op a n size g =
+    recordBytes 0 n (runningPair s f (withStaged (withRunning p size) (g .staged)))
+    (proofCount (s .sector) asked (length (spots from)) a) (pick asked (rangeProof (s .sector) f (vol .disk) (g .bytes) (spots from) (a .first) (a .len)) [])
+    (outputCount op a) (pick (eqb (outputCount op a) 0) [] (outputOf (s .sector) (vol .disk) (g .bytes) (spots from) a))

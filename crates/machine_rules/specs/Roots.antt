@@ -7,7 +7,8 @@ use Rattle.area.specs.Area.{zeros}
 use Rattle.tree.specs.Tree.{root, join}
 use Rattle.tree.specs.Walk.{count, proofIn}
 use Rattle.sia.specs.Encode.{joined}
-use Rattle.machine_rules.specs.View.{Way, kept, worked, Setting, Turn, sector}
+use Rattle.machine_rules.specs.View.{Way, kept, worked, Turn, sector, Volume}
+use Rattle.machine_rules.specs.declared.Setting.{Setting}
 use Rattle.machine_rules.specs.declared.Spot.{Spot}
 
 -- ---- the reader of roots
@@ -25,16 +26,16 @@ rootBy kept z disk stage roots copies x = keptRoot roots copies x
 rootBy worked z disk stage roots copies x = sectorRoot z disk stage x
 
 -- with the stage's bytes, and the roots kept beside its slots
-unfoldable pub rootOf : ℕ → Setting → List ℕ → List ℕ → Spot → List ℕ
-rootOf z s stage copies x = rootBy (s .way) z (s .disk) stage (s .roots) copies x
+unfoldable pub rootOf : Setting → Volume → List ℕ → List ℕ → Spot → List ℕ
+rootOf s vol stage copies x = rootBy (vol .way) (s .sector) (vol .disk) stage (vol .roots) copies x
 
 -- as a turn finds them
-abbrev pub rootAt : ℕ → Setting → Turn → Spot → List ℕ
-rootAt z s t = rootOf z s (t .stage) (t .roots)
+abbrev pub rootAt : Setting → Volume → Turn → Spot → List ℕ
+rootAt s vol t = rootOf s vol (t .stage) (t .roots)
 
 -- of sectors on the disk
-abbrev pub rootOnDisk : ℕ → Setting → Spot → List ℕ
-rootOnDisk z s = rootOf z s [] []
+abbrev pub rootOnDisk : Setting → Volume → Spot → List ℕ
+rootOnDisk s vol = rootOf s vol [] []
 
 -- ---- what follows from the roots of sectors
 

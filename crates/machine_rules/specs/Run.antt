@@ -8,7 +8,8 @@ use Rattle.lists.specs.Pick.{pick, both}
 use Rattle.area.specs.Area.{put}
 use Rattle.sia.specs.Names.{opOf}
 use Rattle.sia.specs.Empty.{noInstruction}
-use Rattle.machine_rules.specs.View.{Setting, Turn}
+use Rattle.machine_rules.specs.View.{Turn, Volume}
+use Rattle.machine_rules.specs.declared.Setting.{Setting}
 use Rattle.machine_rules.specs.Inputs.{dataIn, need, inputsOf, argsOf}
 use Rattle.machine_rules.specs.declared.Args.{Args}
 use Rattle.machine_rules.specs.Roots.{rootOf, rootAt}
@@ -27,12 +28,12 @@ unfoldable pub failedProgress : Progress → Progress
 failedProgress p = record { ran = p .ran; tally = p .tally; written = p .written + 72; size = p .size; failed = true; staged = p .staged }
 
 -- "Records are written from the first free byte of the output area onward."
-unfoldable pub failing : ℕ → Setting → ℕ → Turn → Turn
-failing z s number t =
+unfoldable pub failing : Setting → Volume → ℕ → Turn → Turn
+failing s vol number t =
     record {
       progress = failedProgress (t .progress);
       stage = t .stage;
-      output = put (t .output) (t .progress .written) (failureBytes z s number);
+      output = put (t .output) (t .progress .written) (failureBytes s vol number);
       roots = t .roots;
     }
 
@@ -41,27 +42,27 @@ ranProgress p cost count size staged =
     record { ran = p .ran + 1; tally = p .tally + cost; written = p .written + count; size = size; failed = p .failed; staged = staged }
 
 -- it runs: "Cost, fixed before running", its effect, the roots of the sectors that it wrote, its record
-unfoldable pub succeeding : ℕ → Setting → Bool → Op → Args → List ℕ → Turn → Turn
-succeeding z s asked op a d t =
+unfoldable pub succeeding : Setting → Volume → Bool → Op → Args → List ℕ → Turn → Turn
+succeeding s vol asked op a d t =
     let p = t .progress in
-    let from = sourceOf z s (rootAt z s t) p op (a .key) in
+    let from = sourceOf s (rootAt s vol t) p op (a .key) in
     let n = cost (s .terms .head .length) (s .terms .prices) op (a .len) in
     let size = newSize (p .size) op a in
-    let g = effect z (groundOf s) (p .size) op a d (record { staged = p .staged; bytes = t .stage }) in
-    let roots = rehashed z g (touched z (p .size) op a) (t .roots) in
+    let g = effect (s .sector) (groundOf s vol) (p .size) op a d (record { staged = p .staged; bytes = t .stage }) in
+    let roots = rehashed (s .sector) g (touched (s .sector) (p .size) op a) (t .roots) in
     record {
-      progress = ranProgress p n (recordCount z asked (length (spots from)) op a) size (g .staged);
+      progress = ranProgress p n (recordCount (s .sector) asked (length (spots from)) op a) size (g .staged);
       stage = g .bytes;
-      output = put (t .output) (p .written) (successBytes z s (rootOf z s (g .bytes) roots) p asked from op a n size g);
+      output = put (t .output) (p .written) (successBytes s vol (rootOf s vol (g .bytes) roots) p asked from op a n size g);
       roots = roots;
     }
 
 -- one instruction, its inputs given
-unfoldable pub stepped : ℕ → Setting → Instruction → List (List ℕ) → Turn → Turn
-stepped z s i l t =
-    let n = judged z s (rootAt z s t) (t .progress) i l in
-    let runs = succeeding z s (i .proof) (opOf (i .name)) (argsOf (opOf (i .name)) l) (dataIn l) t in
-    pick (eqb n 0) runs (failing z s n t)
+unfoldable pub stepped : Setting → Volume → Instruction → List (List ℕ) → Turn → Turn
+stepped s vol i l t =
+    let n = judged s (rootAt s vol t) (t .progress) i l in
+    let runs = succeeding s vol (i .proof) (opOf (i .name)) (argsOf (opOf (i .name)) l) (dataIn l) t in
+    pick (eqb n 0) runs (failing s vol n t)
 
 -- ---- in turn
 
@@ -69,8 +70,8 @@ stepped z s i l t =
 unfoldable pub current : Setting → Turn → Instruction
 current s t = getD (s .terms .head .instructions) (t .progress .ran) noInstruction
 
-unfoldable pub step : ℕ → Setting → List ℕ → Turn → Turn
-step z s input t = stepped z s (current s t) (inputsOf (current s t) input) t
+unfoldable pub step : Setting → Volume → List ℕ → Turn → Turn
+step s vol input t = stepped s vol (current s t) (inputsOf (current s t) input) t
 
 -- neither ended nor failed; "A program of no instructions has ended at once."
 unfoldable pub going : Terms → Progress → Bool
@@ -81,12 +82,12 @@ unfoldable pub ready : Setting → ℕ → Turn → Bool
 ready s k t = both (going (s .terms) (t .progress)) (leb (need (s .terms .head .length) (current s t)) k)
 
 -- at most n instructions
-unfoldable pub runs : ℕ → Setting → List ℕ → ℕ → ℕ → Turn → Turn
-runs z s input k zero t = t
-runs z s input k (suc n) t =
-    let more = runs z s input k n (step z s input t) in
+unfoldable pub runs : Setting → Volume → List ℕ → ℕ → ℕ → Turn → Turn
+runs s vol input k zero t = t
+runs s vol input k (suc n) t =
+    let more = runs s vol input k n (step s vol input t) in
     pick (ready s k t) more t
 
 -- "instructions run in turn while their need has come"
-unfoldable pub run : ℕ → Setting → List ℕ → ℕ → Turn → Turn
-run z s input k t = runs z s input k (s .terms .head .count) t
+unfoldable pub run : Setting → Volume → List ℕ → ℕ → Turn → Turn
+run s vol input k t = runs s vol input k (s .terms .head .count) t

@@ -8,7 +8,8 @@ use Rattle.lists.specs.Tests.{firstOf}
 use Rattle.area.specs.Area.{same}
 use Rattle.host.specs.Places.{hasId}
 use Rattle.host.specs.Order.{inOrder}
-use Rattle.machine_rules.specs.View.{Way, kept, Setting, settingBy, settingOf, readOnlyMode, parentSpots, committedSpots}
+use Rattle.machine_rules.specs.View.{Way, kept, readOnlyMode, parentSpots, committedSpots, settingOf, volumeBy}
+use Rattle.machine_rules.specs.declared.Setting.{Setting}
 use Rattle.machine_rules.specs.Roots.{rootOf}
 use Rattle.host.specs.declared.Place.{Place}
 use Rattle.host.specs.declared.Progress.{Progress}
@@ -44,10 +45,10 @@ abbrev pub allSeats : ℕ → List Place → List Seat
 allSeats z ps = seats z nobody [] ps
 
 -- of a program: the parent's as they are now, then the others'; "In read-only mode nothing changes."
-unfoldable pub seatsOf : ℕ → Setting → Progress → List Seat
-seatsOf z s p =
-    let all = allSeats z (s .places) in
-    pick (readOnlyMode (s .terms)) all (seats z (hasId (s .terms .head .contract)) (parentSpots z s p) (s .places))
+unfoldable pub seatsOf : Setting → Progress → List Seat
+seatsOf s p =
+    let all = allSeats (s .sector) (s .places) in
+    pick (readOnlyMode (s .terms)) all (seats (s .sector) (hasId (s .terms .head .contract)) (parentSpots s p) (s .places))
 
 -- ---- the look-up
 
@@ -63,7 +64,7 @@ firstSeat f key (x ∷ xs) =
 -- "a program need not be open (then all committed sectors ..)"
 unfoldable pub seatsIn : Host → List Seat
 seatsIn h =
-    let now = seatsOf (h .sector) (settingOf h []) (h .program .progress) in
+    let now = seatsOf (settingOf h) (h .program .progress) in
     pick (h .program .active) now (allSeats (h .sector) (h .places))
 
 -- "whether the stage held it"
@@ -82,7 +83,7 @@ locatedAt Nowhere = notLocated 0
 -- 1; else 0 and what is found. With roots known in a way
 unfoldable pub locatedBy : Way → List ℕ → Host → List ℕ → List ℕ → Located
 locatedBy way disk h stage key =
-    let f = rootOf (h .sector) (settingBy way h disk) stage (h .stageroots) in
+    let f = rootOf (settingOf h) (volumeBy way h disk) stage (h .stageroots) in
     pick (not (inOrder h)) (notLocated 1) (locatedAt (firstSeat f key (seatsIn h)))
 
 -- the call: by the kept roots, so that no area is lent

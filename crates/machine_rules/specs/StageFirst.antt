@@ -13,7 +13,8 @@ use Rattle.sia.specs.Names.{opOf}
 use Rattle.host.specs.Empty.{noPlace}
 use Rattle.host.specs.Places.{hasId, taken}
 use Rattle.host.specs.Order.{inOrder}
-use Rattle.machine_rules.specs.View.{kept, worked, Setting, Turn, settingOf, turnOf, readOnlyMode, sector, parent, spotOf, parentSpots, committedSpots}
+use Rattle.machine_rules.specs.View.{kept, worked, Turn, turnOf, readOnlyMode, sector, parent, spotOf, parentSpots, committedSpots, Volume, settingOf, volumeOf}
+use Rattle.machine_rules.specs.declared.Setting.{Setting}
 use Rattle.machine_rules.specs.Roots.{rootOf, rootAt}
 use Rattle.machine_rules.specs.Seats.{nobody, seatsOf, firstSeat, seatsIn, isStaged, notLocated, locatedBy, located}
 use Rattle.machine_rules.specs.Inputs.{illFormed, pastEnd, wellFormed, argsOf}
@@ -70,8 +71,8 @@ module _ (q : Search) where
     pub nowhere : r ≡ Nowhere → (y : Seat) → Sits y → same (f (y .spot)) key ≡ false
 
 -- "the parent's current sectors first, stage copies included, by position, then committed sectors of the other contracts"
-abbrev pub writing : ℕ → Setting → Progress → Search
-writing z s p = record { sector = z; mine = hasId (s .terms .head .contract); own = parentSpots z s p; places = s .places }
+abbrev pub writing : Setting → Progress → Search
+writing s p = record { sector = s .sector; mine = hasId (s .terms .head .contract); own = parentSpots s p; places = s .places }
 
 -- all committed sectors: in read-only mode, and with no program open
 abbrev pub reading : ℕ → List Place → Search
@@ -91,38 +92,38 @@ firstRoot f key (x ∷ xs) = let rest = firstRoot f key xs in pick (same (f x) k
 -- ---- what is promised
 
 -- an instruction of a program that a host in order has open: its setting stays, whatever progress it has made; f reads roots
-pub record Looks (z : ℕ) (s : Setting) (f : Spot → List ℕ) (p : Progress) (key : List ℕ) : Type 0 where
-  pub writer : readOnlyMode (s .terms) ≡ false → Finds (writing z s p) f key (firstSeat f key (seatsOf z s p))
+pub record Looks (s : Setting) (f : Spot → List ℕ) (p : Progress) (key : List ℕ) : Type 0 where
+  pub writer : readOnlyMode (s .terms) ≡ false → Finds (writing s p) f key (firstSeat f key (seatsOf s p))
   -- what the program has just written is found by its root: at its position in the parent, or at a lower one that has the same root
-  pub written : readOnlyMode (s .terms) ≡ false → (j : ℕ) → j < p .size / z → f (spotOf (parent s .slots) (p .staged) j) ≡ key
-      → (firstSeat f key (seatsOf z s p) ≡ Nowhere → ⊥)
-      × ((x : Seat) → firstSeat f key (seatsOf z s p) ≡ At x
+  pub written : readOnlyMode (s .terms) ≡ false → (j : ℕ) → j < p .size / s .sector → f (spotOf (parent s .slots) (p .staged) j) ≡ key
+      → (firstSeat f key (seatsOf s p) ≡ Nowhere → ⊥)
+      × ((x : Seat) → firstSeat f key (seatsOf s p) ≡ At x
       → (x .place ≡ firstOf (hasId (s .terms .head .contract)) (s .places)) × (x .position ≤ j))
-  pub reader : readOnlyMode (s .terms) ≡ true → Finds (reading z (s .places)) f key (firstSeat f key (seatsOf z s p))
+  pub reader : readOnlyMode (s .terms) ≡ true → Finds (reading (s .sector) (s .places)) f key (firstSeat f key (seatsOf s p))
   -- "In read-only mode nothing changes.": ReadSector reads what document 01 has it read
-  pub unchanged : readOnlyMode (s .terms) ≡ true → sectorSource z s f p key ≡ firstRoot f key (allSpots z (s .places))
+  pub unchanged : readOnlyMode (s .terms) ≡ true → sectorSource s f p key ≡ firstRoot f key (allSpots (s .sector) (s .places))
 
 -- what ReadSector reads
-pub record Reads (z : ℕ) (s : Setting) (t : Turn) (key : List ℕ) : Type 0 where
+pub record Reads (s : Setting) (vol : Volume) (t : Turn) (key : List ℕ) : Type 0 where
   -- the sector that the look-up finds, and no other
-  pub finds : (x : Seat) → firstSeat (rootAt z s t) key (seatsOf z s (t .progress)) ≡ At x
-      → sourceOf z s (rootAt z s t) (t .progress) ReadSector key ≡ seen (x .spot ∷ [])
-  pub misses : firstSeat (rootAt z s t) key (seatsOf z s (t .progress)) ≡ Nowhere
-      → sourceOf z s (rootAt z s t) (t .progress) ReadSector key ≡ missing
+  pub finds : (x : Seat) → firstSeat (rootAt s vol t) key (seatsOf s (t .progress)) ≡ At x
+      → sourceOf s (rootAt s vol t) (t .progress) ReadSector key ≡ seen (x .spot ∷ [])
+  pub misses : firstSeat (rootAt s vol t) key (seatsOf s (t .progress)) ≡ Nowhere
+      → sourceOf s (rootAt s vol t) (t .progress) ReadSector key ≡ missing
   -- where roots are worked out, its bytes have that root
-  pub bytes : s .way ≡ worked → (x : Spot) → sourceOf z s (rootAt z s t) (t .progress) ReadSector key ≡ seen (x ∷ [])
-      → Tree.root (sector z (s .disk) (t .stage) x) ≡ key
+  pub bytes : vol .way ≡ worked → (x : Spot) → sourceOf s (rootAt s vol t) (t .progress) ReadSector key ≡ seen (x ∷ [])
+      → Tree.root (sector (s .sector) (vol .disk) (t .stage) x) ≡ key
 
 -- 25: "sector root not found". A ReadSector that none of 21 to 24 refuses is refused with it where no sector has the root
-abbrev pub NotFound : ℕ → Setting → Turn → Type 0
-NotFound z s t = (i : Instruction) (l : List (List ℕ)) → illFormed i ≡ false → pastEnd (s .terms .head .length) i ≡ false
+abbrev pub NotFound : Setting → Volume → Turn → Type 0
+NotFound s vol t = (i : Instruction) (l : List (List ℕ)) → illFormed i ≡ false → pastEnd (s .terms .head .length) i ≡ false
     → opOf (i .name) ≡ ReadSector → wellFormed ReadSector l ≡ true
-    → firstSeat (rootAt z s t) (argsOf ReadSector l .key) (seatsOf z s (t .progress)) ≡ Nowhere
-    → judged z s (rootAt z s t) (t .progress) i l ≡ 25
+    → firstSeat (rootAt s vol t) (argsOf ReadSector l .key) (seatsOf s (t .progress)) ≡ Nowhere
+    → judged s (rootAt s vol t) (t .progress) i l ≡ 25
 
 -- what the call `locate` looks up, by the kept roots
 abbrev pub looked : Host → List ℕ → Sought
-looked h key = firstSeat (rootOf (h .sector) (settingOf h []) [] (h .stageroots)) key (seatsIn h)
+looked h key = firstSeat (rootOf (settingOf h) (volumeOf h []) [] (h .stageroots)) key (seatsIn h)
 
 pub record Locates (h : Host) (key : List ℕ) : Type 0 where
   -- its whole answers: 1; else "found or not, the place, the position, and whether the stage held it"
@@ -131,9 +132,9 @@ pub record Locates (h : Host) (key : List ℕ) : Type 0 where
       → located h key ≡ record { number = 0; found = true; place = x .place; position = x .position; staged = isStaged (x .spot) }
   pub nowhere : inOrder h ≡ true → looked h key ≡ Nowhere → located h key ≡ notLocated 0
   -- of an open program, failed or not, it looks through what ReadSector looks through, with no program through all committed sectors
-  pub program : h .program .active ≡ true → seatsIn h ≡ seatsOf (h .sector) (settingOf h []) (h .program .progress)
+  pub program : h .program .active ≡ true → seatsIn h ≡ seatsOf (settingOf h) (h .program .progress)
   pub none : h .program .active ≡ false
-      → Finds (reading (h .sector) (h .places)) (rootOf (h .sector) (settingOf h []) [] (h .stageroots)) key (looked h key)
+      → Finds (reading (h .sector) (h .places)) (rootOf (settingOf h) (volumeOf h []) [] (h .stageroots)) key (looked h key)
 
 -- "whether the stage held it": then a sector's bytes are the stage's, else the disk's
 pub record Held (z : ℕ) (x : Spot) : Type 0 where
@@ -146,15 +147,15 @@ pub record Soundly (h : Host) (a : Areas) (key : List ℕ) : Type 0 where
   pub located : locatedBy kept (a .disk) h (a .stage) key ≡ locatedBy worked (a .disk) h (a .stage) key
   -- and the sector that ReadSector reads has that root, worked out from its bytes
   pub bytes : h .program .active ≡ true → (x : Spot)
-      → let s = settingOf h (a .disk) in
-      sourceOf (h .sector) s (rootAt (h .sector) s (turnOf h (a .stage) (a .output))) (h .program .progress) ReadSector key ≡ seen (x ∷ [])
+      → let f = rootAt (settingOf h) (volumeOf h (a .disk)) (turnOf h (a .stage) (a .output)) in
+      sourceOf (settingOf h) f (h .program .progress) ReadSector key ≡ seen (x ∷ [])
       → Tree.root (sector (h .sector) (a .disk) (a .stage) x) ≡ key
 
 pub record StageFirst : Type 0 where
   pub looks : (h : Host) → inOrder h ≡ true → h .program .active ≡ true → (disk : List ℕ) (f : Spot → List ℕ) (p : Progress) (key : List ℕ)
-      → Looks (h .sector) (settingOf h disk) f p key
-  pub reads : (z : ℕ) (s : Setting) (t : Turn) (key : List ℕ) → Reads z s t key
-  pub refuses : (z : ℕ) (s : Setting) (t : Turn) → NotFound z s t
+      → Looks (settingOf h) f p key
+  pub reads : (s : Setting) (vol : Volume) (t : Turn) (key : List ℕ) → Reads s vol t key
+  pub refuses : (s : Setting) (vol : Volume) (t : Turn) → NotFound s vol t
   pub locates : (h : Host) (key : List ℕ) → Locates h key
   pub held : (z : ℕ) (x : Spot) → Held z x
   pub soundly : (h : Host) (a : Areas) (key : List ℕ) → Sound h (a .disk) (a .stage) → Soundly h a key

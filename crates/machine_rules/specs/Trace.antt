@@ -10,7 +10,8 @@ use Rattle.area.specs.Area.{put}
 use Rattle.sia.specs.Names.{opOf}
 use Rattle.sia.specs.Empty.{noInstruction}
 use Rattle.host.specs.Places.{whose}
-use Rattle.machine_rules.specs.View.{Way, kept, Setting, Turn, settingBy, settingOf, turnOf, withRun, parentSpots, committedSpots, whole}
+use Rattle.machine_rules.specs.View.{Way, kept, Turn, turnOf, withRun, parentSpots, committedSpots, whole, Volume, settingOf, volumeBy, volumeOf}
+use Rattle.machine_rules.specs.declared.Setting.{Setting}
 use Rattle.machine_rules.specs.Roots.{rootOf, rootAt, rootOnDisk}
 use Rattle.machine_rules.specs.Inputs.{dataIn, need, inputsOf, argsOf}
 use Rattle.machine_rules.specs.Plan.{sourceOf, cost, touched, newSize, judged}
@@ -72,32 +73,32 @@ made h k t area = pieced 0 (t .progress .tally) (withRun h k (t .progress) (t .r
 
 -- the state once k bytes have come: the run on the whole data, stopped at the first need that has not come
 unfoldable pub after : Host → Areas → List ℕ → ℕ → Pieced
-after h a all k = made h k (run (h .sector) (settingOf h (a .disk)) all k (turnOf h (a .stage) (a .output))) (put (a .input) 0 (take k all))
+after h a all k = made h k (run (settingOf h) (volumeOf h (a .disk)) all k (turnOf h (a .stage) (a .output))) (put (a .input) 0 (take k all))
 
 -- ---- records
 
 -- the record that an instruction writes
-unfoldable pub recordOf : ℕ → Setting → Instruction → List (List ℕ) → Turn → List ℕ
-recordOf z s i l t =
+unfoldable pub recordOf : Setting → Volume → Instruction → List (List ℕ) → Turn → List ℕ
+recordOf s vol i l t =
     let p = t .progress in
     let op = opOf (i .name) in
     let x = argsOf op l in
-    let n = judged z s (rootAt z s t) p i l in
+    let n = judged s (rootAt s vol t) p i l in
     let price = cost (s .terms .head .length) (s .terms .prices) op (x .len) in
-    let g = effect z (groundOf s) (p .size) op x (dataIn l) (record { staged = p .staged; bytes = t .stage }) in
-    let f = rootOf z s (g .bytes) (rehashed z g (touched z (p .size) op x) (t .roots)) in
-    let good = successBytes z s f p (i .proof) (sourceOf z s (rootAt z s t) p op (x .key)) op x price (newSize (p .size) op x) g in
-    pick (eqb n 0) good (failureBytes z s n)
+    let g = effect (s .sector) (groundOf s vol) (p .size) op x (dataIn l) (record { staged = p .staged; bytes = t .stage }) in
+    let f = rootOf s vol (g .bytes) (rehashed (s .sector) g (touched (s .sector) (p .size) op x) (t .roots)) in
+    let good = successBytes s vol f p (i .proof) (sourceOf s (rootAt s vol t) p op (x .key)) op x price (newSize (p .size) op x) g in
+    pick (eqb n 0) good (failureBytes s vol n)
 
 -- that of the instruction whose turn it is
-unfoldable pub recorded : ℕ → Setting → List ℕ → Turn → List ℕ
-recorded z s input t = recordOf z s (current s t) (inputsOf (current s t) input) t
+unfoldable pub recorded : Setting → Volume → List ℕ → Turn → List ℕ
+recorded s vol input t = recordOf s vol (current s t) (inputsOf (current s t) input) t
 
 -- the records that a run writes, up to and including the first failure
-unfoldable pub trail : ℕ → Setting → List ℕ → ℕ → ℕ → Turn → List (List ℕ)
-trail z s input k zero t = []
-trail z s input k (suc n) t =
-    let more = recorded z s input t ∷ trail z s input k n (step z s input t) in
+unfoldable pub trail : Setting → Volume → List ℕ → ℕ → ℕ → Turn → List (List ℕ)
+trail s vol input k zero t = []
+trail s vol input k (suc n) t =
+    let more = recorded s vol input t ∷ trail s vol input k n (step s vol input t) in
     pick (ready s k t) more []
 
 -- how many of the instructions i, i + 1, … (n of them) in a row have a need that has come
@@ -111,7 +112,7 @@ ripe s k i (suc n) =
 unfoldable pub wholeRunBy : Way → Host → Areas → List ℕ → List (List ℕ)
 wholeRunBy way h a all =
     let d = h .program .terms .head in
-    trail (h .sector) (settingBy way h (a .disk)) all (d .length) (d .count) (turnOf h (a .stage) (a .output))
+    trail (settingOf h) (volumeBy way h (a .disk)) all (d .length) (d .count) (turnOf h (a .stage) (a .output))
 
 abbrev pub wholeRun : Host → Areas → List ℕ → List (List ℕ)
 wholeRun h a all = wholeRunBy kept h a all
@@ -120,7 +121,7 @@ wholeRun h a all = wholeRunBy kept h a all
 -- come"
 unfoldable pub met : Host → Areas → List ℕ → ℕ → ℕ
 met h a all k =
-    min (ripe (settingOf h (a .disk)) k (h .program .progress .ran) (h .program .terms .head .count)) (length (wholeRun h a all))
+    min (ripe (settingOf h) k (h .program .progress .ran) (h .program .terms .head .count)) (length (wholeRun h a all))
 
 -- "the first m": the records once k bytes have come
 abbrev pub firstRecords : Host → Areas → List ℕ → ℕ → List (List ℕ)
@@ -138,19 +139,19 @@ lastOf r (x ∷ xs) = lastOf x xs
 -- ---- cost
 
 -- what the instructions of a run are charged: each that succeeds its cost, one that fails nothing
-unfoldable pub charges : ℕ → Setting → List ℕ → ℕ → ℕ → Turn → ℕ
-charges z s input k zero t = 0
-charges z s input k (suc n) t =
+unfoldable pub charges : Setting → Volume → List ℕ → ℕ → ℕ → Turn → ℕ
+charges s vol input k zero t = 0
+charges s vol input k (suc n) t =
     let i = current s t in
     let l = inputsOf i input in
     let price = cost (s .terms .head .length) (s .terms .prices) (opOf (i .name)) (argsOf (opOf (i .name)) l .len) in
-    let own = pick (eqb (judged z s (rootAt z s t) (t .progress) i l) 0) price 0 in
-    let more = own + charges z s input k n (step z s input t) in
+    let own = pick (eqb (judged s (rootAt s vol t) (t .progress) i l) 0) price 0 in
+    let more = own + charges s vol input k n (step s vol input t) in
     pick (ready s k t) more 0
 
 -- of a program with k bytes come, from its opening
 abbrev pub charged : Host → Areas → List ℕ → ℕ → ℕ
-charged h a all k = charges (h .sector) (settingOf h (a .disk)) all k (h .program .terms .head .count) (turnOf h (a .stage) (a .output))
+charged h a all k = charges (settingOf h) (volumeOf h (a .disk)) all k (h .program .terms .head .count) (turnOf h (a .stage) (a .output))
 
 -- ---- contracts
 
@@ -164,20 +165,20 @@ parentIn h ps = whose (h .program .terms .head .contract) ps
 
 -- a contract's size and root, as a host and the disk have it; z is the host's sector size
 abbrev pub pairIn : ℕ → Host → List ℕ → Place → Pair
-pairIn z h disk p = pairOf z (rootOnDisk z (settingOf h disk)) p
+pairIn z h disk p = pairOf z (rootOnDisk (settingOf h) (volumeOf h disk)) p
 
 -- the parent as committed, and so as it was when the program was opened: its size and root
 abbrev pub starting : Host → Areas → Pair
-starting h a = startingPair (h .sector) (settingOf h (a .disk))
+starting h a = startingPair (settingOf h) (volumeOf h (a .disk))
 
 -- the parent as it is read now: its size and root, and its sectors
 abbrev pub running : Host → Areas → Pair
 running h a =
-    let s = settingOf h (a .disk) in
-    runningPair (h .sector) s (rootOf (h .sector) s (a .stage) (h .stageroots)) (h .program .progress)
+    let f = rootOf (settingOf h) (volumeOf h (a .disk)) (a .stage) (h .stageroots) in
+    runningPair (settingOf h) f (h .program .progress)
 
 abbrev pub runningSectors : Host → Areas → List ℕ
-runningSectors h a = whole (h .sector) (a .disk) (a .stage) (parentSpots (h .sector) (settingOf h (a .disk)) (h .program .progress))
+runningSectors h a = whole (h .sector) (a .disk) (a .stage) (parentSpots (settingOf h) (h .program .progress))
 
 -- "final size and root equal the starting ones": a matter of the two pairs, not of which instructions ran
 abbrev pub Unchanged : Host → Areas → Type 0

@@ -17,6 +17,7 @@ use Rattle.host.specs.declared.Place.{Place}
 use Rattle.host.specs.declared.Terms.{Terms}
 use Rattle.host.specs.declared.Progress.{Progress}
 use Rattle.host.specs.declared.Host.{Host}
+use Rattle.machine_rules.specs.declared.Setting.{Setting}
 use Rattle.machine_rules.specs.declared.Spot.{Spot}
 use Rattle.machine_rules.specs.declared.Spot.the-variants.{OnDisk, InStage}
 
@@ -28,13 +29,8 @@ pub data Way : Type 0 where
   kept : Way
   worked : Way
 
--- what stays: the sectors of disk and stage, the contracts, the terms of the program, the disk's bytes, the roots kept beside its slots, and
--- how roots are known
-pub record Setting : Type 0 where
-  pub sectors : ℕ
-  pub copies : ℕ
-  pub places : List Place
-  pub terms : Terms
+-- what stays besides the declared `Setting`: the disk's bytes, the roots kept beside its slots, and how roots are known
+pub record Volume : Type 0 where
   pub disk : List ℕ
   pub roots : List ℕ
   pub way : Way
@@ -47,19 +43,21 @@ pub record Turn : Type 0 where
   pub roots : List ℕ
 
 -- that of the calls
-abbrev pub setting : ℕ → ℕ → List Place → Terms → List ℕ → List ℕ → Setting
-setting sectors copies places terms disk roots =
-    record { sectors = sectors; copies = copies; places = places; terms = terms; disk = disk; roots = roots; way = kept }
+abbrev pub volume : List ℕ → List ℕ → Volume
+volume disk roots = record { disk = disk; roots = roots; way = kept }
 
 abbrev pub turn : Progress → List ℕ → List ℕ → List ℕ → Turn
 turn progress stage output roots = record { progress = progress; stage = stage; output = output; roots = roots }
 
-unfoldable pub settingBy : Way → Host → List ℕ → Setting
-settingBy way h disk =
-    record { sectors = h .disk; copies = h .stage; places = h .places; terms = h .program .terms; disk = disk; roots = h .diskroots; way = way }
+abbrev pub settingOf : Host → Setting
+settingOf h =
+    record { sector = h .sector; disksectors = h .disk; stagesectors = h .stage; places = h .places; terms = h .program .terms }
 
-abbrev pub settingOf : Host → List ℕ → Setting
-settingOf h disk = settingBy kept h disk
+unfoldable pub volumeBy : Way → Host → List ℕ → Volume
+volumeBy way h disk = record { disk = disk; roots = h .diskroots; way = way }
+
+abbrev pub volumeOf : Host → List ℕ → Volume
+volumeOf h disk = volumeBy kept h disk
 
 unfoldable pub turnOf : Host → List ℕ → List ℕ → Turn
 turnOf h stage output = turn (h .program .progress) stage output (h .stageroots)
@@ -87,7 +85,7 @@ parent s = whose (s .terms .head .contract) (s .places)
 
 -- how many stage slots are free
 unfoldable pub freeCopies : Setting → Progress → ℕ
-freeCopies s p = count (unused (p .staged)) 0 (s .copies)
+freeCopies s p = count (unused (p .staged)) 0 (s .stagesectors)
 
 -- ---- sectors
 
@@ -101,8 +99,8 @@ unfoldable pub spotOf : List ℕ → List ℕ → ℕ → Spot
 spotOf slots staged at = pick (eqb (getD staged at none) none) (OnDisk (getD slots at 0)) (InStage (getD staged at none))
 
 -- the parent's sectors up to its running size
-unfoldable pub parentSpots : ℕ → Setting → Progress → List Spot
-parentSpots z s p = tab 0 (p .size / z) (spotOf (parent s .slots) (p .staged))
+unfoldable pub parentSpots : Setting → Progress → List Spot
+parentSpots s p = tab 0 (p .size / s .sector) (spotOf (parent s .slots) (p .staged))
 
 -- "Read of another contract" sees "committed sectors only"
 unfoldable pub committedSpots : ℕ → Place → List Spot

@@ -3,6 +3,17 @@
 pub mod class; // class.rt: the class of a record's number
 
 use host::Host;
+use host::Place;
+use host::Terms;
+
+// What stays while the instructions of a program run: the size of a sector, the sectors of disk and stage, the contracts, and the terms of the program.
+pub struct Setting {
+    pub sector: u64,
+    pub disksectors: u64,
+    pub stagesectors: u64,
+    pub places: [Place; 8],
+    pub terms: Terms,
+}
 
 // What kinds of instructions differ in: whether there is such an instruction, how many operands it has, its time, whether it hands out what it reads,
 // and whether it changes the parent.

@@ -9,7 +9,8 @@ use Rattle.area.specs.Area.{part}
 use Rattle.area.specs.Slots.{Size}
 use Rattle.area.proofs.Laws.Slots.{slot-ends, slot-below}
 use Rattle.tree.specs.Walk.{count}
-use Rattle.machine_rules.specs.View.{Setting, sector, spotOf, parent, parentSpots}
+use Rattle.machine_rules.specs.View.{sector, spotOf, parent, parentSpots}
+use Rattle.machine_rules.specs.declared.Setting.{Setting}
 use Rattle.machine_rules.specs.Roots.{segments, rangeCount}
 use Rattle.machine_rules.specs.declared.Args.{Args}
 use Rattle.machine_rules.specs.Plan.{badSpan, badProof}
@@ -36,13 +37,13 @@ unfolding every
 slots-hold z area m [] e h = refl
 slots-hold z area m (x ∷ xs) e h = both-join _ _ (below z area m x e (both-left _ _ h)) (slots-hold z area m xs e (both-right _ _ h))
 
-module _ (z : ℕ) (s : Setting) (disk stage : List ℕ) (d : s .sectors * z ≤ length disk) (e : s .copies * z ≤ length stage) where
-  pub valid-lies : (x : Spot) → valid s x ≡ true → lies z disk stage x ≡ true
+module _ (s : Setting) (disk stage : List ℕ) (d : s .disksectors * s .sector ≤ length disk) (e : s .stagesectors * s .sector ≤ length stage) where
+  pub valid-lies : (x : Spot) → valid s x ≡ true → lies (s .sector) disk stage x ≡ true
   unfolding valid lies
-  valid-lies (OnDisk n) h = below z disk (s .sectors) n d h
-  valid-lies (InStage n) h = below z stage (s .copies) n e h
+  valid-lies (OnDisk n) h = below (s .sector) disk (s .disksectors) n d h
+  valid-lies (InStage n) h = below (s .sector) stage (s .stagesectors) n e h
 
-  pub every-lies : (l : List Spot) → every (valid s) l ≡ true → every (lies z disk stage) l ≡ true
+  pub every-lies : (l : List Spot) → every (valid s) l ≡ true → every (lies (s .sector) disk stage) l ≡ true
   unfolding every
   every-lies [] h = refl
   every-lies (x ∷ xs) h = both-join _ _ (valid-lies x (both-left _ _ h)) (every-lies xs (both-right _ _ h))
@@ -108,7 +109,7 @@ unfolding rangeCount
 count-range z m at n = refl
 
 -- `parent_seen` sees the parent
-pub parent-spots : (z : ℕ) (s : Setting) (p : Progress) (q : Place) → q ≡ parent s
-    → tab 0 (p .size / z) (spotOf (q .slots) (p .staged)) ≡ parentSpots z s p
+pub parent-spots : (s : Setting) (p : Progress) (q : Place) → q ≡ parent s
+    → tab 0 (p .size / s .sector) (spotOf (q .slots) (p .staged)) ≡ parentSpots s p
 unfolding parentSpots
-parent-spots z s p q e = ap (λ (x : Place). tab 0 (p .size / z) (spotOf (x .slots) (p .staged))) e
+parent-spots s p q e = ap (λ (x : Place). tab 0 (p .size / s .sector) (spotOf (x .slots) (p .staged))) e

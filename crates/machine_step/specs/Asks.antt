@@ -6,7 +6,8 @@ use Prim.Native.Nat.{ℕ, _+_, _*_, _/_, _≤_, _<_, _^_}
 use lib.ListN.{length, drop}
 use Rattle.lists.specs.Tab.{tab}
 use Rattle.area.specs.Slots.{Size}
-use Rattle.machine_rules.specs.View.{kept, Setting, Turn, spotOf}
+use Rattle.machine_rules.specs.View.{kept, Turn, spotOf, Volume}
+use Rattle.machine_rules.specs.declared.Setting.{Setting}
 use Rattle.machine_rules.specs.Kinds.{reads}
 use Rattle.machine_rules.specs.Run.{going}
 use Rattle.machine_rules.specs.Facts.{Solid, Good}
@@ -30,15 +31,15 @@ pub record Reads (z : ℕ) (diskroots stageroots : List ℕ) (p : Place) (g : Pr
 
 -- a program that is going on a host in order, sectors of a size that there is, and its areas as stated; roots as they are kept, 32 bytes beside
 -- each slot
-pub record Steps (z : ℕ) (s : Setting) (t : Turn) (a : List ℕ) : Type 0 where
-  pub solid : Solid z s
-  pub good : Good z s (t .progress)
+pub record Steps (s : Setting) (vol : Volume) (t : Turn) (a : List ℕ) : Type 0 where
+  pub solid : Solid s vol
+  pub good : Good s (t .progress)
   pub going : going (s .terms) (t .progress) ≡ true
   pub input : length a ≡ s .terms .head .length
-  pub stage : length (t .stage) ≡ s .copies * z
+  pub stage : length (t .stage) ≡ s .stagesectors * s .sector
   pub output : length (t .output) ≡ s .terms .room
-  pub way : s .way ≡ kept
-  pub diskroots : length (s .roots) ≡ 2048
+  pub way : vol .way ≡ kept
+  pub diskroots : length (vol .roots) ≡ 2048
   pub stageroots : length (t .roots) ≡ 512
 
 -- an instruction that can run: what its effect asks, where Write's data lies, and, after the effect, what rehashing asks, the parent within

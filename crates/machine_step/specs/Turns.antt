@@ -5,7 +5,8 @@ use mathlib.Core.List.{List}
 use Prim.Native.Nat.{ℕ, _*_}
 use lib.ListN.{length}
 use Rattle.host.specs.Order.{inOrder}
-use Rattle.machine_rules.specs.View.{kept, Setting, Turn, areasRight}
+use Rattle.machine_rules.specs.View.{kept, Turn, areasRight, Volume}
+use Rattle.machine_rules.specs.declared.Setting.{Setting}
 use Rattle.machine_rules.specs.Facts.{Solid, Good}
 use Rattle.host.specs.declared.Host.{Host}
 
@@ -16,12 +17,12 @@ pub record Ready (disk : List ℕ) (h : Host) (stage : List ℕ) : Type 0 where
   pub live : h .program .active ≡ true
 
 -- a program in order and its areas as stated, and roots as they are kept, 32 bytes beside each slot: what instructions in turn ask
-pub record Runs (z : ℕ) (s : Setting) (t : Turn) (a : List ℕ) : Type 0 where
-  pub solid : Solid z s
-  pub good : Good z s (t .progress)
+pub record Runs (s : Setting) (vol : Volume) (t : Turn) (a : List ℕ) : Type 0 where
+  pub solid : Solid s vol
+  pub good : Good s (t .progress)
   pub input : length a ≡ s .terms .head .length
-  pub stage : length (t .stage) ≡ s .copies * z
+  pub stage : length (t .stage) ≡ s .stagesectors * s .sector
   pub output : length (t .output) ≡ s .terms .room
-  pub way : s .way ≡ kept
-  pub diskroots : length (s .roots) ≡ 2048
+  pub way : vol .way ≡ kept
+  pub diskroots : length (vol .roots) ≡ 2048
   pub stageroots : length (t .roots) ≡ 512

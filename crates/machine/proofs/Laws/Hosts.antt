@@ -7,7 +7,7 @@ use Rattle.area.specs.Area.{put}
 use Rattle.sia.specs.Encode.{within}
 use Rattle.host.specs.Order.{inOrder}
 use Rattle.host.proofs.Laws.Order.{order-facts}
-use Rattle.machine_rules.specs.View.{Turn, turn, settingOf, turnOf, withRun}
+use Rattle.machine_rules.specs.View.{Turn, turn, turnOf, withRun, settingOf, volumeOf}
 use Rattle.machine_rules.specs.Record.{recordBytes, failureBytes}
 use Rattle.machine_rules.specs.Run.{failedProgress, failing, going, run}
 use Rattle.machine_rules.specs.Calls.{inputRight, outputRight, Pieced, pieced, acceptedBy, accepted, interrupted, stoppedBy, stopped}
@@ -47,13 +47,13 @@ input-long h input e = eqb-true _ _ e
 -- a piece, from what its functions left
 pub accepted-is : (disk : List ℕ) (h : Host) (stage input output bytes : List ℕ) {area : List ℕ} {g : Progress} {st out roots : List ℕ} {k : ℕ} → area
     ≡ put input (h .program .came) bytes
-    → k ≡ h .program .came + length bytes → turn g st out roots ≡ run (h .sector) (settingOf h disk) area k (turnOf h stage output)
+    → k ≡ h .program .came + length bytes → turn g st out roots ≡ run (settingOf h) (volumeOf h disk) area k (turnOf h stage output)
     → pieced 0 (g .tally) (withRun h k g roots) st area out ≡ accepted disk h stage input output bytes
 unfolding acceptedBy
 accepted-is disk h stage input output bytes {area} {g} {st} {out} {roots} {k} a e t =
     let left : ℕ → List ℕ → Turn → Pieced = λ n l x. pieced 0 (x .progress .tally) (withRun h n (x .progress) (x .roots)) (x .stage) l (x .output) in
     ap (left k area) t
-    ∙ ap₂ (λ (n : ℕ) (l : List ℕ). left n l (run (h .sector) (settingOf h disk) l n (turnOf h stage output))) e a
+    ∙ ap₂ (λ (n : ℕ) (l : List ℕ). left n l (run (settingOf h) (volumeOf h disk) l n (turnOf h stage output))) e a
 
 -- ---- kept roots look at no area
 

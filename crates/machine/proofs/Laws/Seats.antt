@@ -6,7 +6,8 @@ use Rattle.area.specs.Area.{same, zeros}
 use Rattle.sia.specs.Names.{readOnly}
 use Rattle.host.specs.Places.{hasId}
 use Rattle.host.specs.Order.{inOrder}
-use Rattle.machine_rules.specs.View.{Setting, settingBy, settingOf, readOnlyMode, parent, parentSpots}
+use Rattle.machine_rules.specs.View.{readOnlyMode, parent, parentSpots, settingOf, volumeBy}
+use Rattle.machine_rules.specs.declared.Setting.{Setting}
 use Rattle.machine_rules.specs.Facts.{Solid}
 use Rattle.machine_rules.specs.Seats.{seats, allSeats, seatsOf, seatsIn}
 use Rattle.machine_rules.proofs.Laws.Taking.{blank-right, order-solid, order-good}
@@ -24,13 +25,13 @@ module _ (h : Host) (o : inOrder h ≡ true) where
     stands = order-solid h _ (zeros (h .stage * h .sector)) o (blank-right h)
 
     pub stand : Stand (h .sector) (h .diskroots) (h .places)
-    unfolding settingBy
+    unfolding volumeBy
     stand = all-stand (h .sector) set (h .diskroots) stands d
 
     pub seeks-program : length (h .stageroots) ≡ 512 → h .program .active ≡ true → length (h .program .progress .staged) ≡ 64
         → let g = h .program in
         Seeks (h .sector) (h .diskroots) (h .stageroots) (h .places) (g .terms .head .contract) (g .progress .staged) (g .progress .size)
-    unfolding settingBy
+    unfolding volumeBy
     seeks-program e live long =
         program-seeks (h .sector) set (h .diskroots) stands d (h .stageroots) e (h .program .progress) (order-good h _ o live long)
 
@@ -46,5 +47,5 @@ pub program-seats : (h : Host) → h .program .active ≡ true
     pick (same id readOnly) (allSeats (h .sector) (h .places))
     (seats (h .sector) (hasId id) (ownSpots (h .sector) (h .places) id (g .progress .staged) (g .progress .size)) (h .places))
     ≡ seatsIn h
-unfolding seatsIn seatsOf readOnlyMode settingBy parentSpots parent
+unfolding seatsIn seatsOf readOnlyMode volumeBy parentSpots parent
 program-seats h e = sym (picks (h .program .active) _ (allSeats (h .sector) (h .places)) e)

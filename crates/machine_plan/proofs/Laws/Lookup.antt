@@ -7,7 +7,8 @@ use Rattle.area.specs.Area.{same}
 use Rattle.area.proofs.Laws.Same.{same-eq}
 use Rattle.sia.specs.Names.{readOnly}
 use Rattle.host.specs.Places.{hasId, whose}
-use Rattle.machine_rules.specs.View.{Setting, readOnlyMode, parent, parentSpots, committedSpots}
+use Rattle.machine_rules.specs.View.{readOnlyMode, parent, parentSpots, committedSpots}
+use Rattle.machine_rules.specs.declared.Setting.{Setting}
 use Rattle.machine_rules.specs.Roots.{keptRoot}
 use Rattle.machine_rules.specs.Seats.{seats, allSeats, seatsOf, firstSeat}
 use Rattle.machine_rules.specs.Plan.{missing, seen, spots, isThere, contractSource, soughtSource, sectorSource}
@@ -39,17 +40,17 @@ shows-missing v e = record { there = refl; sectors = e }
 
 -- ---- contracts
 
-module _ (z : ℕ) (s : Setting) (p : Progress) (id : List ℕ) where
-  pub not-found : whose id (s .places) .held ≡ false → missing ≡ contractSource z s p id
+module _ (s : Setting) (p : Progress) (id : List ℕ) where
+  pub not-found : whose id (s .places) .held ≡ false → missing ≡ contractSource s p id
   unfolding contractSource
   not-found h = yes _ _ _ (ap not h) refl
 
   module _ (held : whose id (s .places) .held ≡ true) where
-    pub own-found : same id (s .terms .head .contract) ≡ true → seen (parentSpots z s p) ≡ contractSource z s p id
+    pub own-found : same id (s .terms .head .contract) ≡ true → seen (parentSpots s p) ≡ contractSource s p id
     unfolding contractSource
     own-found e = no _ _ _ (ap not held) (yes _ _ _ e refl)
 
-    pub other-found : same id (s .terms .head .contract) ≡ false → seen (committedSpots z (whose id (s .places))) ≡ contractSource z s p id
+    pub other-found : same id (s .terms .head .contract) ≡ false → seen (committedSpots (s .sector) (whose id (s .places))) ≡ contractSource s p id
     unfolding contractSource
     other-found e = no _ _ _ (ap not held) (no _ _ _ e refl)
 

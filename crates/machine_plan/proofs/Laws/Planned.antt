@@ -6,7 +6,8 @@ use Rattle.lists.proofs.Kit.{_≡_, refl, sym, ap, _∙_, true, false, not, Lis
 use Rattle.sia.specs.Names.{opOf}
 use Rattle.sia.proofs.Laws.Limits.{within-is}
 use Rattle.host.proofs.Laws.Order.{terms-facts}
-use Rattle.machine_rules.specs.View.{Setting, setting, readOnlyMode, freeCopies, parent, parentSpots}
+use Rattle.machine_rules.specs.View.{readOnlyMode, freeCopies, parent, parentSpots}
+use Rattle.machine_rules.specs.declared.Setting.{Setting}
 use Rattle.machine_rules.specs.Seats.{seatsOf}
 use Rattle.machine_rules.specs.Inputs.{illFormed, pastEnd, inputsOf, wellFormed, argsOf}
 use Rattle.machine_rules.specs.Plan.{fitted, weighed, plannedArgs, plannedInputs, planned, refused, Source, isThere, spots, contractSource}
@@ -25,38 +26,38 @@ use Rattle.machine_rules.specs.declared.Plan.{Plan}
 
 -- ---- what is read looks at contracts and the program's id alone, and at roots by their reader
 
-pub source-same : (z : ℕ) (s : Setting) (f : Spot → List ℕ) (p : Progress) (op : Op) (key : List ℕ)
-    → sourceOf z (looking (s .places) (s .terms .head .contract)) f p op key ≡ sourceOf z s f p op key
+pub source-same : (s : Setting) (f : Spot → List ℕ) (p : Progress) (op : Op) (key : List ℕ)
+    → sourceOf (s .sector) (looking (s .places) (s .terms .head .contract)) f p op key ≡ sourceOf s f p op key
 unfolding sourceOf contractSource parentSpots parent sectorSource seatsOf readOnlyMode
-source-same z s f p Read key = refl
-source-same z s f p ReadSector key = refl
-source-same z s f p Write key = refl
-source-same z s f p Copy key = refl
-source-same z s f p Swap key = refl
-source-same z s f p Truncate key = refl
-source-same z s f p Unknown key = refl
+source-same s f p Read key = refl
+source-same s f p ReadSector key = refl
+source-same s f p Write key = refl
+source-same s f p Copy key = refl
+source-same s f p Swap key = refl
+source-same s f p Truncate key = refl
+source-same s f p Unknown key = refl
 
 -- neither does a plan: the setting's bytes and roots are not looked at
-pub plan-same : (z : ℕ) (s : Setting) (f : Spot → List ℕ) (p : Progress) (i : Instruction) (area : List ℕ)
-    → planOf z (setting (s .sectors) (s .copies) (s .places) (s .terms) [] []) f p i area ≡ planOf z s f p i area
+pub plan-same : (s : Setting) (f : Spot → List ℕ) (p : Progress) (i : Instruction) (area : List ℕ)
+    → planOf (s .sector) (setting (s .disksectors) (s .stagesectors) (s .places) (s .terms) [] []) f p i area ≡ planOf s f p i area
 unfolding planOf planned plannedInputs plannedArgs weighed fitted freeCopies readOnlyMode
-plan-same z s f p i area =
+plan-same s f p i area =
     let op = opOf (i .name) in
     let l = inputsOf i area in
     let a = argsOf op l in
     ap (λ (from : Source). says
     (pick (illFormed i) (refused 21) (pick (pastEnd (s .terms .head .length) i) (refused 22) (pick (not (wellFormed op l)) (refused 23)
     (pick (both (changes op) (readOnlyMode (s .terms))) (refused 24) (pick (not (isThere from)) (refused 25)
-    (weighed z s p (i .proof) (length (spots from)) op a)))))) op a (fromOf op i) (spots from))
-    (sym (source-same z (setting (s .sectors) (s .copies) (s .places) (s .terms) [] []) f p op (a .key)) ∙ source-same z s f p op (a .key))
+    (weighed s p (i .proof) (length (spots from)) op a)))))) op a (fromOf op i) (spots from))
+    (sym (source-same (s .sector) (setting (s .disksectors) (s .stagesectors) (s .places) (s .terms) [] []) f p op (a .key)) ∙ source-same s f p op (a .key))
 
 -- ---- limits, from the facts of a machine in order
 
-pub length-most : (z : ℕ) (s : Setting) (p : Progress) → Good z s p → s .terms .head .length ≤ 65536
-length-most z s p g = within-is _ (terms-facts _ _ _ (g .terms) .head) .declared
+pub length-most : (s : Setting) (p : Progress) → Good s p → s .terms .head .length ≤ 65536
+length-most s p g = within-is _ (terms-facts _ _ _ (g .terms) .head) .declared
 
-pub room-most : (z : ℕ) (s : Setting) (p : Progress) → Good z s p → s .terms .room ≤ 65536
-room-most z s p g = terms-facts _ _ _ (g .terms) .most
+pub room-most : (s : Setting) (p : Progress) → Good s p → s .terms .room ≤ 65536
+room-most s p g = terms-facts _ _ _ (g .terms) .most
 
 -- ---- a failure says nothing else
 
@@ -70,13 +71,13 @@ unfolding says
 says-can w op a from l e = yes _ _ _ (eq-eqb _ _ e) refl
 
 -- the checks before those of the inputs
-pub argued-is : (z : ℕ) (s : Setting) (f : Spot → List ℕ) (p : Progress) (i : Instruction) (area : List ℕ) → illFormed i ≡ false
+pub argued-is : (s : Setting) (f : Spot → List ℕ) (p : Progress) (i : Instruction) (area : List ℕ) → illFormed i ≡ false
     → pastEnd (s .terms .head .length) i ≡ false → wellFormed (opOf (i .name)) (inputsOf i area) ≡ true
-    → argued z s f p (i .proof) (opOf (i .name)) (argsOf (opOf (i .name)) (inputsOf i area)) (fromOf (opOf (i .name)) i) ≡ planOf z s f p i area
+    → argued s f p (i .proof) (opOf (i .name)) (argsOf (opOf (i .name)) (inputsOf i area)) (fromOf (opOf (i .name)) i) ≡ planOf s f p i area
 unfolding argued planOf planned plannedInputs
-argued-is z s f p i area formed within told =
+argued-is s f p i area formed within told =
     ap (λ (w : Plan). says w (opOf (i .name)) (argsOf (opOf (i .name)) (inputsOf i area)) (fromOf (opOf (i .name)) i)
-    (spots (sourceOf z s f p (opOf (i .name)) (argsOf (opOf (i .name)) (inputsOf i area) .key))))
+    (spots (sourceOf s f p (opOf (i .name)) (argsOf (opOf (i .name)) (inputsOf i area) .key))))
     (no _ _ _ formed (no _ _ _ within (no _ _ _ (ap not told) refl)))
 
 -- a check that applies

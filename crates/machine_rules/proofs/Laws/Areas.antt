@@ -5,7 +5,8 @@ use Rattle.area.specs.Area.{zeros}
 use Rattle.area.proofs.Laws.Puts.{length-put}
 use Rattle.sia.specs.Names.{opOf}
 use Rattle.host.specs.Empty.{none}
-use Rattle.machine_rules.specs.View.{Setting, Turn}
+use Rattle.machine_rules.specs.View.{Turn, Volume}
+use Rattle.machine_rules.specs.declared.Setting.{Setting}
 use Rattle.machine_rules.specs.Inputs.{dataIn, argsOf, inputsOf}
 use Rattle.machine_rules.specs.declared.Args.{Args}
 use Rattle.machine_rules.specs.Plan.{judged}
@@ -56,25 +57,25 @@ pub record Alike (t u : Turn) : Type 0 where
   pub output : length (t .output) ≡ length (u .output)
   pub roots : length (t .roots) ≡ length (u .roots)
 
-pub stepped-alike : (z : ℕ) (s : Setting) (i : Instruction) (l : List (List ℕ)) (t : Turn) → Alike (stepped z s i l t) t
+pub stepped-alike : (s : Setting) (vol : Volume) (i : Instruction) (l : List (List ℕ)) (t : Turn) → Alike (stepped s vol i l t) t
 unfolding stepped succeeding failing
-stepped-alike z s i l t =
-    by (eqb (judged z s (rootAt z s t) (t .progress) i l) 0)
-    (λ e. subst (λ (x : Turn). Alike x t) (sym (picks (eqb (judged z s (rootAt z s t) (t .progress) i l) 0) _ _ e))
+stepped-alike s vol i l t =
+    by (eqb (judged s (rootAt s vol t) (t .progress) i l) 0)
+    (λ e. subst (λ (x : Turn). Alike x t) (sym (picks (eqb (judged s (rootAt s vol t) (t .progress) i l) 0) _ _ e))
     (record {
-      stage = effect-bytes z (groundOf s) (t .progress .size) (opOf (i .name)) (argsOf (opOf (i .name)) l) (dataIn l) _;
+      stage = effect-bytes (s .sector) (groundOf s vol) (t .progress .size) (opOf (i .name)) (argsOf (opOf (i .name)) l) (dataIn l) _;
       output = length-put (t .output) _ _;
-      roots = rehashed-length z _ _ (t .roots);
+      roots = rehashed-length (s .sector) _ _ (t .roots);
     }))
-    (λ e. subst (λ (x : Turn). Alike x t) (sym (skips (eqb (judged z s (rootAt z s t) (t .progress) i l) 0) _ _ e))
+    (λ e. subst (λ (x : Turn). Alike x t) (sym (skips (eqb (judged s (rootAt s vol t) (t .progress) i l) 0) _ _ e))
     (record { stage = refl; output = length-put (t .output) _ _; roots = refl }))
 
-pub runs-alike : (z : ℕ) (s : Setting) (a : List ℕ) (k n : ℕ) (t : Turn) → Alike (runs z s a k n t) t
+pub runs-alike : (s : Setting) (vol : Volume) (a : List ℕ) (k n : ℕ) (t : Turn) → Alike (runs s vol a k n t) t
 unfolding runs step
-runs-alike z s a k zero t = record { stage = refl; output = refl; roots = refl }
-runs-alike z s a k (suc n) t =
+runs-alike s vol a k zero t = record { stage = refl; output = refl; roots = refl }
+runs-alike s vol a k (suc n) t =
     by (ready s k t)
-    (λ r. let u = stepped-alike z s (current s t) (inputsOf (current s t) a) t in let v = runs-alike z s a k n (step z s a t) in
-    subst (λ (x : Turn). Alike x t) (sym (runs-go z s a k n t r))
+    (λ r. let u = stepped-alike s vol (current s t) (inputsOf (current s t) a) t in let v = runs-alike s vol a k n (step s vol a t) in
+    subst (λ (x : Turn). Alike x t) (sym (runs-go s vol a k n t r))
     (record { stage = v .stage ∙ u .stage; output = v .output ∙ u .output; roots = v .roots ∙ u .roots }))
-    (λ r. subst (λ (x : Turn). Alike x t) (sym (runs-stop z s a k (suc n) t r)) (record { stage = refl; output = refl; roots = refl }))
+    (λ r. subst (λ (x : Turn). Alike x t) (sym (runs-stop s vol a k (suc n) t r)) (record { stage = refl; output = refl; roots = refl }))

@@ -14,7 +14,8 @@ use Rattle.sia.specs.Names.{opOf}
 use Rattle.host.specs.Empty.{none}
 use Rattle.host.specs.Places.{others, freeCopy}
 use Rattle.host.specs.Facts.{Staged}
-use Rattle.machine_rules.specs.View.{Setting, readOnlyMode, freeCopies}
+use Rattle.machine_rules.specs.View.{readOnlyMode, freeCopies, Volume}
+use Rattle.machine_rules.specs.declared.Setting.{Setting}
 use Rattle.machine_rules.specs.Inputs.{argsOf}
 use Rattle.machine_rules.specs.declared.Args.{Args}
 use Rattle.machine_rules.specs.Plan.{proofCount, sourceOf, badSpan, badSize, badSpans, cost, touched, wanted, newSize, recordCount}
@@ -38,19 +39,19 @@ passes true n r e = absurd (omega arith)
 passes false n r e = (refl, e)
 
 -- what is known of an instruction that runs
-pub record Passed (z : ℕ) (s : Setting) (f : Spot → List ℕ) (p : Progress) (op : Op) (a : Args) (count : ℕ) : Type 0 where
+pub record Passed (s : Setting) (f : Spot → List ℕ) (p : Progress) (op : Op) (a : Args) (count : ℕ) : Type 0 where
   pub allowed : both (changes op) (readOnlyMode (s .terms)) ≡ false
-  pub spans : badSpans z (p .size) (length (spots (sourceOf z s f p op (a .key)))) op a ≡ false
+  pub spans : badSpans (s .sector) (p .size) (length (spots (sourceOf s f p op (a .key)))) op a ≡ false
   pub paid : p .tally + cost (s .terms .head .length) (s .terms .prices) op (a .len) ≤ s .terms .budget
-  pub free : wanted z p op a ≤ freeCopies s p
-  pub fits : newSize (p .size) op a + others (s .terms .head .contract) (s .places) ≤ s .sectors * z
+  pub free : wanted (s .sector) p op a ≤ freeCopies s p
+  pub fits : newSize (p .size) op a + others (s .terms .head .contract) (s .places) ≤ s .disksectors * s .sector
   pub room : p .written + count + 72 ≤ s .terms .room
 
-passed-inputs : (z : ℕ) (s : Setting) (f : Spot → List ℕ) (p : Progress) (i : Instruction) (op : Op) (l : List (List ℕ))
-    → plannedInputs z s f p i op l .number ≡ 0
-    → Passed z s f p op (argsOf op l) (recordCount z (i .proof) (length (spots (sourceOf z s f p op (argsOf op l .key)))) op (argsOf op l))
+passed-inputs : (s : Setting) (f : Spot → List ℕ) (p : Progress) (i : Instruction) (op : Op) (l : List (List ℕ))
+    → plannedInputs s f p i op l .number ≡ 0
+    → Passed s f p op (argsOf op l) (recordCount (s .sector) (i .proof) (length (spots (sourceOf s f p op (argsOf op l .key)))) op (argsOf op l))
 unfolding plannedInputs plannedArgs weighed fitted
-passed-inputs z s f p i op l e =
+passed-inputs s f p i op l e =
     let c23 = passes _ 22 _ e in
     let c24 = passes _ 23 _ (c23 .1) in
     let c25 = passes _ 24 _ (c24 .1) in
@@ -69,25 +70,25 @@ passed-inputs z s f p i op l e =
       room = ltb-false _ _ (c42 .0);
     }
 
-pub passed : (z : ℕ) (s : Setting) (f : Spot → List ℕ) (p : Progress) (i : Instruction) (l : List (List ℕ)) → judged z s f p i l ≡ 0
-    → Passed z s f p (opOf (i .name)) (argsOf (opOf (i .name)) l)
-    (recordCount z (i .proof) (length (spots (sourceOf z s f p (opOf (i .name)) (argsOf (opOf (i .name)) l .key)))) (opOf (i .name))
+pub passed : (s : Setting) (f : Spot → List ℕ) (p : Progress) (i : Instruction) (l : List (List ℕ)) → judged s f p i l ≡ 0
+    → Passed s f p (opOf (i .name)) (argsOf (opOf (i .name)) l)
+    (recordCount (s .sector) (i .proof) (length (spots (sourceOf s f p (opOf (i .name)) (argsOf (opOf (i .name)) l .key)))) (opOf (i .name))
     (argsOf (opOf (i .name)) l))
 unfolding judged planned
-passed z s f p i l e = passed-inputs z s f p i (opOf (i .name)) l (passes _ 21 _ (passes _ 20 _ e .1) .1)
+passed s f p i l e = passed-inputs s f p i (opOf (i .name)) l (passes _ 21 _ (passes _ 20 _ e .1) .1)
 
 -- and its plan is what it costs and changes
-fine-inputs : (z : ℕ) (s : Setting) (f : Spot → List ℕ) (p : Progress) (i : Instruction) (op : Op) (l : List (List ℕ))
-    → plannedInputs z s f p i op l .number ≡ 0 → let n = length (spots (sourceOf z s f p op (argsOf op l .key))) in
-    plannedInputs z s f p i op l ≡ record {
+fine-inputs : (s : Setting) (f : Spot → List ℕ) (p : Progress) (i : Instruction) (op : Op) (l : List (List ℕ))
+    → plannedInputs s f p i op l .number ≡ 0 → let n = length (spots (sourceOf s f p op (argsOf op l .key))) in
+    plannedInputs s f p i op l ≡ record {
       number = 0;
       cost = cost (s .terms .head .length) (s .terms .prices) op (argsOf op l .len);
       size = newSize (p .size) op (argsOf op l);
-      hashes = proofCount z (i .proof) n (argsOf op l);
-      count = recordCount z (i .proof) n op (argsOf op l);
+      hashes = proofCount (s .sector) (i .proof) n (argsOf op l);
+      count = recordCount (s .sector) (i .proof) n op (argsOf op l);
     }
 unfolding plannedInputs plannedArgs weighed fitted
-fine-inputs z s f p i op l e =
+fine-inputs s f p i op l e =
     let c23 = passes _ 22 _ e in
     let c24 = passes _ 23 _ (c23 .1) in
     let c25 = passes _ 24 _ (c24 .1) in
@@ -100,20 +101,20 @@ fine-inputs z s f p i op l e =
     skips _ _ _ (c23 .0) ∙ skips _ _ _ (c24 .0) ∙ skips _ _ _ (c25 .0) ∙ skips _ _ _ (c26 .0) ∙ skips _ _ _ (c27 .0) ∙ skips _ _ _ (c28 .0)
     ∙ skips _ _ _ (c40 .0) ∙ skips _ _ _ (c41 .0) ∙ skips _ _ _ (c42 .0)
 
-pub planned-fine : (z : ℕ) (s : Setting) (f : Spot → List ℕ) (p : Progress) (i : Instruction) (l : List (List ℕ)) → judged z s f p i l ≡ 0
-    → let op = opOf (i .name) in let n = length (spots (sourceOf z s f p op (argsOf op l .key))) in
-    planned z s f p i l ≡ record {
+pub planned-fine : (s : Setting) (f : Spot → List ℕ) (p : Progress) (i : Instruction) (l : List (List ℕ)) → judged s f p i l ≡ 0
+    → let op = opOf (i .name) in let n = length (spots (sourceOf s f p op (argsOf op l .key))) in
+    planned s f p i l ≡ record {
       number = 0;
       cost = cost (s .terms .head .length) (s .terms .prices) op (argsOf op l .len);
       size = newSize (p .size) op (argsOf op l);
-      hashes = proofCount z (i .proof) n (argsOf op l);
-      count = recordCount z (i .proof) n op (argsOf op l);
+      hashes = proofCount (s .sector) (i .proof) n (argsOf op l);
+      count = recordCount (s .sector) (i .proof) n op (argsOf op l);
     }
 unfolding judged planned
-planned-fine z s f p i l e =
+planned-fine s f p i l e =
     let c21 = passes _ 20 _ e in
     let c22 = passes _ 21 _ (c21 .1) in
-    skips _ _ _ (c21 .0) ∙ skips _ _ _ (c22 .0) ∙ fine-inputs z s f p i (opOf (i .name)) l (c22 .1)
+    skips _ _ _ (c21 .0) ∙ skips _ _ _ (c22 .0) ∙ fine-inputs s f p i (opOf (i .name)) l (c22 .1)
 
 -- ---- positions
 
@@ -125,8 +126,8 @@ pub sector-below : (z at size : ℕ) → 0 < z → size % z ≡ 0 → at < size 
 sector-below z at size pos e lt = div-lt-iff-lt-mul {k = z} {x = at} {y = size / z} pos .1 (subst (λ (n : ℕ). at < n) (sym (whole-sectors z size e)) lt)
 
 -- a running size within the disk is at most 64 sectors
-pub few-sectors : (z : ℕ) (s : Setting) (p : Progress) → Lent z s → Good z s p → p .size / z ≤ 64
-few-sectors z s p L g = div-le-of-le-mul z (omega (arith, g .orderly .within, mul-le-mul-right z (L .most)))
+pub few-sectors : (s : Setting) (p : Progress) → Lent s → Good s p → p .size / s .sector ≤ 64
+few-sectors s p L g = div-le-of-le-mul (s .sector) (omega (arith, g .orderly .within, mul-le-mul-right (s .sector) (L .most)))
 
 -- ---- the stage staged
 
@@ -262,22 +263,22 @@ span-in z size at n e =
     let le = ltb-false size (at + n) (b .0) in
     omega (arith, ne)
 
-module _ (z : ℕ) (s : Setting) (p : Progress) (start : ℕ) (pos : 0 < z) (few : s .copies ≤ 16) (whole : p .size % z ≡ 0)
-    (f : Staged (s .copies) start (p .size / z) (p .staged)) where
-  one-kept : (at : ℕ) → at < p .size → asks (p .staged) (at / z) ≤ freeCopies s p → Staged (s .copies) start (p .size / z)
-      (copiedMap (s .copies) (at / z) (p .staged))
+module _ (s : Setting) (p : Progress) (start : ℕ) (pos : 0 < (s .sector)) (few : s .stagesectors ≤ 16) (whole : p .size % s .sector ≡ 0)
+    (f : Staged (s .stagesectors) start (p .size / s .sector) (p .staged)) where
+  one-kept : (at : ℕ) → at < p .size → asks (p .staged) (at / s .sector) ≤ freeCopies s p → Staged (s .stagesectors) start (p .size / s .sector)
+      (copiedMap (s .stagesectors) (at / s .sector) (p .staged))
   unfolding freeCopies
-  one-kept at lt h = copied-kept (s .copies) start (p .size / z) (at / z) (p .staged) few (sector-below z at (p .size) pos whole lt) h f
+  one-kept at lt h = copied-kept (s .stagesectors) start (p .size / s .sector) (at / s .sector) (p .staged) few (sector-below (s .sector) at (p .size) pos whole lt) h f
 
-  two-kept : (at to : ℕ) → at < p .size → to < p .size → p .size / z ≤ length (p .staged)
-      → pick (eqb (to / z) (at / z)) (asks (p .staged) (at / z)) (asks (p .staged) (at / z) + asks (p .staged) (to / z)) ≤ freeCopies s p
-      → Staged (s .copies) start (p .size / z) (copiedMap (s .copies) (to / z) (copiedMap (s .copies) (at / z) (p .staged)))
+  two-kept : (at to : ℕ) → at < p .size → to < p .size → p .size / s .sector ≤ length (p .staged)
+      → pick (eqb (to / s .sector) (at / s .sector)) (asks (p .staged) (at / s .sector)) (asks (p .staged) (at / s .sector) + asks (p .staged) (to / s .sector)) ≤ freeCopies s p
+      → Staged (s .stagesectors) start (p .size / s .sector) (copiedMap (s .stagesectors) (to / s .sector) (copiedMap (s .stagesectors) (at / s .sector) (p .staged)))
   unfolding freeCopies
   two-kept at to la lt len h =
-      let u = sector-below z at (p .size) pos whole la in
-      let v = sector-below z to (p .size) pos whole lt in
-      let q = asks-two (s .copies) (at / z) (to / z) (p .staged) few (omega arith) h in
-      copied-kept (s .copies) start (p .size / z) (to / z) _ few v (q .1) (copied-kept (s .copies) start (p .size / z) (at / z) (p .staged) few u (q .0) f)
+      let u = sector-below (s .sector) at (p .size) pos whole la in
+      let v = sector-below (s .sector) to (p .size) pos whole lt in
+      let q = asks-two (s .stagesectors) (at / s .sector) (to / s .sector) (p .staged) few (omega arith) h in
+      copied-kept (s .stagesectors) start (p .size / s .sector) (to / s .sector) _ few v (q .1) (copied-kept (s .stagesectors) start (p .size / s .sector) (at / s .sector) (p .staged) few u (q .0) f)
 
 -- ---- Truncate
 
@@ -328,29 +329,29 @@ sized z now to e =
     let b = neither _ _ (a .1) in
     record { whole = eqb-true _ _ (not-false _ (a .0)); up = ltb-false _ _ (b .0); down = ltb-false _ _ (b .1) }
 
-resized-kept : (z : ℕ) (s : Setting) (p : Progress) (start to : ℕ) (bytes : List ℕ) → 0 < z → s .copies ≤ 16 → p .size % z ≡ 0
-    → Staged (s .copies) start (p .size / z) (p .staged)
-    → Sized z (p .size) to → to ≤ length (p .staged) * z → (ltb (p .size) to ≡ true → asks (p .staged) (p .size / z) ≤ freeCopies s p)
-    → Staged (s .copies) start (to / z) (resized z (groundOf s) (p .size) to (record { staged = p .staged; bytes = bytes }) .staged)
+resized-kept : (s : Setting) (vol : Volume) (p : Progress) (start to : ℕ) (bytes : List ℕ) → 0 < (s .sector) → s .stagesectors ≤ 16 → p .size % s .sector ≡ 0
+    → Staged (s .stagesectors) start (p .size / s .sector) (p .staged)
+    → Sized (s .sector) (p .size) to → to ≤ length (p .staged) * s .sector → (ltb (p .size) to ≡ true → asks (p .staged) (p .size / s .sector) ≤ freeCopies s p)
+    → Staged (s .stagesectors) start (to / s .sector) (resized (s .sector) (groundOf s vol) (p .size) to (record { staged = p .staged; bytes = bytes }) .staged)
 unfolding freeCopies
-resized-kept z s p start to bytes pos few whole f sz len free =
+resized-kept s vol p start to bytes pos few whole f sz len free =
     let g : Staging = record { staged = p .staged; bytes = bytes } in
     by (ltb (p .size) to)
     (λ e. let lt = ltb-true (p .size) to e in
-    let nx = next-sector z (p .size) to pos whole (sz .whole) lt (sz .up) in
-    let at : p .size / z < length (p .staged) = div-lt-iff-lt-mul {k = z} {x = p .size} {y = length (p .staged)} pos .1 (omega arith) in
-    let fr = free-slot (s .copies) (p .staged) (omega (arith, free e, asks-some (p .staged) (p .size / z) (past-first (p .size / z) (p .staged) (f .below)))) in
-    subst (λ (n : ℕ). Staged (s .copies) start n (resized z (groundOf s) (p .size) to g .staged)) (sym nx)
-    (subst (λ (m : List ℕ). Staged (s .copies) start (suc (p .size / z)) m) (sym (resized-more z (groundOf s) (p .size) to g e))
-    (grow-kept (s .copies) start few (p .size / z) _ (p .staged) at fr f)))
+    let nx = next-sector (s .sector) (p .size) to pos whole (sz .whole) lt (sz .up) in
+    let at : p .size / s .sector < length (p .staged) = div-lt-iff-lt-mul {k = (s .sector)} {x = p .size} {y = length (p .staged)} pos .1 (omega arith) in
+    let fr = free-slot (s .stagesectors) (p .staged) (omega (arith, free e, asks-some (p .staged) (p .size / s .sector) (past-first (p .size / s .sector) (p .staged) (f .below)))) in
+    subst (λ (n : ℕ). Staged (s .stagesectors) start n (resized (s .sector) (groundOf s vol) (p .size) to g .staged)) (sym nx)
+    (subst (λ (m : List ℕ). Staged (s .stagesectors) start (suc (p .size / s .sector)) m) (sym (resized-more (s .sector) (groundOf s vol) (p .size) to g e))
+    (grow-kept (s .stagesectors) start few (p .size / s .sector) _ (p .staged) at fr f)))
     (λ e. by (ltb to (p .size))
     (λ d. let lt = ltb-true to (p .size) d in
-    let nx = next-sector z to (p .size) pos (sz .whole) whole lt (sz .down) in
-    subst (λ (m : List ℕ). Staged (s .copies) start (to / z) m) (sym (resized-less z (groundOf s) (p .size) to g e d))
-    (shrink-kept (s .copies) start few (to / z) (p .staged) (subst (λ (n : ℕ). Staged (s .copies) start n (p .staged)) nx f)))
+    let nx = next-sector (s .sector) to (p .size) pos (sz .whole) whole lt (sz .down) in
+    subst (λ (m : List ℕ). Staged (s .stagesectors) start (to / s .sector) m) (sym (resized-less (s .sector) (groundOf s vol) (p .size) to g e d))
+    (shrink-kept (s .stagesectors) start few (to / s .sector) (p .staged) (subst (λ (n : ℕ). Staged (s .stagesectors) start n (p .staged)) nx f)))
     (λ d. let q : p .size ≡ to = omega (arith, ltb-false (p .size) to e, ltb-false to (p .size) d) in
-    subst (λ (m : List ℕ). Staged (s .copies) start (to / z) m) (sym (resized-same z (groundOf s) (p .size) to g e d))
-    (subst (λ (n : ℕ). Staged (s .copies) start (n / z) (p .staged)) q f)))
+    subst (λ (m : List ℕ). Staged (s .stagesectors) start (to / s .sector) m) (sym (resized-same (s .sector) (groundOf s vol) (p .size) to g e d))
+    (subst (λ (n : ℕ). Staged (s .stagesectors) start (n / s .sector) (p .staged)) q f)))
 
 pub swap-asks : (b : Bool) (staged : List ℕ) (at to : ℕ) → length (those (λ n. eqb (getD staged n none) none) (pick b (at ∷ []) (at ∷ to ∷ [])))
     ≡ pick b (asks staged at) (asks staged at + asks staged to)
@@ -360,37 +361,37 @@ swap-asks false staged at to = wanted-two staged at to
 
 -- ---- each instruction
 
-module _ (z : ℕ) (s : Setting) (p : Progress) (start : ℕ) (pos : 0 < z) (few : s .copies ≤ 16) (most : s .sectors ≤ length (p .staged))
-    (whole : p .size % z ≡ 0)
-    (under : p .size / z ≤ length (p .staged)) (f : Staged (s .copies) start (p .size / z) (p .staged)) (bytes : List ℕ) {r : Spot → List ℕ} where
-  pub effect-kept : (op : Op) (a : Args) (d : List ℕ) (n : ℕ) → Passed z s r p op a n → Staged (s .copies) start (newSize (p .size) op a / z)
-      (effect z (groundOf s) (p .size) op a d (record { staged = p .staged; bytes = bytes }) .staged)
+module _ (s : Setting) (vol : Volume) (p : Progress) (start : ℕ) (pos : 0 < (s .sector)) (few : s .stagesectors ≤ 16) (most : s .disksectors ≤ length (p .staged))
+    (whole : p .size % s .sector ≡ 0)
+    (under : p .size / s .sector ≤ length (p .staged)) (f : Staged (s .stagesectors) start (p .size / s .sector) (p .staged)) (bytes : List ℕ) {r : Spot → List ℕ} where
+  pub effect-kept : (op : Op) (a : Args) (d : List ℕ) (n : ℕ) → Passed s r p op a n → Staged (s .stagesectors) start (newSize (p .size) op a / s .sector)
+      (effect (s .sector) (groundOf s vol) (p .size) op a d (record { staged = p .staged; bytes = bytes }) .staged)
   unfolding effect newSize badSpans wanted touched
   effect-kept Read a d n q = f
   effect-kept ReadSector a d n q = f
   effect-kept Write a d n q =
-      subst (λ (m : List ℕ). Staged (s .copies) start (p .size / z) m) (sym (written-map z (groundOf s) (a .first) _ _))
-      (one-kept z s p start pos few whole f (a .first) (span-in z (p .size) (a .first) (a .len) (q .spans))
-      (omega (arith, q .free, wanted-one (p .staged) (a .first / z))))
+      subst (λ (m : List ℕ). Staged (s .stagesectors) start (p .size / s .sector) m) (sym (written-map (s .sector) (groundOf s vol) (a .first) _ _))
+      (one-kept s p start pos few whole f (a .first) (span-in (s .sector) (p .size) (a .first) (a .len) (q .spans))
+      (omega (arith, q .free, wanted-one (p .staged) (a .first / s .sector))))
   effect-kept Copy a d n q =
-      subst (λ (m : List ℕ). Staged (s .copies) start (p .size / z) m) (sym (written-map z (groundOf s) (a .first) _ _))
-      (one-kept z s p start pos few whole f (a .first) (span-in z (p .size) (a .first) (a .len) (either-left _ _ (q .spans)))
-      (omega (arith, q .free, wanted-one (p .staged) (a .first / z))))
+      subst (λ (m : List ℕ). Staged (s .stagesectors) start (p .size / s .sector) m) (sym (written-map (s .sector) (groundOf s vol) (a .first) _ _))
+      (one-kept s p start pos few whole f (a .first) (span-in (s .sector) (p .size) (a .first) (a .len) (either-left _ _ (q .spans)))
+      (omega (arith, q .free, wanted-one (p .staged) (a .first / s .sector))))
   effect-kept Swap a d n q =
-      subst (λ (m : List ℕ). Staged (s .copies) start (p .size / z) m)
-      (sym (written-map z (groundOf s) (a .first) _ _ ∙ ap (λ (m : List ℕ). copiedMap (s .copies) (a .first / z) m)
-      (written-map z (groundOf s) (a .second) _ _)))
-      (two-kept z s p start pos few whole f (a .second) (a .first) (span-in z (p .size) (a .second) (a .len) (either-right _ _ (q .spans)))
-      (span-in z (p .size) (a .first) (a .len) (either-left _ _ (q .spans))) under
-      (subst (λ (x : ℕ). x ≤ freeCopies s p) (swap-asks (eqb (a .first / z) (a .second / z)) (p .staged) (a .second / z) (a .first / z)) (q .free)))
+      subst (λ (m : List ℕ). Staged (s .stagesectors) start (p .size / s .sector) m)
+      (sym (written-map (s .sector) (groundOf s vol) (a .first) _ _ ∙ ap (λ (m : List ℕ). copiedMap (s .stagesectors) (a .first / s .sector) m)
+      (written-map (s .sector) (groundOf s vol) (a .second) _ _)))
+      (two-kept s p start pos few whole f (a .second) (a .first) (span-in (s .sector) (p .size) (a .second) (a .len) (either-right _ _ (q .spans)))
+      (span-in (s .sector) (p .size) (a .first) (a .len) (either-left _ _ (q .spans))) under
+      (subst (λ (x : ℕ). x ≤ freeCopies s p) (swap-asks (eqb (a .first / s .sector) (a .second / s .sector)) (p .staged) (a .second / s .sector) (a .first / s .sector)) (q .free)))
   effect-kept Truncate a d n q =
-      resized-kept z s p start (a .first) bytes pos few whole f (sized z (p .size) (a .first) (q .spans))
-      (le-trans (omega (arith, q .fits)) (mul-le-mul-right {m = s .sectors} {n = length (p .staged)} z most))
+      resized-kept s vol p start (a .first) bytes pos few whole f (sized (s .sector) (p .size) (a .first) (q .spans))
+      (le-trans (omega (arith, q .fits)) (mul-le-mul-right {m = s .disksectors} {n = length (p .staged)} (s .sector) most))
       (λ e. omega (
         arith,
         q .free,
-        wanted-one (p .staged) (p .size / z),
-        ap (λ (l : List ℕ). length (those (λ n. eqb (getD (p .staged) n none) none) l)) (picks (ltb (p .size) (a .first)) (p .size / z ∷ []) [] e),
+        wanted-one (p .staged) (p .size / s .sector),
+        ap (λ (l : List ℕ). length (those (λ n. eqb (getD (p .staged) n none) none) l)) (picks (ltb (p .size) (a .first)) (p .size / s .sector ∷ []) [] e),
       ))
   effect-kept Unknown a d n q = f
 
@@ -411,16 +412,16 @@ effect-length z n size Truncate a d g =
     (λ d. ap length (resized-same z n size (a .first) g e d)))
 effect-length z n size Unknown a d g = refl
 
-pub size-whole : (z : ℕ) (s : Setting) {r : Spot → List ℕ} (p : Progress) (op : Op) (a : Args) (n : ℕ) → Passed z s r p op a n → p .size % z ≡ 0
-    → newSize (p .size) op a % z ≡ 0
+pub size-whole : (s : Setting) {r : Spot → List ℕ} (p : Progress) (op : Op) (a : Args) (n : ℕ) → Passed s r p op a n → p .size % s .sector ≡ 0
+    → newSize (p .size) op a % s .sector ≡ 0
 unfolding newSize badSpans
-size-whole z s p Read a n q w = w
-size-whole z s p ReadSector a n q w = w
-size-whole z s p Write a n q w = w
-size-whole z s p Copy a n q w = w
-size-whole z s p Swap a n q w = w
-size-whole z s p Truncate a n q w = sized z (p .size) (a .first) (q .spans) .whole
-size-whole z s p Unknown a n q w = w
+size-whole s p Read a n q w = w
+size-whole s p ReadSector a n q w = w
+size-whole s p Write a n q w = w
+size-whole s p Copy a n q w = w
+size-whole s p Swap a n q w = w
+size-whole s p Truncate a n q w = sized (s .sector) (p .size) (a .first) (q .spans) .whole
+size-whole s p Unknown a n q w = w
 
 pub size-read : (op : Op) (size : ℕ) (a : Args) → changes op ≡ false → newSize size op a ≡ size
 unfolding kind newSize

@@ -12,7 +12,8 @@ use Rattle.host.specs.Empty.{noPlace}
 use Rattle.host.specs.Places.{hasId, whose}
 use Rattle.host.specs.Order.{placeInOrder, twins}
 use Rattle.host.proofs.Laws.Whose.{no-id}
-use Rattle.machine_rules.specs.View.{Setting, committedSpots}
+use Rattle.machine_rules.specs.View.{committedSpots}
+use Rattle.machine_rules.specs.declared.Setting.{Setting}
 use Rattle.machine_rules.specs.Seats.{seated, committedSeats, seats, nobody, allSeats}
 use Rattle.machine_rules.specs.StageFirst.{writing, reading}
 use Rattle.machine_rules.proofs.Laws.Search.{Apart}
@@ -51,9 +52,9 @@ pub apart-reading : (z : ℕ) (ps : List Place) → Apart (reading z ps)
 unfolding nobody
 apart-reading z ps = record { one = λ i j u v. never (sym u); there = λ h. absurd (omega arith) }
 
-pub apart-writing : (z : ℕ) (s : Setting) (p : Progress) → apart twins (s .places) ≡ true
-    → whose (s .terms .head .contract) (s .places) .held ≡ true → Apart (writing z s p)
-apart-writing z s p a held = record {
+pub apart-writing : (s : Setting) (p : Progress) → apart twins (s .places) ≡ true
+    → whose (s .terms .head .contract) (s .places) .held ≡ true → Apart (writing s p)
+apart-writing s p a held = record {
   one = one-place (s .terms .head .contract) (s .places) a;
   there = λ h. first-place (s .terms .head .contract) (s .places) held;
 }

@@ -6,7 +6,8 @@ use Rattle.sia.specs.Names.{opOf}
 use Rattle.area.proofs.Laws.Slots as Slots
 use Rattle.host.specs.Places.{whose}
 use Rattle.host.specs.Order.{parentInOrder, termsInOrder}
-use Rattle.machine_rules.specs.View.{Setting, Turn, readOnlyMode}
+use Rattle.machine_rules.specs.View.{Turn, readOnlyMode, Volume}
+use Rattle.machine_rules.specs.declared.Setting.{Setting}
 use Rattle.machine_rules.specs.Inputs.{dataIn, argsOf, inputsOf}
 use Rattle.machine_rules.specs.declared.Args.{Args}
 use Rattle.machine_rules.specs.Plan.{cost, newSize, judged}
@@ -35,9 +36,9 @@ terms-size ps t m n f h =
     (λ e. skips (readOnlyMode t) (eqb n 0) _ e ∙ sym (skips (readOnlyMode t) (eqb m 0) _ e) ∙ both-left _ _ h))
     (both-right (pick (readOnlyMode t) (eqb m 0) (whose (t .head .contract) ps .held)) _ h)
 
-pub failed-good : (z : ℕ) (s : Setting) (p : Progress) → p .failed ≡ false → Good z s p → Good z s (failedProgress p)
+pub failed-good : (s : Setting) (p : Progress) → p .failed ≡ false → Good s p → Good s (failedProgress p)
 unfolding failedProgress
-failed-good z s p e g =
+failed-good s p e g =
     let o = g .orderly in
     record {
       orderly = record {
@@ -52,46 +53,46 @@ failed-good z s p e g =
       entries = g .entries;
     }
 
-pub ran-good : (z : ℕ) (s : Setting) (p : Progress) (op : Op) (a : Args) (n : ℕ) (d bytes : List ℕ) {r : Spot → List ℕ} → Lent z s → p .failed ≡ false
-    → p .ran < s .terms .head .count → Passed z s r p op a n → Good z s p
-    → Good z s (ranProgress p (cost (s .terms .head .length) (s .terms .prices) op (a .len)) n (newSize (p .size) op a)
-    (effect z (groundOf s) (p .size) op a d (record { staged = p .staged; bytes = bytes }) .staged))
+pub ran-good : (s : Setting) (vol : Volume) (p : Progress) (op : Op) (a : Args) (n : ℕ) (d bytes : List ℕ) {r : Spot → List ℕ} → Lent s → p .failed ≡ false
+    → p .ran < s .terms .head .count → Passed s r p op a n → Good s p
+    → Good s (ranProgress p (cost (s .terms .head .length) (s .terms .prices) op (a .len)) n (newSize (p .size) op a)
+    (effect (s .sector) (groundOf s vol) (p .size) op a d (record { staged = p .staged; bytes = bytes }) .staged))
 unfolding ranProgress
-ran-good z s p op a n d bytes L e lt q g =
+ran-good s vol p op a n d bytes L e lt q g =
     let o = g .orderly in
-    let u = few-sectors z s p L g in
+    let u = few-sectors s p L g in
     record {
       orderly = record {
         ran = omega arith;
         paid = q .paid;
         fits = omega (arith, q .room, skips {A = ℕ} (p .failed) 0 72 e);
-        whole = size-whole z s p op a n q (o .whole);
+        whole = size-whole s p op a n q (o .whole);
         within = q .fits;
-        staged = effect-kept z s p (startOf z s) (Slots.some z (L .size)) (L .few) (omega (arith, L .most, g .entries)) (o .whole)
+        staged = effect-kept s vol p (startOf s) (Slots.some (s .sector) (L .size)) (L .few) (omega (arith, L .most, g .entries)) (o .whole)
             (omega (arith, u, g .entries)) (o .staged) bytes op a d n q;
       };
       terms = terms-size (s .places) (s .terms) (p .size) _ (λ r. size-read op (p .size) a (not-both (changes op) (q .allowed) r)) (g .terms);
-      entries = effect-length z (groundOf s) (p .size) op a d _ ∙ g .entries;
+      entries = effect-length (s .sector) (groundOf s vol) (p .size) op a d _ ∙ g .entries;
     }
 
 -- ---- a step, a run
 
-pub stepped-good : (z : ℕ) (s : Setting) (i : Instruction) (l : List (List ℕ)) (t : Turn) → Lent z s → going (s .terms) (t .progress) ≡ true
-    → Good z s (t .progress) → Good z s (stepped z s i l t .progress)
+pub stepped-good : (s : Setting) (vol : Volume) (i : Instruction) (l : List (List ℕ)) (t : Turn) → Lent s → going (s .terms) (t .progress) ≡ true
+    → Good s (t .progress) → Good s (stepped s vol i l t .progress)
 unfolding stepped succeeding failing
-stepped-good z s i l t L h g =
-    by (eqb (judged z s (rootAt z s t) (t .progress) i l) 0)
-    (λ e. subst (λ (x : Turn). Good z s (x .progress)) (sym (picks (eqb (judged z s (rootAt z s t) (t .progress) i l) 0) _ _ e))
-    (ran-good z s (t .progress) (opOf (i .name)) (argsOf (opOf (i .name)) l) _ (dataIn l) (t .stage) L (not-failed s t h) (left-going s t h .1)
-    (passed z s (rootAt z s t) (t .progress) i l (eqb-true _ _ e)) g))
-    (λ e. subst (λ (x : Turn). Good z s (x .progress)) (sym (skips (eqb (judged z s (rootAt z s t) (t .progress) i l) 0) _ _ e))
-    (failed-good z s (t .progress) (not-failed s t h) g))
+stepped-good s vol i l t L h g =
+    by (eqb (judged s (rootAt s vol t) (t .progress) i l) 0)
+    (λ e. subst (λ (x : Turn). Good s (x .progress)) (sym (picks (eqb (judged s (rootAt s vol t) (t .progress) i l) 0) _ _ e))
+    (ran-good s vol (t .progress) (opOf (i .name)) (argsOf (opOf (i .name)) l) _ (dataIn l) (t .stage) L (not-failed s t h) (left-going s t h .1)
+    (passed s (rootAt s vol t) (t .progress) i l (eqb-true _ _ e)) g))
+    (λ e. subst (λ (x : Turn). Good s (x .progress)) (sym (skips (eqb (judged s (rootAt s vol t) (t .progress) i l) 0) _ _ e))
+    (failed-good s (t .progress) (not-failed s t h) g))
 
-pub runs-good : (z : ℕ) (s : Setting) (a : List ℕ) (k n : ℕ) (t : Turn) → Lent z s → Good z s (t .progress) → Good z s (runs z s a k n t .progress)
+pub runs-good : (s : Setting) (vol : Volume) (a : List ℕ) (k n : ℕ) (t : Turn) → Lent s → Good s (t .progress) → Good s (runs s vol a k n t .progress)
 unfolding runs step
-runs-good z s a k zero t L g = g
-runs-good z s a k (suc n) t L g =
+runs-good s vol a k zero t L g = g
+runs-good s vol a k (suc n) t L g =
     by (ready s k t)
-    (λ r. subst (λ (x : Turn). Good z s (x .progress)) (sym (runs-go z s a k n t r))
-    (runs-good z s a k n (step z s a t) L (stepped-good z s (current s t) (inputsOf (current s t) a) t L (ready-going s k t r) g)))
-    (λ r. subst (λ (x : Turn). Good z s (x .progress)) (sym (runs-stop z s a k (suc n) t r)) g)
+    (λ r. subst (λ (x : Turn). Good s (x .progress)) (sym (runs-go s vol a k n t r))
+    (runs-good s vol a k n (step s vol a t) L (stepped-good s vol (current s t) (inputsOf (current s t) a) t L (ready-going s k t r) g)))
+    (λ r. subst (λ (x : Turn). Good s (x .progress)) (sym (runs-stop s vol a k (suc n) t r)) g)

@@ -14,7 +14,8 @@ use Rattle.tree.specs.Walk.{count}
 use Rattle.tree.proofs.Promise.{roots}
 use Rattle.sia.specs.Names.{opOf}
 use Rattle.sia.specs.Encode.{joined}
-use Rattle.machine_rules.specs.View.{Way, kept, worked, Setting, Turn, sector, parent, committedSpots}
+use Rattle.machine_rules.specs.View.{Way, kept, worked, Turn, sector, parent, committedSpots, Volume}
+use Rattle.machine_rules.specs.declared.Setting.{Setting}
 use Rattle.machine_rules.specs.Roots.{sectorRoot, keptRoot, rootBy, rootOf, contractRoot, segments, rangeProof, rootAt, rootOnDisk}
 use Rattle.machine_rules.proofs.Laws.Worked.{proof-counted}
 use Rattle.machine_rules.proofs.Laws.Areas.{rehashed-length, effect-bytes}
@@ -40,27 +41,27 @@ use Rattle.machine_rules.specs.declared.Spot.the-variants.{OnDisk, InSta
 
 -- ---- what a read hands out is as long as it was asked for
 
-pub sector-length : (z : ℕ) (s : Setting) (stage : List ℕ) (x : Spot) → length (s .disk) ≡ s .sectors * z → length stage ≡ s .copies * z → valid s x ≡ true
-    → length (sector z (s .disk) stage x) ≡ z
+pub sector-length : (s : Setting) (vol : Volume) (stage : List ℕ) (x : Spot) → length (vol .disk) ≡ s .disksectors * s .sector → length stage ≡ s .stagesectors * s .sector → valid s x ≡ true
+    → length (sector (s .sector) (vol .disk) stage x) ≡ (s .sector)
 unfolding sector valid
-sector-length z s stage (OnDisk n) d e v = slot-length (s .disk) n (s .sectors) z (ltb-true _ _ v) d
-sector-length z s stage (InStage n) d e v = slot-length stage n (s .copies) z (ltb-true _ _ v) e
+sector-length s vol stage (OnDisk n) d e v = slot-length (vol .disk) n (s .disksectors) (s .sector) (ltb-true _ _ v) d
+sector-length s vol stage (InStage n) d e v = slot-length stage n (s .stagesectors) (s .sector) (ltb-true _ _ v) e
 
-output-length : (z : ℕ) (s : Setting) (stage : List ℕ) (l : List Spot) (a : Args) → length (s .disk) ≡ s .sectors * z → length stage ≡ s .copies * z
+output-length : (s : Setting) (vol : Volume) (stage : List ℕ) (l : List Spot) (a : Args) → length (vol .disk) ≡ s .disksectors * s .sector → length stage ≡ s .stagesectors * s .sector
     → every (valid s) l ≡ true
-    → badSpan z (length l * z) (a .first) (a .len) ≡ false → length (outputOf z (s .disk) stage l a) ≡ a .len
+    → badSpan (s .sector) (length l * s .sector) (a .first) (a .len) ≡ false → length (outputOf (s .sector) (vol .disk) stage l a) ≡ a .len
 unfolding outputOf badSpan every
-output-length z s stage [] a d e v b =
+output-length s vol stage [] a d e v b =
     let x = neither (eqb (a .len) 0) _ b in
-    let y = neither (ltb (0 * z) (a .first + a .len)) _ (x .1) in
-    let k : 0 * z ≡ 0 = zero-mul z in
-    omega (arith, ltb-false (0 * z) (a .first + a .len) (y .0), k)
-output-length z s stage (c ∷ cs) a d e v b =
+    let y = neither (ltb (0 * s .sector) (a .first + a .len)) _ (x .1) in
+    let k : 0 * s .sector ≡ 0 = zero-mul (s .sector) in
+    omega (arith, ltb-false (0 * s .sector) (a .first + a .len) (y .0), k)
+output-length s vol stage (c ∷ cs) a d e v b =
     let x = neither (eqb (a .len) 0) _ b in
-    let y = neither (ltb (length (c ∷ cs) * z) (a .first + a .len)) _ (x .1) in
-    let w = sector-length z s stage (getD (c ∷ cs) (a .first / z) c) d e (every-at (valid s) (c ∷ cs) (a .first / z) c v (both-left _ _ v)) in
-    length-part (sector z (s .disk) stage (getD (c ∷ cs) (a .first / z) c)) (a .first % z) (a .len)
-    (omega (arith, w, ltb-false z (a .first % z + a .len) (y .1)))
+    let y = neither (ltb (length (c ∷ cs) * s .sector) (a .first + a .len)) _ (x .1) in
+    let w = sector-length s vol stage (getD (c ∷ cs) (a .first / s .sector) c) d e (every-at (valid s) (c ∷ cs) (a .first / s .sector) c v (both-left _ _ v)) in
+    length-part (sector (s .sector) (vol .disk) stage (getD (c ∷ cs) (a .first / s .sector) c)) (a .first % s .sector) (a .len)
+    (omega (arith, w, ltb-false (s .sector) (a .first % s .sector + a .len) (y .1)))
 
 -- the output part of a record: for a change nothing, else what was read
 shown : (n : ℕ) (l : List ℕ) → length l ≡ n → length (pick (eqb n 0) [] l) ≡ n
@@ -89,13 +90,13 @@ read-span z size n Swap a e b = never (sym e)
 read-span z size n Truncate a e b = never (sym e)
 read-span z size n Unknown a e b = never (sym e)
 
-shown-length : (z : ℕ) (s : Setting) (size : ℕ) (from : Source) (stage : List ℕ) (op : Op) (a : Args) → length (s .disk) ≡ s .sectors * z
-    → length stage ≡ s .copies * z
-    → every (valid s) (spots from) ≡ true → badSpans z size (length (spots from)) op a ≡ false
-    → length (pick (eqb (outputCount op a) 0) [] (outputOf z (s .disk) stage (spots from) a)) ≡ outputCount op a
-shown-length z s size from stage op a d e v b =
+shown-length : (s : Setting) (vol : Volume) (size : ℕ) (from : Source) (stage : List ℕ) (op : Op) (a : Args) → length (vol .disk) ≡ s .disksectors * s .sector
+    → length stage ≡ s .stagesectors * s .sector
+    → every (valid s) (spots from) ≡ true → badSpans (s .sector) size (length (spots from)) op a ≡ false
+    → length (pick (eqb (outputCount op a) 0) [] (outputOf (s .sector) (vol .disk) stage (spots from) a)) ≡ outputCount op a
+shown-length s vol size from stage op a d e v b =
     by (reads op)
-    (λ u. shown (outputCount op a) _ (output-length z s stage (spots from) a d e v (read-span z size (length (spots from)) op a u b) ∙ sym (count-read op a u)))
+    (λ u. shown (outputCount op a) _ (output-length s vol stage (spots from) a d e v (read-span (s .sector) size (length (spots from)) op a u b) ∙ sym (count-read op a u)))
     (λ u. shown-none (outputCount op a) _ (count-change op a u))
 
 -- ---- roots and proofs
@@ -131,28 +132,28 @@ span-within z n at len pos b first many =
     }
 
 -- the roots that a reader gives have 32 bytes, whether they are right or not
-reader-long : (way : Way) (z : ℕ) (s : Setting) (stage copies : List ℕ) → s .sectors ≤ 64 → s .copies ≤ 16 → length (s .roots) ≡ 2048 → length copies ≡ 512
+reader-long : (way : Way) (s : Setting) (vol : Volume) (stage copies : List ℕ) → s .disksectors ≤ 64 → s .stagesectors ≤ 16 → length (vol .roots) ≡ 2048 → length copies ≡ 512
     → (x : Spot) → valid s x ≡ true
-    → length (rootBy way z (s .disk) stage (s .roots) copies x) ≡ 32
+    → length (rootBy way (s .sector) (vol .disk) stage (vol .roots) copies x) ≡ 32
 unfolding rootBy keptRoot sectorRoot sector valid
-reader-long kept z s stage copies most few d e (OnDisk n) v = length-part (s .roots) (n * 32) 32 (omega (arith, ltb-true n (s .sectors) v))
-reader-long kept z s stage copies most few d e (InStage n) v = length-part copies (n * 32) 32 (omega (arith, ltb-true n (s .copies) v))
-reader-long worked z s stage copies most few d e x v = roots .root-long (sector z (s .disk) stage x)
+reader-long kept s vol stage copies most few d e (OnDisk n) v = length-part (vol .roots) (n * 32) 32 (omega (arith, ltb-true n (s .disksectors) v))
+reader-long kept s vol stage copies most few d e (InStage n) v = length-part copies (n * 32) 32 (omega (arith, ltb-true n (s .stagesectors) v))
+reader-long worked s vol stage copies most few d e x v = roots .root-long (sector (s .sector) (vol .disk) stage x)
 
-pub length-proof : (z : ℕ) (s : Setting) (stage copies : List ℕ) (from : Source) (a : Args) (asked : Bool) → Solid z s → length stage ≡ s .copies * z
-    → length (s .roots) ≡ 2048 → length copies ≡ 512
-    → every (valid s) (spots from) ≡ true → length (spots from) ≤ 64 → (asked ≡ true → Within z (length (spots from)) (a .first) (a .len))
-    → length (pick asked (rangeProof z (rootOf z s stage copies) (s .disk) stage (spots from) (a .first) (a .len)) [])
-    ≡ 32 * proofCount z asked (length (spots from)) a
+pub length-proof : (s : Setting) (vol : Volume) (stage copies : List ℕ) (from : Source) (a : Args) (asked : Bool) → Solid s vol → length stage ≡ s .stagesectors * s .sector
+    → length (vol .roots) ≡ 2048 → length copies ≡ 512
+    → every (valid s) (spots from) ≡ true → length (spots from) ≤ 64 → (asked ≡ true → Within (s .sector) (length (spots from)) (a .first) (a .len))
+    → length (pick asked (rangeProof (s .sector) (rootOf s vol stage copies) (vol .disk) stage (spots from) (a .first) (a .len)) [])
+    ≡ 32 * proofCount (s .sector) asked (length (spots from)) a
 unfolding proofCount pick rootOf
-length-proof z s stage copies from a true solid e d c v few within =
+length-proof s vol stage copies from a true solid e d c v few within =
     let size = solid .lent .size in
     let k = size .depth in
     let hi = mul-le-mul-right {m = length (spots from)} {n = 64} (2 ^ k) few in
-    proof-counted z k (size .segments) (rootOf z s stage copies) (s .disk) stage (valid s) (λ x u. sector-length z s stage x (solid .disk) e u)
-    (reader-long (s .way) z s stage copies (solid .lent .most) (solid .lent .few) d c) (spots from) v (omega (arith, hi, size .segments, size .most))
+    proof-counted (s .sector) k (size .segments) (rootOf s vol stage copies) (vol .disk) stage (valid s) (λ x u. sector-length s vol stage x (solid .disk) e u)
+    (reader-long (vol .way) s vol stage copies (solid .lent .most) (solid .lent .few) d c) (spots from) v (omega (arith, hi, size .segments, size .most))
     (a .first) (a .len) (within refl)
-length-proof z s stage copies from a false solid e d c v few within = refl
+length-proof s vol stage copies from a false solid e d c v few within = refl
 
 length-record : (number cost : ℕ) (pair : Pair) (hashes : ℕ) (proof : List ℕ) (count : ℕ) (output : List ℕ) → length (pair .root) ≡ 32 → length proof
     ≡ 32 * hashes
@@ -160,33 +161,33 @@ length-record : (number cost : ℕ) (pair : Pair) (hashes : ℕ) (proof : List �
 unfolding recordBytes
 length-record number cost pair hashes proof count output r p o = simp (length-append, length-bytes, r, p, o) (omega arith)
 
-failure-length : (z : ℕ) (s : Setting) (n : ℕ) → length (failureBytes z s n) ≡ 72
+failure-length : (s : Setting) (vol : Volume) (n : ℕ) → length (failureBytes s vol n) ≡ 72
 unfolding failureBytes startingPair pairOf
-failure-length z s n = length-record n 0 _ 0 [] 0 [] (length-root (rootOnDisk z s) (committedSpots z (parent s))) refl refl
+failure-length s vol n = length-record n 0 _ 0 [] 0 [] (length-root (rootOnDisk s vol) (committedSpots (s .sector) (parent s))) refl refl
 
 -- a proof is asked of a read
-pub asked-reads : (z : ℕ) (s : Setting) (f : Spot → List ℕ) (p : Progress) (i : Instruction) (l : List (List ℕ)) → judged z s f p i l ≡ 0 → i .proof ≡ true
+pub asked-reads : (s : Setting) (f : Spot → List ℕ) (p : Progress) (i : Instruction) (l : List (List ℕ)) → judged s f p i l ≡ 0 → i .proof ≡ true
     → reads (opOf (i .name)) ≡ true
 unfolding judged planned plannedInputs plannedArgs weighed fitted badProof
-asked-reads z s f p i l e h =
+asked-reads s f p i l e h =
     let inputs = passes _ 21 _ (passes _ 20 _ e .1) .1 in
     let c = passes _ 26 _ (passes _ 25 _ (passes _ 24 _ (passes _ 23 _ (passes _ 22 _ inputs .1) .1) .1) .1) in
     not-false _ (either-left _ _ (sym (picks (i .proof) _ false h) ∙ c .0))
 
 -- and then 27 did not apply
-pub asked-right : (z : ℕ) (s : Setting) (f : Spot → List ℕ) (p : Progress) (i : Instruction) (l : List (List ℕ)) → judged z s f p i l ≡ 0 → i .proof ≡ true
+pub asked-right : (s : Setting) (f : Spot → List ℕ) (p : Progress) (i : Instruction) (l : List (List ℕ)) → judged s f p i l ≡ 0 → i .proof ≡ true
     → badProof (opOf (i .name)) (argsOf (opOf (i .name)) l) ≡ false
 unfolding judged planned plannedInputs plannedArgs weighed fitted
-asked-right z s f p i l e h =
+asked-right s f p i l e h =
     let inputs = passes _ 21 _ (passes _ 20 _ e .1) .1 in
     let c = passes _ 26 _ (passes _ 25 _ (passes _ 24 _ (passes _ 23 _ (passes _ 22 _ inputs .1) .1) .1) .1) in
     sym (picks (i .proof) _ false h) ∙ c .0
 
 -- 21 to 23 did not apply to an instruction that runs
-pub well-formed : (z : ℕ) (s : Setting) (f : Spot → List ℕ) (p : Progress) (i : Instruction) (l : List (List ℕ)) → judged z s f p i l ≡ 0
+pub well-formed : (s : Setting) (f : Spot → List ℕ) (p : Progress) (i : Instruction) (l : List (List ℕ)) → judged s f p i l ≡ 0
     → (illFormed i ≡ false) × (pastEnd (s .terms .head .length) i ≡ false) × (wellFormed (opOf (i .name)) l ≡ true)
 unfolding judged planned plannedInputs plannedArgs
-well-formed z s f p i l e =
+well-formed s f p i l e =
     let c21 = passes _ 20 _ e in
     let c22 = passes _ 21 _ (c21 .1) in
     (c21 .0, c22 .0, not-false _ (passes _ 22 _ (c22 .1) .0))
@@ -201,42 +202,42 @@ proof-right op a e =
     let y = neither (not (eqb (a .first % 64) 0)) _ (x .1) in
     (eqb-true _ _ (not-false _ (y .0)), eqb-true _ _ (not-false _ (y .1)))
 
-success-length : (z : ℕ) (s : Setting) (f : Spot → List ℕ) (p : Progress) (asked : Bool) (op : Op) (a : Args) (n count : ℕ) (d bytes copies : List ℕ)
-    → Solid z s → Good z s p
-    → length bytes ≡ s .copies * z → length (s .roots) ≡ 2048 → length copies ≡ 512 → Passed z s f p op a count → (asked ≡ true → reads op ≡ true)
+success-length : (s : Setting) (vol : Volume) (f : Spot → List ℕ) (p : Progress) (asked : Bool) (op : Op) (a : Args) (n count : ℕ) (d bytes copies : List ℕ)
+    → Solid s vol → Good s p
+    → length bytes ≡ s .stagesectors * s .sector → length (vol .roots) ≡ 2048 → length copies ≡ 512 → Passed s f p op a count → (asked ≡ true → reads op ≡ true)
     → (asked ≡ true → badProof op a ≡ false)
-    → let g = effect z (groundOf s) (p .size) op a d (record { staged = p .staged; bytes = bytes }) in
-    length (successBytes z s (rootOf z s (g .bytes) copies) p asked (sourceOf z s f p op (a .key)) op a n (newSize (p .size) op a) g)
-    ≡ recordCount z asked (length (spots (sourceOf z s f p op (a .key)))) op a
+    → let g = effect (s .sector) (groundOf s vol) (p .size) op a d (record { staged = p .staged; bytes = bytes }) in
+    length (successBytes s vol (rootOf s vol (g .bytes) copies) p asked (sourceOf s f p op (a .key)) op a n (newSize (p .size) op a) g)
+    ≡ recordCount (s .sector) asked (length (spots (sourceOf s f p op (a .key)))) op a
 unfolding successBytes recordCount runningPair
-success-length z s f p asked op a n count d bytes copies solid g e r c q asks right =
-    let from = sourceOf z s f p op (a .key) in
-    let u = few-sectors z s p (solid .lent) g in
-    let valid = source-valid z s p solid (g .orderly .staged) (omega (arith, u, g .entries)) f op (a .key) in
-    let stage = effect-bytes z (groundOf s) (p .size) op a d (record { staged = p .staged; bytes = bytes }) ∙ e in
-    length-record 0 n _ (proofCount z asked (length (spots from)) a) _ (outputCount op a) _
+success-length s vol f p asked op a n count d bytes copies solid g e r c q asks right =
+    let from = sourceOf s f p op (a .key) in
+    let u = few-sectors s p (solid .lent) g in
+    let valid = source-valid s vol p solid (g .orderly .staged) (omega (arith, u, g .entries)) f op (a .key) in
+    let stage = effect-bytes (s .sector) (groundOf s vol) (p .size) op a d (record { staged = p .staged; bytes = bytes }) ∙ e in
+    length-record 0 n _ (proofCount (s .sector) asked (length (spots from)) a) _ (outputCount op a) _
     (length-root _ _)
-    (length-proof z s _ copies from a asked solid stage r c valid (few-spots z s f p op (a .key) (solid .small) u)
+    (length-proof s vol _ copies from a asked solid stage r c valid (few-spots s f p op (a .key) (solid .small) u)
     (λ h. let w = proof-right op a (right h) in
-    span-within z (length (spots from)) (a .first) (a .len) (Slots.some z (solid .lent .size))
-    (read-span z (p .size) (length (spots from)) op a (asks h) (q .spans))
+    span-within (s .sector) (length (spots from)) (a .first) (a .len) (Slots.some (s .sector) (solid .lent .size))
+    (read-span (s .sector) (p .size) (length (spots from)) op a (asks h) (q .spans))
     (w .0) (w .1)))
-    (shown-length z s (p .size) from _ op a (solid .disk) stage valid (q .spans))
+    (shown-length s vol (p .size) from _ op a (solid .disk) stage valid (q .spans))
 
 -- written bytes grow by the record's length
-pub stepped-written : (z : ℕ) (s : Setting) (i : Instruction) (l : List (List ℕ)) (t : Turn) → Solid z s → Good z s (t .progress) → length (t .stage)
-    ≡ s .copies * z
-    → length (s .roots) ≡ 2048 → length (t .roots) ≡ 512 → stepped z s i l t .progress .written ≡ t .progress .written + length (recordOf z s i l t)
+pub stepped-written : (s : Setting) (vol : Volume) (i : Instruction) (l : List (List ℕ)) (t : Turn) → Solid s vol → Good s (t .progress) → length (t .stage)
+    ≡ s .stagesectors * s .sector
+    → length (vol .roots) ≡ 2048 → length (t .roots) ≡ 512 → stepped s vol i l t .progress .written ≡ t .progress .written + length (recordOf s vol i l t)
 unfolding stepped recordOf succeeding failing ranProgress failedProgress
-stepped-written z s i l t solid g e d c =
-    let f = rootAt z s t in
-    by (eqb (judged z s (rootAt z s t) (t .progress) i l) 0)
-    (λ u. ap (λ (x : Turn). x .progress .written) (picks (eqb (judged z s (rootAt z s t) (t .progress) i l) 0) _ _ u)
+stepped-written s vol i l t solid g e d c =
+    let f = rootAt s vol t in
+    by (eqb (judged s (rootAt s vol t) (t .progress) i l) 0)
+    (λ u. ap (λ (x : Turn). x .progress .written) (picks (eqb (judged s (rootAt s vol t) (t .progress) i l) 0) _ _ u)
     ∙ ap (λ (n : ℕ). t .progress .written + n)
-    (sym (success-length z s (rootAt z s t) (t .progress) (i .proof) (opOf (i .name)) (argsOf (opOf (i .name)) l) _ _ (dataIn l) (t .stage) _ solid g e d
-    (rehashed-length z _ _ (t .roots) ∙ c) (passed z s (rootAt z s t) (t .progress) i l (eqb-true _ _ u))
-    (asked-reads z s (rootAt z s t) (t .progress) i l (eqb-true _ _ u)) (asked-right z s (rootAt z s t) (t .progress) i l (eqb-true _ _ u))))
-    ∙ ap (λ (x : List ℕ). t .progress .written + length x) (sym (picks (eqb (judged z s (rootAt z s t) (t .progress) i l) 0) _ _ u)))
-    (λ u. ap (λ (x : Turn). x .progress .written) (skips (eqb (judged z s (rootAt z s t) (t .progress) i l) 0) _ _ u)
-    ∙ ap (λ (n : ℕ). t .progress .written + n) (sym (failure-length z s _))
-    ∙ ap (λ (x : List ℕ). t .progress .written + length x) (sym (skips (eqb (judged z s (rootAt z s t) (t .progress) i l) 0) _ _ u)))
+    (sym (success-length s vol (rootAt s vol t) (t .progress) (i .proof) (opOf (i .name)) (argsOf (opOf (i .name)) l) _ _ (dataIn l) (t .stage) _ solid g e d
+    (rehashed-length (s .sector) _ _ (t .roots) ∙ c) (passed s (rootAt s vol t) (t .progress) i l (eqb-true _ _ u))
+    (asked-reads s (rootAt s vol t) (t .progress) i l (eqb-true _ _ u)) (asked-right s (rootAt s vol t) (t .progress) i l (eqb-true _ _ u))))
+    ∙ ap (λ (x : List ℕ). t .progress .written + length x) (sym (picks (eqb (judged s (rootAt s vol t) (t .progress) i l) 0) _ _ u)))
+    (λ u. ap (λ (x : Turn). x .progress .written) (skips (eqb (judged s (rootAt s vol t) (t .progress) i l) 0) _ _ u)
+    ∙ ap (λ (n : ℕ). t .progress .written + n) (sym (failure-length s vol _))
+    ∙ ap (λ (x : List ℕ). t .progress .written + length x) (sym (skips (eqb (judged s (rootAt s vol t) (t .progress) i l) 0) _ _ u)))

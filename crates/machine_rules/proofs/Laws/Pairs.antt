@@ -5,7 +5,8 @@ use Rattle.lists.specs.Tab.{tab}
 use Rattle.lists.proofs.Laws.Pick.{by, skips, never, both-join, both-left, both-right}
 use Rattle.area.proofs.Laws.Same.{same-eq, eq-same}
 use Rattle.host.specs.Places.{whose, committed}
-use Rattle.machine_rules.specs.View.{Setting, parent, spotOf, parentSpots, committedSpots}
+use Rattle.machine_rules.specs.View.{parent, spotOf, parentSpots, committedSpots, Volume}
+use Rattle.machine_rules.specs.declared.Setting.{Setting}
 use Rattle.machine_rules.specs.Roots.{rootOnDisk, contractRoot}
 use Rattle.machine_rules.specs.Record.{pairing, samePair, pairOf, startingPair, runningPair}
 use Rattle.machine_rules.specs.Calls.{noPair}
@@ -31,15 +32,15 @@ differ-pairs one two n = by (samePair one two) (λ e. absurd (n (same-pairs one 
 
 -- ---- no parent: size 0 and root zeros
 
-pub none-starts : (z : ℕ) (s : Setting) → parent s .held ≡ false → startingPair z s ≡ noPair
+pub none-starts : (s : Setting) (vol : Volume) → parent s .held ≡ false → startingPair s vol ≡ noPair
 unfolding startingPair pairOf parent committedSpots committed each contractRoot noPair
-none-starts z s e =
+none-starts s vol e =
     let p = whose (s .terms .head .contract) (s .places) in
     ap₂ pairing (whose-nobody _ (s .places) e)
-    (ap (λ (l : List ℕ). contractRoot (rootOnDisk z s) (each OnDisk l)) (skips (p .held) (take (p .size / z) (p .slots)) [] e))
+    (ap (λ (l : List ℕ). contractRoot (rootOnDisk s vol) (each OnDisk l)) (skips (p .held) (take (p .size / s .sector) (p .slots)) [] e))
 
-pub none-runs : (z : ℕ) (s : Setting) (f : Spot → List ℕ) (p : Progress) → p .size ≡ 0 → runningPair z s f p ≡ noPair
+pub none-runs : (s : Setting) (f : Spot → List ℕ) (p : Progress) → p .size ≡ 0 → runningPair s f p ≡ noPair
 unfolding runningPair parentSpots tab contractRoot noPair
-none-runs z s f p e =
-    let none = ap (λ (n : ℕ). n / z) e ∙ zero-div z in
+none-runs s f p e =
+    let none = ap (λ (n : ℕ). n / s .sector) e ∙ zero-div (s .sector) in
     ap₂ pairing e (ap (λ (n : ℕ). contractRoot f (tab 0 n (spotOf (parent s .slots) (p .staged)))) none)

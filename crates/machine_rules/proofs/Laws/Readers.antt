@@ -16,7 +16,8 @@ use Rattle.host.specs.Empty.{none, noPlace}
 use Rattle.host.specs.Places.{hasId, whose, taken}
 use Rattle.host.specs.Facts.{Staged}
 use Rattle.host.proofs.Laws.Whose.{committed-held}
-use Rattle.machine_rules.specs.View.{Way, kept, worked, Setting, Turn, readOnlyMode, parent, freeCopies, sector, spotOf, parentSpots, committedSpots}
+use Rattle.machine_rules.specs.View.{Way, kept, worked, Turn, readOnlyMode, parent, freeCopies, sector, spotOf, parentSpots, committedSpots, Volume}
+use Rattle.machine_rules.specs.declared.Setting.{Setting}
 use Rattle.machine_rules.specs.Roots.{sectorRoot, keptRoot, rootBy, rootOf, contractRoot, rangeProof}
 use Rattle.machine_rules.specs.Seats.{seatsOf, firstSeat}
 use Rattle.machine_rules.specs.Inputs.{argsOf, illFormed, pastEnd, wellFormed}
@@ -79,63 +80,63 @@ length-slots id (p ∷ ps) h =
     (λ e. ap (λ (x : Place). length (x .slots)) (picks (hasId id p) p (whose id ps) e) ∙ h .0)
     (λ e. ap (λ (x : Place). length (x .slots)) (skips (hasId id p) p (whose id ps) e) ∙ length-slots id ps (h .1))
 
-module _ (z : ℕ) (s : Setting) (P : Spot → Bool) (onDisk : every (λ n. P (OnDisk n)) (taken z (s .places)) ≡ true) where
-  pub all-committed : (id : List ℕ) → every P (committedSpots z (whose id (s .places))) ≡ true
+module _ (s : Setting) (P : Spot → Bool) (onDisk : every (λ n. P (OnDisk n)) (taken (s .sector) (s .places)) ≡ true) where
+  pub all-committed : (id : List ℕ) → every P (committedSpots (s .sector) (whose id (s .places))) ≡ true
   unfolding committedSpots
-  all-committed id = disk-every P _ (whose-every (λ n. P (OnDisk n)) z id (s .places) onDisk)
+  all-committed id = disk-every P _ (whose-every (λ n. P (OnDisk n)) (s .sector) id (s .places) onDisk)
 
-  pub all-start : every P (committedSpots z (parent s)) ≡ true
+  pub all-start : every P (committedSpots (s .sector) (parent s)) ≡ true
   unfolding parent
   all-start = all-committed (s .terms .head .contract)
 
-module _ (z : ℕ) (s : Setting) (p : Progress) (solid : Solid z s) (f : Staged (s .copies) (startOf z s) (p .size / z) (p .staged))
-    (few : p .size / z ≤ 64) (long : length (p .staged) ≡ 64) (shaped : Shaped (s .places))
-    (P : Spot → Bool) (onDisk : every (λ n. P (OnDisk n)) (taken z (s .places)) ≡ true) (inStage : (j : ℕ) → eqb (getD (p .staged) j none) none ≡ false
+module _ (s : Setting) (vol : Volume) (p : Progress) (solid : Solid s vol) (f : Staged (s .stagesectors) (startOf s) (p .size / s .sector) (p .staged))
+    (few : p .size / s .sector ≤ 64) (long : length (p .staged) ≡ 64) (shaped : Shaped (s .places))
+    (P : Spot → Bool) (onDisk : every (λ n. P (OnDisk n)) (taken (s .sector) (s .places)) ≡ true) (inStage : (j : ℕ) → eqb (getD (p .staged) j none) none ≡ false
     → P (InStage (getD (p .staged) j none)) ≡ true) where
-  slot-all : (j : ℕ) → j < startOf z s → j < 64 → P (OnDisk (getD (whose (s .terms .head .contract) (s .places) .slots) j 0)) ≡ true
+  slot-all : (j : ℕ) → j < startOf s → j < 64 → P (OnDisk (getD (whose (s .terms .head .contract) (s .places) .slots) j 0)) ≡ true
   slot-all j lt most =
       let own = whose (s .terms .head .contract) (s .places) in
       by (whose (s .terms .head .contract) (s .places) .held)
-      (λ u. subst (λ (x : ℕ). P (OnDisk x) ≡ true) (getD-take (startOf z s) (whose (s .terms .head .contract) (s .places) .slots) j 0 lt)
-      (every-get (λ n. P (OnDisk n)) (take (startOf z s) (whose (s .terms .head .contract) (s .places) .slots)) j 0
+      (λ u. subst (λ (x : ℕ). P (OnDisk x) ≡ true) (getD-take (startOf s) (whose (s .terms .head .contract) (s .places) .slots) j 0 lt)
+      (every-get (λ n. P (OnDisk n)) (take (startOf s) (whose (s .terms .head .contract) (s .places) .slots)) j 0
       (omega (
         arith,
-        length-take (startOf z s) (whose (s .terms .head .contract) (s .places) .slots),
+        length-take (startOf s) (whose (s .terms .head .contract) (s .places) .slots),
         length-slots (s .terms .head .contract) (s .places) shaped,
       ))
-      (subst (λ (l : List ℕ). every (λ n. P (OnDisk n)) l ≡ true) (committed-held z (whose (s .terms .head .contract) (s .places)) u)
-      (whose-every (λ n. P (OnDisk n)) z (s .terms .head .contract) (s .places) onDisk))))
-      (λ u. let q : startOf z s ≡ 0 = ap (λ (n : ℕ). n / z) (whose-nobody (s .terms .head .contract) (s .places) u) ∙ zero-div z in absurd (omega arith))
+      (subst (λ (l : List ℕ). every (λ n. P (OnDisk n)) l ≡ true) (committed-held (s .sector) (whose (s .terms .head .contract) (s .places)) u)
+      (whose-every (λ n. P (OnDisk n)) (s .sector) (s .terms .head .contract) (s .places) onDisk))))
+      (λ u. let q : startOf s ≡ 0 = ap (λ (n : ℕ). n / s .sector) (whose-nobody (s .terms .head .contract) (s .places) u) ∙ zero-div (s .sector) in absurd (omega arith))
 
-  spot-all : (j : ℕ) → j < p .size / z → P (spotOf (parent s .slots) (p .staged) j) ≡ true
+  spot-all : (j : ℕ) → j < p .size / s .sector → P (spotOf (parent s .slots) (p .staged) j) ≡ true
   unfolding spotOf parent
   spot-all j lt =
       by (eqb (getD (p .staged) j none) none)
       (λ e. ap P (picks (eqb (getD (p .staged) j none) none) (OnDisk (getD (whose (s .terms .head .contract) (s .places) .slots) j 0))
       (InStage (getD (p .staged) j none)) e)
-      ∙ slot-all j (unstaged z s p solid f (omega (arith, long)) j lt e) (omega arith))
+      ∙ slot-all j (unstaged s vol p solid f (omega (arith, long)) j lt e) (omega arith))
       (λ e. ap P (skips (eqb (getD (p .staged) j none) none) (OnDisk (getD (whose (s .terms .head .contract) (s .places) .slots) j 0))
       (InStage (getD (p .staged) j none)) e) ∙ inStage j e)
 
-  pub all-parent : every P (parentSpots z s p) ≡ true
+  pub all-parent : every P (parentSpots s p) ≡ true
   unfolding parentSpots
-  all-parent = every-tab P (spotOf (parent s .slots) (p .staged)) 0 (p .size / z) (λ j lo hi. spot-all j (omega arith))
+  all-parent = every-tab P (spotOf (parent s .slots) (p .staged)) 0 (p .size / s .sector) (λ j lo hi. spot-all j (omega arith))
 
-  all-contract : (id : List ℕ) → every P (spots (contractSource z s p id)) ≡ true
+  all-contract : (id : List ℕ) → every P (spots (contractSource s p id)) ≡ true
   unfolding contractSource spots
   all-contract id =
       ap (λ (l : List Spot). every P l) (pick-spots _ missing _)
       ∙ every-pick P _ [] _ (every-none P)
-      (ap (λ (l : List Spot). every P l) (pick-spots _ (seen (parentSpots z s p)) _)
-      ∙ every-pick P _ (parentSpots z s p) _ all-parent (all-committed z s P onDisk id))
+      (ap (λ (l : List Spot). every P l) (pick-spots _ (seen (parentSpots s p)) _)
+      ∙ every-pick P _ (parentSpots s p) _ all-parent (all-committed s P onDisk id))
 
-  pub all-seats : every (λ x. P (x .spot)) (seatsOf z s p) ≡ true
-  all-seats = program-every P z s p all-parent onDisk
+  pub all-seats : every (λ x. P (x .spot)) (seatsOf s p) ≡ true
+  all-seats = program-every P s p all-parent onDisk
 
-  pub all-source : (r : Spot → List ℕ) (op : Op) (key : List ℕ) → every P (spots (sourceOf z s r p op key)) ≡ true
+  pub all-source : (r : Spot → List ℕ) (op : Op) (key : List ℕ) → every P (spots (sourceOf s r p op key)) ≡ true
   unfolding sourceOf sectorSource spots
   all-source r Read key = all-contract key
-  all-source r ReadSector key = sought-every P r key (seatsOf z s p) all-seats
+  all-source r ReadSector key = sought-every P r key (seatsOf s p) all-seats
   all-source r Write key = every-none P
   all-source r Copy key = every-none P
   all-source r Swap key = every-none P
@@ -144,77 +145,77 @@ module _ (z : ℕ) (s : Setting) (p : Progress) (solid : Solid z s) (f : Staged 
 
 -- ---- the kept reader and the one that works roots out
 
-unfoldable pub withWay : Way → Setting → Setting
-withWay way s = record { sectors = s .sectors; copies = s .copies; places = s .places; terms = s .terms; disk = s .disk; roots = s .roots; way = way }
+unfoldable pub withWay : Way → Volume → Volume
+withWay way vol = record { disk = vol .disk; roots = vol .roots; way = way }
 
-disk-agrees : (z : ℕ) (s : Setting) (stage copies : List ℕ) (n : ℕ) → right z (s .disk) (s .roots) n
-    ≡ agree (rootOf z (withWay kept s) stage copies) (rootOf z (withWay worked s) stage copies) (OnDisk n)
+disk-agrees : (s : Setting) (vol : Volume) (stage copies : List ℕ) (n : ℕ) → right (s .sector) (vol .disk) (vol .roots) n
+    ≡ agree (rootOf s (withWay kept vol) stage copies) (rootOf s (withWay worked vol) stage copies) (OnDisk n)
 unfolding right agree rootOf rootBy withWay keptRoot sectorRoot sector
-disk-agrees z s stage copies n = refl
+disk-agrees s vol stage copies n = refl
 
-stage-agrees : (z : ℕ) (s : Setting) (stage copies : List ℕ) (n : ℕ) → right z stage copies n
-    ≡ agree (rootOf z (withWay kept s) stage copies) (rootOf z (withWay worked s) stage copies) (InStage n)
+stage-agrees : (s : Setting) (vol : Volume) (stage copies : List ℕ) (n : ℕ) → right (s .sector) stage copies n
+    ≡ agree (rootOf s (withWay kept vol) stage copies) (rootOf s (withWay worked vol) stage copies) (InStage n)
 unfolding right agree rootOf rootBy withWay keptRoot sectorRoot sector
-stage-agrees z s stage copies n = refl
+stage-agrees s vol stage copies n = refl
 
 -- roots that are right, of the sectors that there are while instructions run
-pub record Known (z : ℕ) (s : Setting) (t : Turn) : Type 0 where
-  pub disk : every (right z (s .disk) (s .roots)) (taken z (s .places)) ≡ true
-  pub stage : stagedRight z (t .stage) (t .roots) (t .progress .staged) ≡ true
+pub record Known (s : Setting) (vol : Volume) (t : Turn) : Type 0 where
+  pub disk : every (right (s .sector) (vol .disk) (vol .roots)) (taken (s .sector) (s .places)) ≡ true
+  pub stage : stagedRight (s .sector) (t .stage) (t .roots) (t .progress .staged) ≡ true
   pub kept : length (t .roots) ≡ 512
   pub shaped : Shaped (s .places)
 
-pub known-disk : (z : ℕ) (s : Setting) (stage copies : List ℕ) → every (right z (s .disk) (s .roots)) (taken z (s .places)) ≡ true
-    → every (λ n. agree (rootOf z (withWay kept s) stage copies) (rootOf z (withWay worked s) stage copies) (OnDisk n)) (taken z (s .places)) ≡ true
-known-disk z s stage copies h = every-alike _ _ _ (disk-agrees z s stage copies) h
+pub known-disk : (s : Setting) (vol : Volume) (stage copies : List ℕ) → every (right (s .sector) (vol .disk) (vol .roots)) (taken (s .sector) (s .places)) ≡ true
+    → every (λ n. agree (rootOf s (withWay kept vol) stage copies) (rootOf s (withWay worked vol) stage copies) (OnDisk n)) (taken (s .sector) (s .places)) ≡ true
+known-disk s vol stage copies h = every-alike _ _ _ (disk-agrees s vol stage copies) h
 
-pub known-stage : (z : ℕ) (s : Setting) (stage copies staged : List ℕ) → stagedRight z stage copies staged ≡ true → (j : ℕ)
+pub known-stage : (s : Setting) (vol : Volume) (stage copies staged : List ℕ) → stagedRight (s .sector) stage copies staged ≡ true → (j : ℕ)
     → eqb (getD staged j none) none ≡ false
-    → agree (rootOf z (withWay kept s) stage copies) (rootOf z (withWay worked s) stage copies) (InStage (getD staged j none)) ≡ true
-known-stage z s stage copies staged h j n = sym (stage-agrees z s stage copies (getD staged j none)) ∙ right-at z stage copies staged j h n
+    → agree (rootOf s (withWay kept vol) stage copies) (rootOf s (withWay worked vol) stage copies) (InStage (getD staged j none)) ≡ true
+known-stage s vol stage copies staged h j n = sym (stage-agrees s vol stage copies (getD staged j none)) ∙ right-at (s .sector) stage copies staged j h n
 
 -- ---- checks
 
 -- which way makes no difference but by the reader
-source-way : (way : Way) (z : ℕ) (s : Setting) (f : Spot → List ℕ) (p : Progress) (op : Op) (key : List ℕ) → sourceOf z (withWay way s) f p op key
-    ≡ sourceOf z s f p op key
+source-way : (way : Way) (s : Setting) (f : Spot → List ℕ) (p : Progress) (op : Op) (key : List ℕ) → sourceOf s f p op key
+    ≡ sourceOf s f p op key
 unfolding sourceOf contractSource sectorSource seatsOf readOnlyMode parentSpots parent withWay
-source-way way z s f p Read key = refl
-source-way way z s f p ReadSector key = refl
-source-way way z s f p Write key = refl
-source-way way z s f p Copy key = refl
-source-way way z s f p Swap key = refl
-source-way way z s f p Truncate key = refl
-source-way way z s f p Unknown key = refl
+source-way way s f p Read key = refl
+source-way way s f p ReadSector key = refl
+source-way way s f p Write key = refl
+source-way way s f p Copy key = refl
+source-way way s f p Swap key = refl
+source-way way s f p Truncate key = refl
+source-way way s f p Unknown key = refl
 
-source-agree : (z : ℕ) (s : Setting) (f g : Spot → List ℕ) (p : Progress) (op : Op) (key : List ℕ)
-    → every (λ x. agree f g (x .spot)) (seatsOf z s p) ≡ true
-    → sourceOf z s f p op key ≡ sourceOf z s g p op key
+source-agree : (s : Setting) (f g : Spot → List ℕ) (p : Progress) (op : Op) (key : List ℕ)
+    → every (λ x. agree f g (x .spot)) (seatsOf s p) ≡ true
+    → sourceOf s f p op key ≡ sourceOf s g p op key
 unfolding sourceOf sectorSource
-source-agree z s f g p Read key h = refl
-source-agree z s f g p ReadSector key h = ap soughtSource (first-agree f g key (seatsOf z s p) h)
-source-agree z s f g p Write key h = refl
-source-agree z s f g p Copy key h = refl
-source-agree z s f g p Swap key h = refl
-source-agree z s f g p Truncate key h = refl
-source-agree z s f g p Unknown key h = refl
+source-agree s f g p Read key h = refl
+source-agree s f g p ReadSector key h = ap soughtSource (first-agree f g key (seatsOf s p) h)
+source-agree s f g p Write key h = refl
+source-agree s f g p Copy key h = refl
+source-agree s f g p Swap key h = refl
+source-agree s f g p Truncate key h = refl
+source-agree s f g p Unknown key h = refl
 
-pub source-alike : (z : ℕ) (s : Setting) (f g : Spot → List ℕ) (p : Progress) (op : Op) (key : List ℕ) → every (λ x. agree f g (x .spot)) (seatsOf z s p) ≡ true
-    → sourceOf z (withWay kept s) f p op key ≡ sourceOf z (withWay worked s) g p op key
-source-alike z s f g p op key h = source-way kept z s f p op key ∙ source-agree z s f g p op key h ∙ sym (source-way worked z s g p op key)
+pub source-alike : (s : Setting) (f g : Spot → List ℕ) (p : Progress) (op : Op) (key : List ℕ) → every (λ x. agree f g (x .spot)) (seatsOf s p) ≡ true
+    → sourceOf s f p op key ≡ sourceOf s g p op key
+source-alike s f g p op key h = source-way kept s f p op key ∙ source-agree s f g p op key h ∙ sym (source-way worked s g p op key)
 
-inputs-alike : (z : ℕ) (s : Setting) (f g : Spot → List ℕ) (p : Progress) (i : Instruction) (op : Op) (l : List (List ℕ))
-    → every (λ x. agree f g (x .spot)) (seatsOf z s p) ≡ true
-    → plannedInputs z (withWay kept s) f p i op l ≡ plannedInputs z (withWay worked s) g p i op l
+inputs-alike : (s : Setting) (f g : Spot → List ℕ) (p : Progress) (i : Instruction) (op : Op) (l : List (List ℕ))
+    → every (λ x. agree f g (x .spot)) (seatsOf s p) ≡ true
+    → plannedInputs s f p i op l ≡ plannedInputs s g p i op l
 unfolding plannedInputs plannedArgs weighed fitted readOnlyMode freeCopies withWay
-inputs-alike z s f g p i op l h =
+inputs-alike s f g p i op l h =
     ap (λ (from : Source). pick (not (wellFormed op l)) (refused 23) (pick (both (changes op) (readOnlyMode (s .terms))) (refused 24)
-    (pick (not (isThere from)) (refused 25) (weighed z s p (i .proof) (length (spots from)) op (argsOf op l)))))
-    (source-alike z s f g p op (argsOf op l .key) h)
+    (pick (not (isThere from)) (refused 25) (weighed s p (i .proof) (length (spots from)) op (argsOf op l)))))
+    (source-alike s f g p op (argsOf op l .key) h)
 
-pub judged-alike : (z : ℕ) (s : Setting) (f g : Spot → List ℕ) (p : Progress) (i : Instruction) (l : List (List ℕ))
-    → every (λ x. agree f g (x .spot)) (seatsOf z s p) ≡ true
-    → judged z (withWay kept s) f p i l ≡ judged z (withWay worked s) g p i l
+pub judged-alike : (s : Setting) (f g : Spot → List ℕ) (p : Progress) (i : Instruction) (l : List (List ℕ))
+    → every (λ x. agree f g (x .spot)) (seatsOf s p) ≡ true
+    → judged s f p i l ≡ judged s g p i l
 unfolding judged planned withWay
-judged-alike z s f g p i l h = ap (λ (r : Plan). pick (illFormed i) (refused 21) (pick (pastEnd (s .terms .head .length) i) (refused 22) r) .number)
-    (inputs-alike z s f g p i (opOf (i .name)) l h)
+judged-alike s f g p i l h = ap (λ (r : Plan). pick (illFormed i) (refused 21) (pick (pastEnd (s .terms .head .length) i) (refused 22) r) .number)
+    (inputs-alike s f g p i (opOf (i .name)) l h)

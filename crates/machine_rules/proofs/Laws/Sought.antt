@@ -5,7 +5,8 @@ use Rattle.lists.proofs.Laws.Pick.{by, picks, skips, never}
 use Rattle.area.specs.Area.{same}
 use Rattle.area.proofs.Laws.Same.{same-eq}
 use Rattle.host.specs.Empty.{noPlace}
-use Rattle.machine_rules.specs.View.{Setting, committedSpots}
+use Rattle.machine_rules.specs.View.{committedSpots}
+use Rattle.machine_rules.specs.declared.Setting.{Setting}
 use Rattle.machine_rules.specs.Seats.{seated, committedSeats, seatsOf, firstSeat}
 use Rattle.machine_rules.specs.Plan.{Source, seen, isThere, spots, soughtSource, sectorSource}
 use Rattle.host.specs.declared.Place.{Place}
@@ -76,13 +77,13 @@ sought-root f key (y ∷ l) x e =
     (λ t. sought-root f key l x (sym (first-further f key y l t) ∙ e))
 
 -- the sector that ReadSector reads has the root
-pub source-root : (z : ℕ) (s : Setting) (f : Spot → List ℕ) (p : Progress) (key : List ℕ) (x : Spot) → sectorSource z s f p key ≡ seen (x ∷ [])
+pub source-root : (s : Setting) (f : Spot → List ℕ) (p : Progress) (key : List ℕ) (x : Spot) → sectorSource s f p key ≡ seen (x ∷ [])
     → f x ≡ key
 unfolding sectorSource soughtSource isThere spots
-source-root z s f p key x e =
-    cases (firstSeat f key (seatsOf z s p))
+source-root s f p key x e =
+    cases (firstSeat f key (seatsOf s p))
     (λ y q. let one = sym (ap soughtSource q) ∙ e in
-    sym (ap (λ (from : Source). f (getD (spots from) 0 x)) one) ∙ sought-root f key (seatsOf z s p) y q)
+    sym (ap (λ (from : Source). f (getD (spots from) 0 x)) one) ∙ sought-root f key (seatsOf s p) y q)
     (λ q. never (sym (ap isThere (sym (ap soughtSource q) ∙ e))))
 
 -- ---- among the sectors of one place

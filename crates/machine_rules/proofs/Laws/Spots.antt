@@ -15,7 +15,8 @@ use Rattle.host.specs.Places.{hasId, whose, committed, taken}
 use Rattle.host.specs.Order.{placeInOrder, slotInOrder}
 use Rattle.host.specs.Facts.{Staged}
 use Rattle.host.proofs.Laws.Whose.{whose-order, has-held, committed-held}
-use Rattle.machine_rules.specs.View.{Setting, readOnlyMode, parent, spotOf, parentSpots, committedSpots}
+use Rattle.machine_rules.specs.View.{readOnlyMode, parent, spotOf, parentSpots, committedSpots, Volume}
+use Rattle.machine_rules.specs.declared.Setting.{Setting}
 use Rattle.machine_rules.specs.Seats.{seated, committedSeats, seats, seatsOf, firstSeat}
 use Rattle.machine_rules.specs.Plan.{Source, missing, seen, spots, contractSource, soughtSource, sectorSource, sourceOf}
 use Rattle.machine_rules.specs.Facts.{Solid, startOf, valid}
@@ -32,7 +33,7 @@ use Rattle.machine_rules.specs.declared.Sought.the-variants.{At, Nowhere
 
 -- ---- spots are slots that there are
 
-pub disk-valid : (s : Setting) (l : List ℕ) → every (λ n. ltb n (s .sectors)) l ≡ true → every (valid s) (each OnDisk l) ≡ true
+pub disk-valid : (s : Setting) (l : List ℕ) → every (λ n. ltb n (s .disksectors)) l ≡ true → every (valid s) (each OnDisk l) ≡ true
 unfolding every each valid
 disk-valid s [] h = refl
 disk-valid s (x ∷ xs) h = both-join _ _ (both-left _ _ h) (disk-valid s xs (both-right _ _ h))
@@ -91,12 +92,12 @@ module _ (P : Spot → Bool) (z : ℕ) (mine : Place → Bool) where
   seats-every own ps u v = rw (every-append (λ (x : Seat). P (x .spot)) _ _, seated-every P _ 0 own u, committed-every 0 ps v) (both-join true true refl refl)
 
 -- what is true of the parent's sectors and of all committed ones is true of all that a program looks through
-pub program-every : (P : Spot → Bool) (z : ℕ) (s : Setting) (p : Progress) → every P (parentSpots z s p) ≡ true
-    → every (λ n. P (OnDisk n)) (taken z (s .places)) ≡ true → every (λ x. P (x .spot)) (seatsOf z s p) ≡ true
+pub program-every : (P : Spot → Bool) (s : Setting) (p : Progress) → every P (parentSpots s p) ≡ true
+    → every (λ n. P (OnDisk n)) (taken (s .sector) (s .places)) ≡ true → every (λ x. P (x .spot)) (seatsOf s p) ≡ true
 unfolding seatsOf every
-program-every P z s p u v =
-    every-pick (λ (x : Seat). P (x .spot)) (readOnlyMode (s .terms)) _ _ (seats-every P z _ [] (s .places) refl v)
-    (seats-every P z _ (parentSpots z s p) (s .places) u v)
+program-every P s p u v =
+    every-pick (λ (x : Seat). P (x .spot)) (readOnlyMode (s .terms)) _ _ (seats-every P (s .sector) _ [] (s .places) refl v)
+    (seats-every P (s .sector) _ (parentSpots s p) (s .places) u v)
 
 -- and so of the one that is found
 pub sought-every : (P : Spot → Bool) (f : Spot → List ℕ) (key : List ℕ) (l : List Seat) → every (λ x. P (x .spot)) l ≡ true
@@ -117,37 +118,37 @@ unfolding pick
 pick-spots true x y = refl
 pick-spots false x y = refl
 
-module _ (z : ℕ) (s : Setting) (p : Progress) (solid : Solid z s) (f : Staged (s .copies) (startOf z s) (p .size / z) (p .staged))
-    (long : p .size / z ≤ length (p .staged)) where
+module _ (s : Setting) (vol : Volume) (p : Progress) (solid : Solid s vol) (f : Staged (s .stagesectors) (startOf s) (p .size / s .sector) (p .staged))
+    (long : p .size / s .sector ≤ length (p .staged)) where
   -- a position with no copy is a committed one
-  pub unstaged : (j : ℕ) → j < p .size / z → eqb (getD (p .staged) j none) none ≡ true → j < startOf z s
+  pub unstaged : (j : ℕ) → j < p .size / s .sector → eqb (getD (p .staged) j none) none ≡ true → j < startOf s
   unstaged j lt e =
-      by (ltb j (startOf z s))
-      (λ u. ltb-true j (startOf z s) u)
-      (λ u. let le = ltb-false j (startOf z s) u in
-      let i : ℕ = j - startOf z s in
-      let at : startOf z s + (j - startOf z s) ≡ j = omega arith in
-      let inside : j - startOf z s < length (drop (startOf z s) (take (p .size / z) (p .staged))) =
-      omega (arith, length-drop (startOf z s) (take (p .size / z) (p .staged)), length-take-le (p .size / z) (p .staged) long) in
-      let g : getD (drop (startOf z s) (take (p .size / z) (p .staged))) (j - startOf z s) none ≡ getD (p .staged) j none =
-      getD-drop (startOf z s) (take (p .size / z) (p .staged)) (j - startOf z s) none
-      ∙ ap (λ (x : ℕ). getD (take (p .size / z) (p .staged)) x none) at ∙ getD-take (p .size / z) (p .staged) j none lt in
+      by (ltb j (startOf s))
+      (λ u. ltb-true j (startOf s) u)
+      (λ u. let le = ltb-false j (startOf s) u in
+      let i : ℕ = j - startOf s in
+      let at : startOf s + (j - startOf s) ≡ j = omega arith in
+      let inside : j - startOf s < length (drop (startOf s) (take (p .size / s .sector) (p .staged))) =
+      omega (arith, length-drop (startOf s) (take (p .size / s .sector) (p .staged)), length-take-le (p .size / s .sector) (p .staged) long) in
+      let g : getD (drop (startOf s) (take (p .size / s .sector) (p .staged))) (j - startOf s) none ≡ getD (p .staged) j none =
+      getD-drop (startOf s) (take (p .size / s .sector) (p .staged)) (j - startOf s) none
+      ∙ ap (λ (x : ℕ). getD (take (p .size / s .sector) (p .staged)) x none) at ∙ getD-take (p .size / s .sector) (p .staged) j none lt in
       let q : not (eqb (getD (p .staged) j none) none) ≡ true =
-      subst (λ (x : ℕ). not (eqb x none) ≡ true) g (every-get (λ n. not (eqb n none)) (drop (startOf z s) (take (p .size / z) (p .staged)))
-      (j - startOf z s) none inside (f .past)) in
+      subst (λ (x : ℕ). not (eqb x none) ≡ true) g (every-get (λ n. not (eqb n none)) (drop (startOf s) (take (p .size / s .sector) (p .staged)))
+      (j - startOf s) none inside (f .past)) in
       never (sym e ∙ not-true _ q))
 
-  pub committed-slot : (j : ℕ) → j < startOf z s → ltb (getD (whose (s .terms .head .contract) (s .places) .slots) j 0) (s .sectors) ≡ true
+  pub committed-slot : (j : ℕ) → j < startOf s → ltb (getD (whose (s .terms .head .contract) (s .places) .slots) j 0) (s .disksectors) ≡ true
   committed-slot j lt =
       by (whose (s .terms .head .contract) (s .places) .held)
-      (λ u. subst (λ (x : ℕ). ltb x (s .sectors) ≡ true) (getD-take (startOf z s) (whose (s .terms .head .contract) (s .places) .slots) j 0 lt)
-      (every-at (λ n. ltb n (s .sectors)) (take (startOf z s) (whose (s .terms .head .contract) (s .places) .slots)) j 0
-      (subst (λ (l : List ℕ). every (λ n. ltb n (s .sectors)) l ≡ true) (committed-held z (whose (s .terms .head .contract) (s .places)) u)
-      (whose-every _ z (s .terms .head .contract) (s .places) (solid .slots)))
-      (lt-ltb 0 (s .sectors) (solid .one))))
-      (λ u. let q : startOf z s ≡ 0 = ap (λ (n : ℕ). n / z) (whose-nobody (s .terms .head .contract) (s .places) u) ∙ zero-div z in absurd (omega arith))
+      (λ u. subst (λ (x : ℕ). ltb x (s .disksectors) ≡ true) (getD-take (startOf s) (whose (s .terms .head .contract) (s .places) .slots) j 0 lt)
+      (every-at (λ n. ltb n (s .disksectors)) (take (startOf s) (whose (s .terms .head .contract) (s .places) .slots)) j 0
+      (subst (λ (l : List ℕ). every (λ n. ltb n (s .disksectors)) l ≡ true) (committed-held (s .sector) (whose (s .terms .head .contract) (s .places)) u)
+      (whose-every _ (s .sector) (s .terms .head .contract) (s .places) (solid .slots)))
+      (lt-ltb 0 (s .disksectors) (solid .one))))
+      (λ u. let q : startOf s ≡ 0 = ap (λ (n : ℕ). n / s .sector) (whose-nobody (s .terms .head .contract) (s .places) u) ∙ zero-div (s .sector) in absurd (omega arith))
 
-  spot-valid : (j : ℕ) → j < p .size / z → valid s (spotOf (parent s .slots) (p .staged) j) ≡ true
+  spot-valid : (j : ℕ) → j < p .size / s .sector → valid s (spotOf (parent s .slots) (p .staged) j) ≡ true
   unfolding spotOf valid parent slotInOrder
   spot-valid j lt =
       by (eqb (getD (p .staged) j none) none)
@@ -155,25 +156,25 @@ module _ (z : ℕ) (s : Setting) (p : Progress) (solid : Solid z s) (f : Staged 
       (InStage (getD (p .staged) j none)) e) ∙ committed-slot j (unstaged j lt e))
       (λ e. ap (valid s) (skips (eqb (getD (p .staged) j none) none) (OnDisk (getD (whose (s .terms .head .contract) (s .places) .slots) j 0))
       (InStage (getD (p .staged) j none)) e) ∙ either-second (eqb (getD (p .staged) j none) none) _
-      (every-at (slotInOrder (s .copies)) (p .staged) j none (f .slots) (slot-none (s .copies))) e)
+      (every-at (slotInOrder (s .stagesectors)) (p .staged) j none (f .slots) (slot-none (s .stagesectors))) e)
 
-  pub parent-valid : every (valid s) (parentSpots z s p) ≡ true
+  pub parent-valid : every (valid s) (parentSpots s p) ≡ true
   unfolding parentSpots
-  parent-valid = every-tab (valid s) (spotOf (parent s .slots) (p .staged)) 0 (p .size / z) (λ j lo hi. spot-valid j (omega arith))
+  parent-valid = every-tab (valid s) (spotOf (parent s .slots) (p .staged)) 0 (p .size / s .sector) (λ j lo hi. spot-valid j (omega arith))
 
-  contract-valid : (id : List ℕ) → every (valid s) (spots (contractSource z s p id)) ≡ true
+  contract-valid : (id : List ℕ) → every (valid s) (spots (contractSource s p id)) ≡ true
   unfolding contractSource committedSpots spots
   contract-valid id =
       ap (λ (l : List Spot). every (valid s) l) (pick-spots _ missing _)
       ∙ every-pick (valid s) _ [] _ (none-valid s)
-      (ap (λ (l : List Spot). every (valid s) l) (pick-spots _ (seen (parentSpots z s p)) _)
-      ∙ every-pick (valid s) _ (parentSpots z s p) _ parent-valid (disk-valid s (committed z (whose id (s .places)))
-      (whose-every _ z id (s .places) (solid .slots))))
+      (ap (λ (l : List Spot). every (valid s) l) (pick-spots _ (seen (parentSpots s p)) _)
+      ∙ every-pick (valid s) _ (parentSpots s p) _ parent-valid (disk-valid s (committed (s .sector) (whose id (s .places)))
+      (whose-every _ (s .sector) id (s .places) (solid .slots))))
 
-  pub source-valid : (r : Spot → List ℕ) (op : Op) (key : List ℕ) → every (valid s) (spots (sourceOf z s r p op key)) ≡ true
+  pub source-valid : (r : Spot → List ℕ) (op : Op) (key : List ℕ) → every (valid s) (spots (sourceOf s r p op key)) ≡ true
   unfolding sourceOf sectorSource spots valid
   source-valid r Read key = contract-valid key
-  source-valid r ReadSector key = sought-every (valid s) r key (seatsOf z s p) (program-every (valid s) z s p parent-valid (solid .slots))
+  source-valid r ReadSector key = sought-every (valid s) r key (seatsOf s p) (program-every (valid s) s p parent-valid (solid .slots))
   source-valid r Write key = none-valid s
   source-valid r Copy key = none-valid s
   source-valid r Swap key = none-valid s
@@ -203,24 +204,24 @@ unfolding pick
 few-pick true l m u v = u
 few-pick false l m u v = v
 
-few-contract : (z : ℕ) (s : Setting) (p : Progress) (id : List ℕ) → every (placeInOrder z) (s .places) ≡ true → p .size / z ≤ 64
-    → length (spots (contractSource z s p id)) ≤ 64
+few-contract : (s : Setting) (p : Progress) (id : List ℕ) → every (placeInOrder (s .sector)) (s .places) ≡ true → p .size / s .sector ≤ 64
+    → length (spots (contractSource s p id)) ≤ 64
 unfolding contractSource committedSpots parentSpots spots
-few-contract z s p id h u =
-    rw (pick-spots (not (whose id (s .places) .held)) missing (pick (same id (s .terms .head .contract)) (seen (parentSpots z s p))
-    (seen (committedSpots z (whose id (s .places))))))
+few-contract s p id h u =
+    rw (pick-spots (not (whose id (s .places) .held)) missing (pick (same id (s .terms .head .contract)) (seen (parentSpots s p))
+    (seen (committedSpots (s .sector) (whose id (s .places))))))
     (few-pick _ [] _ (omega arith)
-    (rw (pick-spots (same id (s .terms .head .contract)) (seen (parentSpots z s p)) (seen (committedSpots z (whose id (s .places)))))
-    (few-pick _ _ _ (omega (arith, length-tab 0 (p .size / z) (spotOf (parent s .slots) (p .staged)), u))
-    (omega (arith, length-each OnDisk (committed z (whose id (s .places))), few-whose z id (s .places) h)))))
+    (rw (pick-spots (same id (s .terms .head .contract)) (seen (parentSpots s p)) (seen (committedSpots (s .sector) (whose id (s .places)))))
+    (few-pick _ _ _ (omega (arith, length-tab 0 (p .size / s .sector) (spotOf (parent s .slots) (p .staged)), u))
+    (omega (arith, length-each OnDisk (committed (s .sector) (whose id (s .places))), few-whose (s .sector) id (s .places) h)))))
 
-pub few-spots : (z : ℕ) (s : Setting) (f : Spot → List ℕ) (p : Progress) (op : Op) (key : List ℕ) → every (placeInOrder z) (s .places) ≡ true → p .size / z ≤ 64
-    → length (spots (sourceOf z s f p op key)) ≤ 64
+pub few-spots : (s : Setting) (f : Spot → List ℕ) (p : Progress) (op : Op) (key : List ℕ) → every (placeInOrder (s .sector)) (s .places) ≡ true → p .size / s .sector ≤ 64
+    → length (spots (sourceOf s f p op key)) ≤ 64
 unfolding sourceOf sectorSource spots
-few-spots z s f p Read key h u = few-contract z s p key h u
-few-spots z s f p ReadSector key h u = omega (arith, few-sought (firstSeat f key (seatsOf z s p)))
-few-spots z s f p Write key h u = omega arith
-few-spots z s f p Copy key h u = omega arith
-few-spots z s f p Swap key h u = omega arith
-few-spots z s f p Truncate key h u = omega arith
-few-spots z s f p Unknown key h u = omega arith
+few-spots s f p Read key h u = few-contract s p key h u
+few-spots s f p ReadSector key h u = omega (arith, few-sought (firstSeat f key (seatsOf s p)))
+few-spots s f p Write key h u = omega arith
+few-spots s f p Copy key h u = omega arith
+few-spots s f p Swap key h u = omega arith
+few-spots s f p Truncate key h u = omega arith
+few-spots s f p Unknown key h u = omega arith

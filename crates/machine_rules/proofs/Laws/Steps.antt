@@ -8,7 +8,8 @@ use Rattle.lists.proofs.Laws.Entries.{drop-take}
 use Rattle.area.specs.Area.{part}
 use Rattle.sia.specs.Names.{opOf}
 use Rattle.sia.specs.Encode.{operandsIn}
-use Rattle.machine_rules.specs.View.{Setting, Turn}
+use Rattle.machine_rules.specs.View.{Turn, Volume}
+use Rattle.machine_rules.specs.declared.Setting.{Setting}
 use Rattle.machine_rules.specs.Inputs.{dataIn, illFormed, pastEnd, largest, need, inputsOf, argsOf}
 use Rattle.machine_rules.specs.declared.Args.{Args}
 use Rattle.machine_rules.specs.Plan.{refused, planned, judged}
@@ -59,71 +60,71 @@ inputs-below (o ∷ os) a b k h e =
 
 -- ---- one instruction reads the input only below its need
 
-pub judged-ill : (z : ℕ) (s : Setting) (f : Spot → List ℕ) (p : Progress) (i : Instruction) (l : List (List ℕ)) → illFormed i ≡ true → judged z s f p i l ≡ 21
+pub judged-ill : (s : Setting) (f : Spot → List ℕ) (p : Progress) (i : Instruction) (l : List (List ℕ)) → illFormed i ≡ true → judged s f p i l ≡ 21
 unfolding judged planned refused
-judged-ill z s f p i l e = ap (λ (r : Plan). r .number) (picks (illFormed i) (refused 21) _ e)
+judged-ill s f p i l e = ap (λ (r : Plan). r .number) (picks (illFormed i) (refused 21) _ e)
 
-pub judged-past : (z : ℕ) (s : Setting) (f : Spot → List ℕ) (p : Progress) (i : Instruction) (l : List (List ℕ)) → illFormed i ≡ false
-    → pastEnd (s .terms .head .length) i ≡ true → judged z s f p i l ≡ 22
+pub judged-past : (s : Setting) (f : Spot → List ℕ) (p : Progress) (i : Instruction) (l : List (List ℕ)) → illFormed i ≡ false
+    → pastEnd (s .terms .head .length) i ≡ true → judged s f p i l ≡ 22
 unfolding judged planned refused
-judged-past z s r p i l e f =
+judged-past s r p i l e f =
     ap (λ (x : Plan). x .number) (skips (illFormed i) (refused 21) _ e ∙ picks (pastEnd (s .terms .head .length) i) (refused 22) _ f)
 
 -- a failure does not look at the inputs
-pub stepped-fails : (z : ℕ) (s : Setting) (i : Instruction) (l : List (List ℕ)) (t : Turn) (n : ℕ) → judged z s (rootAt z s t) (t .progress) i l
-    ≡ suc n → stepped z s i l t ≡ failing z s (suc n) t
+pub stepped-fails : (s : Setting) (vol : Volume) (i : Instruction) (l : List (List ℕ)) (t : Turn) (n : ℕ) → judged s (rootAt s vol t) (t .progress) i l
+    ≡ suc n → stepped s vol i l t ≡ failing s vol (suc n) t
 unfolding stepped
-stepped-fails z s i l t n e = rw e (skips (eqb (suc n) 0) _ _ (eqb·suc-zero n))
+stepped-fails s vol i l t n e = rw e (skips (eqb (suc n) 0) _ _ (eqb·suc-zero n))
 
 pub need-sound : (d : ℕ) (i : Instruction) → illFormed i ≡ false → pastEnd d i ≡ false → need d i ≡ largest (operandsIn i)
 unfolding need
 need-sound d i e f = skips (illFormed i) 0 _ e ∙ skips (pastEnd d i) 0 _ f
 
-stepped-below : (z : ℕ) (s : Setting) (i : Instruction) (t : Turn) (a b : List ℕ) (k : ℕ) → need (s .terms .head .length) i ≤ k → take k a ≡ take k b
-    → stepped z s i (inputsOf i a) t ≡ stepped z s i (inputsOf i b) t
+stepped-below : (s : Setting) (vol : Volume) (i : Instruction) (t : Turn) (a b : List ℕ) (k : ℕ) → need (s .terms .head .length) i ≤ k → take k a ≡ take k b
+    → stepped s vol i (inputsOf i a) t ≡ stepped s vol i (inputsOf i b) t
 unfolding inputsOf
-stepped-below z s i t a b k h e =
+stepped-below s vol i t a b k h e =
     by (illFormed i)
-    (λ x. stepped-fails z s i _ t 20 (judged-ill z s (rootAt z s t) (t .progress) i _ x)
-    ∙ sym (stepped-fails z s i _ t 20 (judged-ill z s (rootAt z s t) (t .progress) i _ x)))
+    (λ x. stepped-fails s vol i _ t 20 (judged-ill s (rootAt s vol t) (t .progress) i _ x)
+    ∙ sym (stepped-fails s vol i _ t 20 (judged-ill s (rootAt s vol t) (t .progress) i _ x)))
     (λ x. by (pastEnd (s .terms .head .length) i)
-    (λ y. stepped-fails z s i _ t 21 (judged-past z s (rootAt z s t) (t .progress) i _ x y)
-    ∙ sym (stepped-fails z s i _ t 21 (judged-past z s (rootAt z s t) (t .progress) i _ x y)))
-    (λ y. ap (λ (l : List (List ℕ)). stepped z s i l t)
+    (λ y. stepped-fails s vol i _ t 21 (judged-past s (rootAt s vol t) (t .progress) i _ x y)
+    ∙ sym (stepped-fails s vol i _ t 21 (judged-past s (rootAt s vol t) (t .progress) i _ x y)))
+    (λ y. ap (λ (l : List (List ℕ)). stepped s vol i l t)
     (inputs-below (operandsIn i) a b k (subst (λ (n : ℕ). n ≤ k) (need-sound (s .terms .head .length) i x y) h) e)))
 
 pub ready-need : (s : Setting) (k : ℕ) (t : Turn) → ready s k t ≡ true → need (s .terms .head .length) (current s t) ≤ k
 unfolding ready
 ready-need s k t h = leb-true _ _ (both-right _ _ h)
 
-pub step-below : (z : ℕ) (s : Setting) (t : Turn) (a b : List ℕ) (k : ℕ) → ready s k t ≡ true → take k a ≡ take k b → step z s a t ≡ step z s b t
+pub step-below : (s : Setting) (vol : Volume) (t : Turn) (a b : List ℕ) (k : ℕ) → ready s k t ≡ true → take k a ≡ take k b → step s vol a t ≡ step s vol b t
 unfolding step
-step-below z s t a b k h e = stepped-below z s (current s t) t a b k (ready-need s k t h) e
+step-below s vol t a b k h e = stepped-below s vol (current s t) t a b k (ready-need s k t h) e
 
 -- ---- a run
 
-pub runs-zero : (z : ℕ) (s : Setting) (a : List ℕ) (k : ℕ) (t : Turn) → runs z s a k 0 t ≡ t
+pub runs-zero : (s : Setting) (vol : Volume) (a : List ℕ) (k : ℕ) (t : Turn) → runs s vol a k 0 t ≡ t
 unfolding runs
-runs-zero z s a k t = refl
+runs-zero s vol a k t = refl
 
-pub runs-go : (z : ℕ) (s : Setting) (a : List ℕ) (k n : ℕ) (t : Turn) → ready s k t ≡ true → runs z s a k (suc n) t ≡ runs z s a k n (step z s a t)
+pub runs-go : (s : Setting) (vol : Volume) (a : List ℕ) (k n : ℕ) (t : Turn) → ready s k t ≡ true → runs s vol a k (suc n) t ≡ runs s vol a k n (step s vol a t)
 unfolding runs
-runs-go z s a k n t h = picks (ready s k t) _ t h
+runs-go s vol a k n t h = picks (ready s k t) _ t h
 
-pub runs-stop : (z : ℕ) (s : Setting) (a : List ℕ) (k n : ℕ) (t : Turn) → ready s k t ≡ false → runs z s a k n t ≡ t
+pub runs-stop : (s : Setting) (vol : Volume) (a : List ℕ) (k n : ℕ) (t : Turn) → ready s k t ≡ false → runs s vol a k n t ≡ t
 unfolding runs
-runs-stop z s a k zero t h = refl
-runs-stop z s a k (suc n) t h = skips (ready s k t) _ t h
+runs-stop s vol a k zero t h = refl
+runs-stop s vol a k (suc n) t h = skips (ready s k t) _ t h
 
 -- runs on two areas that are the same as far as has come
-pub runs-below : (z : ℕ) (s : Setting) (a b : List ℕ) (k n : ℕ) (t : Turn) → take k a ≡ take k b → runs z s a k n t ≡ runs z s b k n t
+pub runs-below : (s : Setting) (vol : Volume) (a b : List ℕ) (k n : ℕ) (t : Turn) → take k a ≡ take k b → runs s vol a k n t ≡ runs s vol b k n t
 unfolding runs
-runs-below z s a b k zero t e = refl
-runs-below z s a b k (suc n) t e =
+runs-below s vol a b k zero t e = refl
+runs-below s vol a b k (suc n) t e =
     by (ready s k t)
-    (λ h. runs-go z s a k n t h ∙ ap (λ (x : Turn). runs z s a k n x) (step-below z s t a b k h e) ∙ runs-below z s a b k n (step z s b t) e
-    ∙ sym (runs-go z s b k n t h))
-    (λ h. runs-stop z s a k (suc n) t h ∙ sym (runs-stop z s b k (suc n) t h))
+    (λ h. runs-go s vol a k n t h ∙ ap (λ (x : Turn). runs s vol a k n x) (step-below s vol t a b k h e) ∙ runs-below s vol a b k n (step s vol b t) e
+    ∙ sym (runs-go s vol b k n t h))
+    (λ h. runs-stop s vol a k (suc n) t h ∙ sym (runs-stop s vol b k (suc n) t h))
 
 -- ---- a run ends: at most as many turns as there are instructions left
 
@@ -139,80 +140,80 @@ pub left-going : (s : Setting) (t : Turn) → going (s .terms) (t .progress) ≡
 unfolding going left
 left-going s t h = (skips (t .progress .failed) 0 _ (not-true _ (both-left _ _ h)), ltb-true _ _ (both-right (not (t .progress .failed)) _ h))
 
-pub left-failing : (z : ℕ) (s : Setting) (n : ℕ) (t : Turn) → left s (failing z s n t) ≡ 0
+pub left-failing : (s : Setting) (vol : Volume) (n : ℕ) (t : Turn) → left s (failing s vol n t) ≡ 0
 unfolding left failing failedProgress
-left-failing z s n t = picks true 0 (s .terms .head .count - t .progress .ran) refl
+left-failing s vol n t = picks true 0 (s .terms .head .count - t .progress .ran) refl
 
-pub left-succeeding : (z : ℕ) (s : Setting) (asked : Bool) (op : Op) (a : Args) (d : List ℕ) (t : Turn) → t .progress .failed ≡ false
-    → left s (succeeding z s asked op a d t) ≡ s .terms .head .count - (t .progress .ran + 1)
+pub left-succeeding : (s : Setting) (vol : Volume) (asked : Bool) (op : Op) (a : Args) (d : List ℕ) (t : Turn) → t .progress .failed ≡ false
+    → left s (succeeding s vol asked op a d t) ≡ s .terms .head .count - (t .progress .ran + 1)
 unfolding left succeeding ranProgress
-left-succeeding z s asked op a d t f = skips (t .progress .failed) 0 (s .terms .head .count - (t .progress .ran + 1)) f
+left-succeeding s vol asked op a d t f = skips (t .progress .failed) 0 (s .terms .head .count - (t .progress .ran + 1)) f
 
 pub not-failed : (s : Setting) (t : Turn) → going (s .terms) (t .progress) ≡ true → t .progress .failed ≡ false
 unfolding going
 not-failed s t h = not-true _ (both-left _ _ h)
 
 -- what a step does to them
-pub stepped-left : (z : ℕ) (s : Setting) (i : Instruction) (l : List (List ℕ)) (t : Turn) → going (s .terms) (t .progress) ≡ true
-    → left s (stepped z s i l t) < left s t
+pub stepped-left : (s : Setting) (vol : Volume) (i : Instruction) (l : List (List ℕ)) (t : Turn) → going (s .terms) (t .progress) ≡ true
+    → left s (stepped s vol i l t) < left s t
 unfolding stepped
-stepped-left z s i l t g =
+stepped-left s vol i l t g =
     let q = left-going s t g in
-    by (eqb (judged z s (rootAt z s t) (t .progress) i l) 0)
-    (λ e. rw (picks (eqb (judged z s (rootAt z s t) (t .progress) i l) 0) (succeeding z s (i .proof) (opOf (i .name)) (argsOf (opOf (i .name)) l) (dataIn l) t)
-    (failing z s (judged z s (rootAt z s t) (t .progress) i l) t) e) (succeeds q))
-    (λ e. rw (skips (eqb (judged z s (rootAt z s t) (t .progress) i l) 0) (succeeding z s (i .proof) (opOf (i .name)) (argsOf (opOf (i .name)) l) (dataIn l) t)
-    (failing z s (judged z s (rootAt z s t) (t .progress) i l) t) e) (fails q))
+    by (eqb (judged s (rootAt s vol t) (t .progress) i l) 0)
+    (λ e. rw (picks (eqb (judged s (rootAt s vol t) (t .progress) i l) 0) (succeeding s vol (i .proof) (opOf (i .name)) (argsOf (opOf (i .name)) l) (dataIn l) t)
+    (failing s vol (judged s (rootAt s vol t) (t .progress) i l) t) e) (succeeds q))
+    (λ e. rw (skips (eqb (judged s (rootAt s vol t) (t .progress) i l) 0) (succeeding s vol (i .proof) (opOf (i .name)) (argsOf (opOf (i .name)) l) (dataIn l) t)
+    (failing s vol (judged s (rootAt s vol t) (t .progress) i l) t) e) (fails q))
   where
     fails : (left s t ≡ s .terms .head .count - t .progress .ran) × (t .progress .ran < s .terms .head .count)
-        → left s (failing z s (judged z s (rootAt z s t) (t .progress) i l) t) < left s t
-    fails q = let e : left s (failing z s (judged z s (rootAt z s t) (t .progress) i l) t) ≡ 0 =
-        left-failing z s (judged z s (rootAt z s t) (t .progress) i l) t in omega arith
+        → left s (failing s vol (judged s (rootAt s vol t) (t .progress) i l) t) < left s t
+    fails q = let e : left s (failing s vol (judged s (rootAt s vol t) (t .progress) i l) t) ≡ 0 =
+        left-failing s vol (judged s (rootAt s vol t) (t .progress) i l) t in omega arith
 
     succeeds : (left s t ≡ s .terms .head .count - t .progress .ran) × (t .progress .ran < s .terms .head .count)
-        → left s (succeeding z s (i .proof) (opOf (i .name)) (argsOf (opOf (i .name)) l) (dataIn l) t) < left s t
-    succeeds q = let e : left s (succeeding z s (i .proof) (opOf (i .name)) (argsOf (opOf (i .name)) l) (dataIn l) t)
-        ≡ s .terms .head .count - (t .progress .ran + 1) = left-succeeding z s (i .proof) (opOf (i .name)) (argsOf (opOf (i .name)) l) (dataIn l) t
+        → left s (succeeding s vol (i .proof) (opOf (i .name)) (argsOf (opOf (i .name)) l) (dataIn l) t) < left s t
+    succeeds q = let e : left s (succeeding s vol (i .proof) (opOf (i .name)) (argsOf (opOf (i .name)) l) (dataIn l) t)
+        ≡ s .terms .head .count - (t .progress .ran + 1) = left-succeeding s vol (i .proof) (opOf (i .name)) (argsOf (opOf (i .name)) l) (dataIn l) t
         (not-failed s t g) in omega arith
 
-pub step-left : (z : ℕ) (s : Setting) (a : List ℕ) (k : ℕ) (t : Turn) → ready s k t ≡ true → left s (step z s a t) < left s t
+pub step-left : (s : Setting) (vol : Volume) (a : List ℕ) (k : ℕ) (t : Turn) → ready s k t ≡ true → left s (step s vol a t) < left s t
 unfolding step
-step-left z s a k t h = stepped-left z s (current s t) (inputsOf (current s t) a) t (ready-going s k t h)
+step-left s vol a k t h = stepped-left s vol (current s t) (inputsOf (current s t) a) t (ready-going s k t h)
 
 pub none-left : (s : Setting) (k : ℕ) (t : Turn) → left s t ≡ 0 → ready s k t ≡ false
 none-left s k t e = by (ready s k t) (λ h. let q = left-going s t (ready-going s k t h) in absurd (omega arith)) (λ h. h)
 
 -- one more turn allowed changes nothing
-pub runs-enough : (z : ℕ) (s : Setting) (a : List ℕ) (k n : ℕ) (t : Turn) → left s t ≤ n → runs z s a k (suc n) t ≡ runs z s a k n t
-runs-enough z s a k zero t h = runs-stop z s a k 1 t (none-left s k t (omega arith)) ∙ sym (runs-stop z s a k 0 t (none-left s k t (omega arith)))
-runs-enough z s a k (suc n) t h =
+pub runs-enough : (s : Setting) (vol : Volume) (a : List ℕ) (k n : ℕ) (t : Turn) → left s t ≤ n → runs s vol a k (suc n) t ≡ runs s vol a k n t
+runs-enough s vol a k zero t h = runs-stop s vol a k 1 t (none-left s k t (omega arith)) ∙ sym (runs-stop s vol a k 0 t (none-left s k t (omega arith)))
+runs-enough s vol a k (suc n) t h =
     by (ready s k t)
-    (λ r. let d = step-left z s a k t r in
-    runs-go z s a k (suc n) t r ∙ runs-enough z s a k n (step z s a t) (omega arith) ∙ sym (runs-go z s a k n t r))
-    (λ r. runs-stop z s a k (suc (suc n)) t r ∙ sym (runs-stop z s a k (suc n) t r))
+    (λ r. let d = step-left s vol a k t r in
+    runs-go s vol a k (suc n) t r ∙ runs-enough s vol a k n (step s vol a t) (omega arith) ∙ sym (runs-go s vol a k n t r))
+    (λ r. runs-stop s vol a k (suc (suc n)) t r ∙ sym (runs-stop s vol a k (suc n) t r))
 
 pub ready-more : (s : Setting) (k m : ℕ) (t : Turn) → k ≤ m → ready s k t ≡ true → ready s m t ≡ true
 unfolding ready
 ready-more s k m t h r = both-join _ _ (both-left _ _ r) (le-leb _ _ (le-trans (leb-true _ _ (both-right _ _ r)) h))
 
 -- running with k bytes come and then with m is running with m
-pub runs-on : (z : ℕ) (s : Setting) (a : List ℕ) (k m n : ℕ) (t : Turn) → k ≤ m → left s t ≤ n → (j : ℕ) → n ≤ j → runs z s a m j (runs z s a k n t)
-    ≡ runs z s a m j t
-runs-on z s a k m zero t le h j g = ap (λ (x : Turn). runs z s a m j x) (runs-stop z s a k 0 t (none-left s k t (omega arith)))
-runs-on z s a k m (suc n) t le h zero g = absurd (omega arith)
-runs-on z s a k m (suc n) t le h (suc j) g =
+pub runs-on : (s : Setting) (vol : Volume) (a : List ℕ) (k m n : ℕ) (t : Turn) → k ≤ m → left s t ≤ n → (j : ℕ) → n ≤ j → runs s vol a m j (runs s vol a k n t)
+    ≡ runs s vol a m j t
+runs-on s vol a k m zero t le h j g = ap (λ (x : Turn). runs s vol a m j x) (runs-stop s vol a k 0 t (none-left s k t (omega arith)))
+runs-on s vol a k m (suc n) t le h zero g = absurd (omega arith)
+runs-on s vol a k m (suc n) t le h (suc j) g =
     by (ready s k t)
-    (λ r. let d = step-left z s a k t r in
-    ap (λ (x : Turn). runs z s a m (suc j) x) (runs-go z s a k n t r)
-    ∙ runs-on z s a k m n (step z s a t) le (omega arith) (suc j) (omega arith)
-    ∙ runs-enough z s a m j (step z s a t) (omega arith)
-    ∙ sym (runs-go z s a m j t (ready-more s k m t le r)))
-    (λ r. ap (λ (x : Turn). runs z s a m (suc j) x) (runs-stop z s a k (suc n) t r))
+    (λ r. let d = step-left s vol a k t r in
+    ap (λ (x : Turn). runs s vol a m (suc j) x) (runs-go s vol a k n t r)
+    ∙ runs-on s vol a k m n (step s vol a t) le (omega arith) (suc j) (omega arith)
+    ∙ runs-enough s vol a m j (step s vol a t) (omega arith)
+    ∙ sym (runs-go s vol a m j t (ready-more s k m t le r)))
+    (λ r. ap (λ (x : Turn). runs s vol a m (suc j) x) (runs-stop s vol a k (suc n) t r))
 
 -- two runs that agree as far as has come
-pub run-below : (z : ℕ) (s : Setting) (a b : List ℕ) (k : ℕ) (t : Turn) → take k a ≡ take k b → run z s a k t ≡ run z s b k t
+pub run-below : (s : Setting) (vol : Volume) (a b : List ℕ) (k : ℕ) (t : Turn) → take k a ≡ take k b → run s vol a k t ≡ run s vol b k t
 unfolding run
-run-below z s a b k t e = runs-below z s a b k (s .terms .head .count) t e
+run-below s vol a b k t e = runs-below s vol a b k (s .terms .head .count) t e
 
 pub left-most : (s : Setting) (t : Turn) → left s t ≤ s .terms .head .count
 unfolding left
@@ -220,6 +221,6 @@ left-most s t =
     by (t .progress .failed) (λ e. omega (arith, picks (t .progress .failed) 0 (s .terms .head .count - t .progress .ran) e))
     (λ e. omega (arith, skips (t .progress .failed) 0 (s .terms .head .count - t .progress .ran) e))
 
-pub run-on : (z : ℕ) (s : Setting) (a : List ℕ) (k m : ℕ) (t : Turn) → k ≤ m → run z s a m (run z s a k t) ≡ run z s a m t
+pub run-on : (s : Setting) (vol : Volume) (a : List ℕ) (k m : ℕ) (t : Turn) → k ≤ m → run s vol a m (run s vol a k t) ≡ run s vol a m t
 unfolding run
-run-on z s a k m t le = runs-on z s a k m (s .terms .head .count) t le (left-most s t) (s .terms .head .count) (omega arith)
+run-on s vol a k m t le = runs-on s vol a k m (s .terms .head .count) t le (left-most s t) (s .terms .head .count) (omega arith)

@@ -8,7 +8,7 @@ use Rattle.area.proofs.Laws.Puts.{length-put}
 use Rattle.host.specs.With.{withProgram, withCame, withProgress, withStageRoots}
 use Rattle.host.specs.Order.{programInOrder, inOrder}
 use Rattle.host.proofs.Laws.Order.{order-facts, progress-facts, facts-progress}
-use Rattle.machine_rules.specs.View.{settingBy, settingOf, turnOf, withRun, diskRight, areasRight}
+use Rattle.machine_rules.specs.View.{turnOf, withRun, diskRight, areasRight, settingOf, volumeBy, volumeOf}
 use Rattle.machine_rules.specs.Run.{run}
 use Rattle.machine_rules.specs.Calls.{Pieced, accepted, inputRight, outputRight, piece, acceptedBy, pieceBy}
 use Rattle.machine_rules.specs.Trace.{together, AllAccepted}
@@ -32,8 +32,8 @@ pub record Taking (disk : List ℕ) (w : Pieced) : Type 0 where
   pub stageRoots : length (w .host .stageroots) ≡ 512
 
 -- the parts of `inOrder`
-pub order-lent : (h : Host) (disk : List ℕ) → inOrder h ≡ true → Lent (h .sector) (settingOf h disk)
-unfolding settingBy
+pub order-lent : (h : Host) (disk : List ℕ) → inOrder h ≡ true → Lent (settingOf h)
+unfolding volumeBy
 order-lent h disk e = let o = order-facts h e in record { size = o .size; few = o .stageMost; most = o .diskMost }
 
 -- areas of zeros, of the lengths that a host states: where its sectors are, and the roots kept beside them, do not hang on what is lent
@@ -43,8 +43,8 @@ blank-right h =
     both-join _ _ (eq-eqb _ _ (length-replicate {A = ℕ} (h .disk * h .sector) 0)) (eq-eqb _ _ (length-replicate {A = ℕ} (h .stage * h .sector) 0))
 
 -- a host in order whose areas are right
-pub order-solid : (h : Host) (disk stage : List ℕ) → inOrder h ≡ true → areasRight h disk stage ≡ true → Solid (h .sector) (settingOf h disk)
-unfolding areasRight diskRight settingBy
+pub order-solid : (h : Host) (disk stage : List ℕ) → inOrder h ≡ true → areasRight h disk stage ≡ true → Solid (settingOf h) (volumeOf h disk)
+unfolding areasRight diskRight volumeBy
 order-solid h disk stage e areas =
     let o = order-facts h e in
     record {
@@ -64,8 +64,8 @@ unfolding inOrder
 order-program h e live = second-not (h .program .active) _ (both-right _ _ (both-right _ _ (both-right _ _ (both-right _ _ e)))) live
 
 pub order-good : (h : Host) (disk : List ℕ) → inOrder h ≡ true → h .program .active ≡ true → length (h .program .progress .staged) ≡ 64
-    → Good (h .sector) (settingOf h disk) (h .program .progress)
-unfolding settingBy programInOrder
+    → Good (settingOf h) (h .program .progress)
+unfolding volumeBy programInOrder
 order-good h disk e live len =
     let q = order-program h e live in
     record {
@@ -75,8 +75,8 @@ order-good h disk e live len =
     }
 
 pub good-order : (h : Host) (disk : List ℕ) (k : ℕ) (p : Progress) (roots : List ℕ) → inOrder h ≡ true → k ≤ h .program .terms .head .length
-    → Good (h .sector) (settingOf h disk) p → inOrder (withRun h k p roots) ≡ true
-unfolding inOrder withRun withStageRoots withProgram withProgress withCame programInOrder settingBy
+    → Good (settingOf h) p → inOrder (withRun h k p roots) ≡ true
+unfolding inOrder withRun withStageRoots withProgram withProgress withCame programInOrder volumeBy
 good-order h disk k p roots e le g =
     let b = both-right _ _ e in
     let c = both-right _ _ b in
@@ -109,11 +109,12 @@ module _ (disk : List ℕ) (w : Pieced) (t : Taking disk w) (b : List ℕ) (fit 
   unfolding acceptedBy run withRun withStageRoots withProgram withProgress withCame turnOf
   stays =
       let h = w .host in
-      let s = settingOf h disk in
+      let s = settingOf h in
+      let vol = volumeOf h disk in
       let L = order-lent h disk (t .order) in
-      let g = runs-good (w .host .sector) s (put (w .input) (h .program .came) b) (h .program .came + length b) (s .terms .head .count)
+      let g = runs-good s vol (put (w .input) (h .program .came) b) (h .program .came + length b) (s .terms .head .count)
       (turnOf h (w .stage) (w .output)) L (order-good h disk (t .order) (t .live) (t .entries)) in
-      let a = runs-alike (w .host .sector) s (put (w .input) (h .program .came) b) (h .program .came + length b) (s .terms .head .count)
+      let a = runs-alike s vol (put (w .input) (h .program .came) b) (h .program .came + length b) (s .terms .head .count)
       (turnOf h (w .stage) (w .output)) in
       record {
         order = good-order h disk (h .program .came + length b) _ _ (t .order) fit g;

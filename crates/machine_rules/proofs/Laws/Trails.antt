@@ -8,7 +8,8 @@ use Rattle.lists.proofs.Laws.Pick.{by, picks, skips, both-join, both-not-left, 
 use Rattle.area.specs.Area.{put}
 use Rattle.sia.specs.Names.{opOf}
 use Rattle.sia.specs.Encode.{operandsIn}
-use Rattle.machine_rules.specs.View.{Setting, Turn}
+use Rattle.machine_rules.specs.View.{Turn, Volume}
+use Rattle.machine_rules.specs.declared.Setting.{Setting}
 use Rattle.machine_rules.specs.Inputs.{dataIn, illFormed, pastEnd, largest, need, inputsOf, argsOf}
 use Rattle.machine_rules.specs.Plan.{judged}
 use Rattle.machine_rules.specs.Run.{failedProgress, failing, ranProgress, succeeding, stepped, current, step, going, ready, runs}
@@ -18,65 +19,65 @@ use Rattle.sia.specs.declared.Operand.{Operand}
 use Rattle.sia.specs.declared.Instruction.{Instruction}
 use Rattle.machine_rules.specs.Roots.{rootAt}
 
-pub stepped-output : (z : ℕ) (s : Setting) (i : Instruction) (l : List (List ℕ)) (t : Turn) → stepped z s i l t .output
-    ≡ put (t .output) (t .progress .written) (recordOf z s i l t)
+pub stepped-output : (s : Setting) (vol : Volume) (i : Instruction) (l : List (List ℕ)) (t : Turn) → stepped s vol i l t .output
+    ≡ put (t .output) (t .progress .written) (recordOf s vol i l t)
 unfolding stepped recordOf succeeding failing pick
-stepped-output z s i l t = under (eqb (judged z s (rootAt z s t) (t .progress) i l) 0) _ _ _ _ refl refl
+stepped-output s vol i l t = under (eqb (judged s (rootAt s vol t) (t .progress) i l) 0) _ _ _ _ refl refl
   where
     under : (b : Bool) (x y : Turn) (u v : List ℕ) → x .output ≡ put (t .output) (t .progress .written) u → y .output ≡ put (t .output) (t .progress .written) v
         → pick b x y .output ≡ put (t .output) (t .progress .written) (pick b u v)
     under true x y u v p q = p
     under false x y u v p q = q
 
-module _ (z : ℕ) (s : Setting) (a : List ℕ) where
-  pub trail-zero : (k : ℕ) (t : Turn) → trail z s a k 0 t ≡ []
+module _ (s : Setting) (vol : Volume) (a : List ℕ) where
+  pub trail-zero : (k : ℕ) (t : Turn) → trail s vol a k 0 t ≡ []
   unfolding trail
   trail-zero k t = refl
 
-  pub trail-go : (k n : ℕ) (t : Turn) → ready s k t ≡ true → trail z s a k (suc n) t ≡ recorded z s a t ∷ trail z s a k n (step z s a t)
+  pub trail-go : (k n : ℕ) (t : Turn) → ready s k t ≡ true → trail s vol a k (suc n) t ≡ recorded s vol a t ∷ trail s vol a k n (step s vol a t)
   unfolding trail
   trail-go k n t h = picks (ready s k t) _ [] h
 
-  pub trail-stop : (k n : ℕ) (t : Turn) → ready s k t ≡ false → trail z s a k n t ≡ []
+  pub trail-stop : (k n : ℕ) (t : Turn) → ready s k t ≡ false → trail s vol a k n t ≡ []
   unfolding trail
   trail-stop k zero t h = refl
   trail-stop k (suc n) t h = skips (ready s k t) _ [] h
 
-  trail-enough : (k n : ℕ) (t : Turn) → left s t ≤ n → trail z s a k (suc n) t ≡ trail z s a k n t
+  trail-enough : (k n : ℕ) (t : Turn) → left s t ≤ n → trail s vol a k (suc n) t ≡ trail s vol a k n t
   trail-enough k zero t h = trail-stop k 1 t (none-left s k t (omega arith)) ∙ sym (trail-stop k 0 t (none-left s k t (omega arith)))
   trail-enough k (suc n) t h =
       by (ready s k t)
-      (λ r. let d = step-left z s a k t r in
-      trail-go k (suc n) t r ∙ ap (λ (x : List (List ℕ)). recorded z s a t ∷ x) (trail-enough k n (step z s a t) (omega arith)) ∙ sym (trail-go k n t r))
+      (λ r. let d = step-left s vol a k t r in
+      trail-go k (suc n) t r ∙ ap (λ (x : List (List ℕ)). recorded s vol a t ∷ x) (trail-enough k n (step s vol a t) (omega arith)) ∙ sym (trail-go k n t r))
       (λ r. trail-stop k (suc (suc n)) t r ∙ sym (trail-stop k (suc n) t r))
 
-  runs-left : (k n : ℕ) (t : Turn) → left s (runs z s a k n t) ≤ left s t
+  runs-left : (k n : ℕ) (t : Turn) → left s (runs s vol a k n t) ≤ left s t
   unfolding runs
   runs-left k zero t = omega arith
   runs-left k (suc n) t =
       by (ready s k t)
-      (λ r. let d = step-left z s a k t r in let e = runs-left k n (step z s a t) in rw (runs-go z s a k n t r) (omega arith))
-      (λ r. rw (runs-stop z s a k (suc n) t r) (omega arith))
+      (λ r. let d = step-left s vol a k t r in let e = runs-left k n (step s vol a t) in rw (runs-go s vol a k n t r) (omega arith))
+      (λ r. rw (runs-stop s vol a k (suc n) t r) (omega arith))
 
   -- the records with m bytes come are those with k, and then those of the run that goes on
-  pub trail-on : (k m n : ℕ) (t : Turn) → k ≤ m → left s t ≤ n → (j : ℕ) → n ≤ j → trail z s a m j t ≡ trail z s a k n t ++ trail z s a m j (runs z s a k n t)
+  pub trail-on : (k m n : ℕ) (t : Turn) → k ≤ m → left s t ≤ n → (j : ℕ) → n ≤ j → trail s vol a m j t ≡ trail s vol a k n t ++ trail s vol a m j (runs s vol a k n t)
   trail-on k m zero t le h j g =
       let q = none-left s k t (omega arith) in
-      sym (ap₂ _++_ (trail-stop k 0 t q) (ap (λ (x : Turn). trail z s a m j x) (runs-stop z s a k 0 t q)))
+      sym (ap₂ _++_ (trail-stop k 0 t q) (ap (λ (x : Turn). trail s vol a m j x) (runs-stop s vol a k 0 t q)))
   trail-on k m (suc n) t le h zero g = absurd (omega arith)
   trail-on k m (suc n) t le h (suc j) g =
       by (ready s k t)
-      (λ r. let d = step-left z s a k t r in let e = runs-left k n (step z s a t) in
+      (λ r. let d = step-left s vol a k t r in let e = runs-left k n (step s vol a t) in
       trail-go m j t (ready-more s k m t le r)
-      ∙ ap (λ (x : List (List ℕ)). recorded z s a t ∷ x) (trail-on k m n (step z s a t) le (omega arith) j (omega arith)
-      ∙ ap (λ (x : List (List ℕ)). trail z s a k n (step z s a t) ++ x) (sym (trail-enough m j (runs z s a k n (step z s a t)) (omega arith))))
-      ∙ sym (ap₂ _++_ (trail-go k n t r) (ap (λ (x : Turn). trail z s a m (suc j) x) (runs-go z s a k n t r))))
-      (λ r. sym (ap₂ _++_ (trail-stop k (suc n) t r) (ap (λ (x : Turn). trail z s a m (suc j) x) (runs-stop z s a k (suc n) t r))))
+      ∙ ap (λ (x : List (List ℕ)). recorded s vol a t ∷ x) (trail-on k m n (step s vol a t) le (omega arith) j (omega arith)
+      ∙ ap (λ (x : List (List ℕ)). trail s vol a k n (step s vol a t) ++ x) (sym (trail-enough m j (runs s vol a k n (step s vol a t)) (omega arith))))
+      ∙ sym (ap₂ _++_ (trail-go k n t r) (ap (λ (x : Turn). trail s vol a m (suc j) x) (runs-go s vol a k n t r))))
+      (λ r. sym (ap₂ _++_ (trail-stop k (suc n) t r) (ap (λ (x : Turn). trail s vol a m (suc j) x) (runs-stop s vol a k (suc n) t r))))
 
   -- the first m records of the whole run
   pub firsts : (k m : ℕ) (t : Turn) → k ≤ m
-      → take (length (trail z s a k (s .terms .head .count) t)) (trail z s a m (s .terms .head .count) t) ≡ trail z s a k (s .terms .head .count) t
-  firsts k m t le = ap (λ (x : List (List ℕ)). take (length (trail z s a k (s .terms .head .count) t)) x)
+      → take (length (trail s vol a k (s .terms .head .count) t)) (trail s vol a m (s .terms .head .count) t) ≡ trail s vol a k (s .terms .head .count) t
+  firsts k m t le = ap (λ (x : List (List ℕ)). take (length (trail s vol a k (s .terms .head .count) t)) x)
       (trail-on k m (s .terms .head .count) t le (left-most s t) (s .terms .head .count) (omega arith)) ∙ take-append-seam _ _
 
 some-none : (d : ℕ) (os : List Operand) → some (λ o. ltb d (o .offset + o .len)) os ≡ false → largest os ≤ d
@@ -106,15 +107,15 @@ need-within d i =
     (λ f. rw (picks (pastEnd d i) 0 (largest (operandsIn i)) f) (omega arith))
     (λ f. rw (skips (pastEnd d i) 0 (largest (operandsIn i)) f) (past-none d i f))))
 
-stepped-next : (z : ℕ) (s : Setting) (i : Instruction) (l : List (List ℕ)) (t : Turn) → (stepped z s i l t .progress .ran ≡ t .progress .ran + 1) ⊎
-    (stepped z s i l t .progress .failed ≡ true)
+stepped-next : (s : Setting) (vol : Volume) (i : Instruction) (l : List (List ℕ)) (t : Turn) → (stepped s vol i l t .progress .ran ≡ t .progress .ran + 1) ⊎
+    (stepped s vol i l t .progress .failed ≡ true)
 unfolding stepped succeeding failing ranProgress failedProgress pick
-stepped-next z s i l t = under (eqb (judged z s (rootAt z s t) (t .progress) i l) 0)
+stepped-next s vol i l t = under (eqb (judged s (rootAt s vol t) (t .progress) i l) 0)
   where
-    under : (b : Bool) → (pick b (succeeding z s (i .proof) (opOf (i .name)) (argsOf (opOf (i .name)) l) (dataIn l) t)
-        (failing z s (judged z s (rootAt z s t) (t .progress) i l) t) .progress .ran ≡ t .progress .ran + 1)
-        ⊎ (pick b (succeeding z s (i .proof) (opOf (i .name)) (argsOf (opOf (i .name)) l) (dataIn l) t)
-        (failing z s (judged z s (rootAt z s t) (t .progress) i l) t) .progress .failed ≡ true)
+    under : (b : Bool) → (pick b (succeeding s vol (i .proof) (opOf (i .name)) (argsOf (opOf (i .name)) l) (dataIn l) t)
+        (failing s vol (judged s (rootAt s vol t) (t .progress) i l) t) .progress .ran ≡ t .progress .ran + 1)
+        ⊎ (pick b (succeeding s vol (i .proof) (opOf (i .name)) (argsOf (opOf (i .name)) l) (dataIn l) t)
+        (failing s vol (judged s (rootAt s vol t) (t .progress) i l) t) .progress .failed ≡ true)
     under true = inl refl
     under false = inr refl
 
@@ -134,30 +135,30 @@ need-stops : (s : Setting) (k : ℕ) (t : Turn) → leb (need (s .terms .head .l
 unfolding ready
 need-stops s k t e = both-not-right (going (s .terms) (t .progress)) _ e
 
-module _ (z : ℕ) (s : Setting) (a : List ℕ) where
+module _ (s : Setting) (vol : Volume) (a : List ℕ) where
   -- m: as many records as instructions in a row whose need has come, but no more than the whole run writes
-  pub counted : (k n : ℕ) (t : Turn) → length (trail z s a k n t) ≡ min (ripe s k (t .progress .ran) n) (length (trail z s a (s .terms .head .length) n t))
+  pub counted : (k n : ℕ) (t : Turn) → length (trail s vol a k n t) ≡ min (ripe s k (t .progress .ran) n) (length (trail s vol a (s .terms .head .length) n t))
   unfolding ripe current step
-  counted k zero t = omega (arith, ap length (trail-zero z s a k t))
+  counted k zero t = omega (arith, ap length (trail-zero s vol a k t))
   counted k (suc n) t =
       let d : ℕ = s .terms .head .length in
       by (going (s .terms) (t .progress))
       (λ g. let rd : ready s d t ≡ true = ready-if s d t g (need-within d (current s t)) in
       by (leb (need d (current s t)) k)
       (λ e. let rk : ready s k t ≡ true = ready-if s k t g (leb-true _ _ e) in
-      let ih : length (trail z s a k n (step z s a t)) ≡ min (ripe s k (t .progress .ran + 1) n) (length (trail z s a d n (step z s a t))) =
-      ⊎-elim (λ r. counted k n (step z s a t) ∙ ap (λ (x : ℕ). min (ripe s k x n) (length (trail z s a d n (step z s a t)))) r)
-      (λ f. ap length (trail-stop z s a k n (step z s a t) (failed-stops s k (step z s a t) f))
-      ∙ omega (arith, ap length (trail-stop z s a d n (step z s a t) (failed-stops s d (step z s a t) f))))
-      (stepped-next z s (current s t) (inputsOf (current s t) a) t) in
+      let ih : length (trail s vol a k n (step s vol a t)) ≡ min (ripe s k (t .progress .ran + 1) n) (length (trail s vol a d n (step s vol a t))) =
+      ⊎-elim (λ r. counted k n (step s vol a t) ∙ ap (λ (x : ℕ). min (ripe s k x n) (length (trail s vol a d n (step s vol a t)))) r)
+      (λ f. ap length (trail-stop s vol a k n (step s vol a t) (failed-stops s k (step s vol a t) f))
+      ∙ omega (arith, ap length (trail-stop s vol a d n (step s vol a t) (failed-stops s d (step s vol a t) f))))
+      (stepped-next s vol (current s t) (inputsOf (current s t) a) t) in
       omega (
         arith,
         ih,
-        ap length (trail-go z s a k n t rk),
-        ap length (trail-go z s a d n t rd),
+        ap length (trail-go s vol a k n t rk),
+        ap length (trail-go s vol a d n t rd),
         picks (leb (need d (current s t)) k)
             (suc (ripe s k (t .progress .ran + 1) n)) 0 e,
       ))
       (λ e. let rk : ready s k t ≡ false = need-stops s k t e in
-      omega (arith, ap length (trail-stop z s a k (suc n) t rk), skips (leb (need d (current s t)) k) (suc (ripe s k (t .progress .ran + 1) n)) 0 e)))
-      (λ g. omega (arith, ap length (trail-stop z s a k (suc n) t (going-stops s k t g)), ap length (trail-stop z s a d (suc n) t (going-stops s d t g))))
+      omega (arith, ap length (trail-stop s vol a k (suc n) t rk), skips (leb (need d (current s t)) k) (suc (ripe s k (t .progress .ran + 1) n)) 0 e)))
+      (λ g. omega (arith, ap length (trail-stop s vol a k (suc n) t (going-stops s k t g)), ap length (trail-stop s vol a d (suc n) t (going-stops s d t g))))

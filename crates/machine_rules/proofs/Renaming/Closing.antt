@@ -10,7 +10,7 @@ use Rattle.host.specs.Places.{whose, committed, taken}
 use Rattle.host.specs.Order.{parentInOrder, inOrder}
 use Rattle.host.proofs.Laws.Order.{order-facts}
 use Rattle.host.specs.Calls.{replaced}
-use Rattle.machine_rules.specs.View.{settingOf, parent, settingBy}
+use Rattle.machine_rules.specs.View.{parent, settingOf, volumeBy, volumeOf}
 use Rattle.machine_rules.specs.Roots.{rootOf}
 use Rattle.machine_rules.specs.Record.{samePair, startingPair, runningPair}
 use Rattle.machine_rules.specs.Commit.{Closed, closed, givenUp, cut, newSlots, finalSlots, copiedBack, finalPlace, commit, agreed}
@@ -22,6 +22,7 @@ use Rattle.machine_rules.proofs.Renaming.Sight.{starting-as, running-as
 use Rattle.host.specs.declared.Place.{Place}
 use Rattle.host.specs.declared.Terms.{Terms}
 use Rattle.host.specs.declared.Host.{Host}
+use Rattle.machine_rules.specs.declared.Setting.{Setting}
 use Rattle.machine_rules.specs.declared.Spot.{Spot}
 use Rattle.machine_rules.specs.declared.Pair.{Pair}
 use Rattle.host.proofs.Renaming.Contracts.{active-as, whose-places}
@@ -29,7 +30,7 @@ use Rattle.machine_rules.proofs.Renaming.Programs.{terms-of, setting-as
 
 -- the roots that a host with these areas is read with
 abbrev rootsOf : Host → List ℕ → List ℕ → Spot → List ℕ
-rootsOf h disk stage = rootOf (h .sector) (settingOf h disk) stage (h .stageroots)
+rootsOf h disk stage = rootOf (settingOf h) (volumeOf h disk) stage (h .stageroots)
 
 -- ---- commits
 
@@ -44,16 +45,16 @@ module _ (r : List ℕ → List ℕ) (new : Renaming r) where
   -- ---- closing
 
   start-as : (disk : List ℕ) (h : Host) → h .program .active ≡ true
-      → startingPair (hostAs r h .sector) (settingOf (hostAs r h) disk) ≡ startingPair (h .sector) (settingOf h disk)
-  unfolding hostAs
+      → startingPair (settingOf (hostAs r h)) (volumeOf (hostAs r h) disk) ≡ startingPair (settingOf h) (volumeOf h disk)
+  unfolding volumeBy hostAs
   start-as disk h e =
-      ap (startingPair (h .sector)) (setting-as r new h disk e) ∙ starting-as r new (h .sector) (settingOf h disk)
+      ap (λ (s : Setting). startingPair s (volumeOf h disk)) (setting-as r new h e) ∙ starting-as r new (settingOf h) (volumeOf h disk)
 
   pair-as : (disk : List ℕ) (h : Host) (stage : List ℕ) → h .program .active ≡ true
-      → runningPair (hostAs r h .sector) (settingOf (hostAs r h) disk) (rootsOf (hostAs r h) disk stage) (hostAs r h .program .progress)
-      ≡ runningPair (h .sector) (settingOf h disk) (rootsOf h disk stage) (h .program .progress)
-  unfolding hostAs rootOf
-  pair-as disk h stage e = rw (setting-as r new h disk e, running-as r new (h .sector) (settingOf h disk) (rootsOf h disk stage) (h .program .progress))
+      → runningPair (settingOf (hostAs r h)) (rootsOf (hostAs r h) disk stage) (hostAs r h .program .progress)
+      ≡ runningPair (settingOf h) (rootsOf h disk stage) (h .program .progress)
+  unfolding volumeBy hostAs rootOf
+  pair-as disk h stage e = rw (setting-as r new h e, running-as r new (settingOf h) (rootsOf h disk stage) (h .program .progress))
 
   ended-same : (h : Host) → unfinished (hostAs r h .program) ≡ unfinished (h .program)
   unfolding unfinished hostAs
@@ -111,7 +112,7 @@ module _ (r : List ℕ → List ℕ) (new : Renaming r) where
 
   commit-as : (disk : List ℕ) (h : Host) (stage : List ℕ) → h .program .active ≡ true → inOrder h ≡ true
       → commit disk (hostAs r h) stage ≡ closedAs (commit disk h stage)
-  unfolding commit parent settingBy
+  unfolding commit parent volumeBy
   commit-as disk h stage live o =
       let c = h .program .terms .head .contract in
       ap₂ (body (hostAs r h .sector) disk (hostAs r h) stage) (ap (λ (t : Terms). t .head .contract) (terms-of r new h live))

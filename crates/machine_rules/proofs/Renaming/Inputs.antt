@@ -1,7 +1,7 @@
 -- The inputs of an instruction under new ids: they are told alike, and name what was named before. Assumes nothing.
 use Rattle.lists.proofs.Kit.{_≡_, refl, sym, ap, List, [], _∷_, ℕ, suc, eqb}
 use Rattle.lists.proofs.Laws.Entries.{empty}
-use Rattle.machine_rules.specs.View.{Setting}
+use Rattle.machine_rules.specs.declared.Setting.{Setting}
 use Rattle.machine_rules.specs.Inputs.{dataIn, nth, isKey, wellFormed, readArgs, argsOf}
 use Rattle.machine_rules.specs.declared.Args.{Args}
 use Rattle.machine_rules.specs.Plan.{sourceOf, touched, newSize}
@@ -69,16 +69,16 @@ module _ (r : List ℕ → List ℕ) (new : Renaming r) where
   keyAs Truncate k = k
   keyAs Unknown k = k
 
-  pub source-as : (z : ℕ) (s : Setting) (f : Spot → List ℕ) (p : Progress) (op : Op) (key : List ℕ)
-      → sourceOf z (settingAs r new s) f p op (keyAs op key) ≡ sourceOf z s f p op key
+  pub source-as : (s : Setting) (f : Spot → List ℕ) (p : Progress) (op : Op) (key : List ℕ)
+      → sourceOf (settingAs r new s) f p op (keyAs op key) ≡ sourceOf s f p op key
   unfolding sourceOf
-  source-as z s f p Read key = contract-as r new z s p key
-  source-as z s f p ReadSector key = sector-as r new z s f p key
-  source-as z s f p Write key = refl
-  source-as z s f p Copy key = refl
-  source-as z s f p Swap key = refl
-  source-as z s f p Truncate key = refl
-  source-as z s f p Unknown key = refl
+  source-as s f p Read key = contract-as r new s p key
+  source-as s f p ReadSector key = sector-as r new s f p key
+  source-as s f p Write key = refl
+  source-as s f p Copy key = refl
+  source-as s f p Swap key = refl
+  source-as s f p Truncate key = refl
+  source-as s f p Unknown key = refl
 
   nth-as : (l : List (List ℕ)) → nth (firstAs r l) 0 ≡ r (nth l 0)
   unfolding firstAs

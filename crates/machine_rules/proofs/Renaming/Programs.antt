@@ -6,7 +6,8 @@ use Rattle.lists.proofs.Laws.Pick.{by, picks, skips}
 use Rattle.lists.proofs.Laws.Ways.{down, downs}
 use Rattle.area.specs.Area.{put}
 use Rattle.host.specs.With.{withProgram, withCame, withProgress, withStageRoots}
-use Rattle.machine_rules.specs.View.{Setting, setting, Turn, settingOf, turnOf, withRun, diskRight, areasRight, settingBy}
+use Rattle.machine_rules.specs.View.{Turn, turnOf, withRun, diskRight, areasRight, settingOf, volumeBy, volumeOf}
+use Rattle.machine_rules.specs.declared.Setting.{Setting}
 use Rattle.machine_rules.specs.Roots.{keptRoot, rootBy, rootOf}
 use Rattle.machine_rules.specs.Seats.{allSeats, seatsOf, firstSeat, seatsIn, notLocated, locatedAt, locatedBy, located}
 use Rattle.machine_rules.specs.Run.{going, run}
@@ -45,9 +46,9 @@ module _ (r : List ℕ → List ℕ) (new : Renaming r) where
       (λ live. ap f (picks (h .program .active) (termsAs r (h .program .terms)) (h .program .terms) live) ∙ e)
       (λ idle. ap f (skips (h .program .active) (termsAs r (h .program .terms)) (h .program .terms) idle))
 
-  pub setting-as : (h : Host) (disk : List ℕ) → h .program .active ≡ true → settingOf (hostAs r h) disk ≡ settingAs r new (settingOf h disk)
-  unfolding settingBy hostAs
-  setting-as h disk e = ap (λ (t : Terms). setting (h .disk) (h .stage) (allAs r new (h .places)) t disk (h .diskroots)) (terms-of h e)
+  pub setting-as : (h : Host) → h .program .active ≡ true → settingOf (hostAs r h) ≡ settingAs r new (settingOf h)
+  unfolding hostAs
+  setting-as h e = ap (λ (t : Terms). record { sector = h .sector; disksectors = h .disk; stagesectors = h .stage; places = allAs r new (h .places); terms = t }) (terms-of h e)
 
   pub going-as : (h : Host) → going (hostAs r h .program .terms) (hostAs r h .program .progress) ≡ going (h .program .terms) (h .program .progress)
   unfolding going hostAs
@@ -64,8 +65,8 @@ module _ (r : List ℕ → List ℕ) (new : Renaming r) where
 
   stopped-as : (disk : List ℕ) (h : Host) (output : List ℕ) → h .program .active ≡ true
       → stopped disk (hostAs r h) output ≡ interruptedAs (stopped disk h output)
-  unfolding interruptedAs stoppedBy turnOf withRun withStageRoots withProgram withProgress withCame hostAs
-  stopped-as disk h output e = rw (setting-as h disk e, failing-as r new (h .sector) (settingOf h disk) 20 (turnOf h [] output))
+  unfolding interruptedAs stoppedBy turnOf withRun withStageRoots withProgram withProgress withCame volumeBy hostAs
+  stopped-as disk h output e = rw (setting-as h e, failing-as r new (settingOf h) (volumeOf h disk) 20 (turnOf h [] output))
 
   disk-as : (h : Host) (disk : List ℕ) → diskRight (hostAs r h) disk ≡ diskRight h disk
   unfolding diskRight hostAs
@@ -100,13 +101,13 @@ module _ (r : List ℕ → List ℕ) (new : Renaming r) where
 
   reached-pair-as : (disk : List ℕ) (h : Host) (stage : List ℕ) → h .program .active ≡ true
       → reachedPair disk (hostAs r h) stage ≡ reachedPair disk h stage
-  unfolding reachedPairBy hostAs rootOf
+  unfolding reachedPairBy volumeBy hostAs rootOf
   reached-pair-as disk h stage e =
       rw (
-        setting-as h disk e,
-        starting-as r new (h .sector) (settingOf h disk),
-        running-as r new (h .sector) (settingOf h disk)
-            (rootOf (h .sector) (settingOf h disk) stage (h .stageroots)) (h .program .progress),
+        setting-as h e,
+        starting-as r new (settingOf h) (volumeOf h disk),
+        running-as r new (settingOf h)
+            (rootOf (settingOf h) (volumeOf h disk) stage (h .stageroots)) (h .program .progress),
       )
 
   pub reached-as : (disk : List ℕ) (h : Host) (stage : List ℕ) → reached disk (hostAs r h) stage ≡ reached disk h stage
@@ -126,12 +127,12 @@ module _ (r : List ℕ → List ℕ) (new : Renaming r) where
       let p = h .program .progress in
       let all = allSeats z (h .places) in
       by (h .program .active)
-      (λ e. picks (h .program .active) _ _ e ∙ ap (λ (s : Setting). seatsOf z s p) (setting-as h [] e) ∙ seats-of-as r new z (settingOf h []) p
-      ∙ sym (picks (h .program .active) (seatsOf z (settingOf h []) p) all e))
-      (λ e. skips (h .program .active) _ _ e ∙ all-seats-as r new z (h .places) ∙ sym (skips (h .program .active) (seatsOf z (settingOf h []) p) all e))
+      (λ e. picks (h .program .active) _ _ e ∙ ap (λ (s : Setting). seatsOf s p) (setting-as h e) ∙ seats-of-as r new (settingOf h) p
+      ∙ sym (picks (h .program .active) (seatsOf (settingOf h) p) all e))
+      (λ e. skips (h .program .active) _ _ e ∙ all-seats-as r new z (h .places) ∙ sym (skips (h .program .active) (seatsOf (settingOf h) p) all e))
 
   pub locating-as : (h : Host) (key : List ℕ) → located (hostAs r h) key ≡ located h key
-  unfolding locatedBy rootOf rootBy settingBy hostAs
+  unfolding locatedBy rootOf rootBy volumeBy hostAs
   locating-as h key =
       let f = keptRoot (h .diskroots) (h .stageroots) in
       ap₂ (λ (b : Bool) (l : List Seat). pick (not b) (notLocated 1) (locatedAt (firstSeat f key l))) (in-order-as r new h) (seats-in-as h)
@@ -159,13 +160,13 @@ module _ (r : List ℕ → List ℕ) (new : Renaming r) where
       piece-not n = record { is = refl }
 
       run-same : h .program .active ≡ true
-          → run (h .sector) (settingOf (hostAs r h) (a .disk)) other (came + length bytes′) (turnOf (hostAs r h) (a .stage) (a .output))
-          ≡ run (h .sector) (settingOf h (a .disk)) one (came + length bytes) (turnOf h (a .stage) (a .output))
-      unfolding turnOf hostAs settingBy
+          → run (settingOf (hostAs r h)) (volumeOf (hostAs r h) (a .disk)) other (came + length bytes′) (turnOf (hostAs r h) (a .stage) (a .output))
+          ≡ run (settingOf h) (volumeOf h (a .disk)) one (came + length bytes) (turnOf h (a .stage) (a .output))
+      unfolding turnOf hostAs volumeBy
       run-same e =
           let t = turnOf h (a .stage) (a .output) in
-          ap₂ (λ (s : Setting) (n : ℕ). run (h .sector) s other (came + n) t) (setting-as h (a .disk) e) long′
-          ∙ run-as r new (h .sector) (settingOf h (a .disk)) one other asks (came + length bytes) t
+          ap₂ (λ (s : Setting) (n : ℕ). run s (volumeOf h (a .disk)) other (came + n) t) (setting-as h e) long′
+          ∙ run-as r new (settingOf h) (volumeOf h (a .disk)) one other asks (came + length bytes) t
 
       input-as : inputRight (hostAs r h) input ≡ inputRight h (a .input)
       unfolding inputRight

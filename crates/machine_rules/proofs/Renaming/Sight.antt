@@ -3,7 +3,8 @@ use Rattle.lists.proofs.Kit.{_≡_, refl, ap₂, Bool, List, [], _∷_, _++_, �
 use Rattle.lists.specs.Pick.{pick}
 use Rattle.lists.specs.Tests.{each, firstOf}
 use Rattle.host.specs.Places.{hasId, whose, committed}
-use Rattle.machine_rules.specs.View.{Setting, parent, readOnlyMode, parentSpots, committedSpots}
+use Rattle.machine_rules.specs.View.{parent, readOnlyMode, parentSpots, committedSpots, Volume}
+use Rattle.machine_rules.specs.declared.Setting.{Setting}
 use Rattle.machine_rules.specs.Seats.{seated, committedSeats, seats, nobody, allSeats, seatsOf}
 use Rattle.machine_rules.specs.Roots.{rootOf}
 use Rattle.machine_rules.specs.Plan.{contractSource, sectorSource}
@@ -18,36 +19,34 @@ use Rattle.machine_rules.specs.declared.Seat.{Seat}
 module _ (r : List ℕ → List ℕ) (new : Renaming r) where
   abbrev pub settingAs : Setting → Setting
   settingAs s = record {
-    sectors = s .sectors;
-    copies = s .copies;
+    sector = s .sector;
+    disksectors = s .disksectors;
+    stagesectors = s .stagesectors;
     places = allAs r new (s .places);
     terms = termsAs r (s .terms);
-    disk = s .disk;
-    roots = s .roots;
-    way = s .way;
   }
 
   pub parent-as : (s : Setting) → parent (settingAs s) ≡ placeAs r (parent s)
   unfolding parent
   parent-as s = whose-as r new (s .terms .head .contract) (s .places)
 
-  pub spots-as : (z : ℕ) (s : Setting) (p : Progress) → parentSpots z (settingAs s) p ≡ parentSpots z s p
+  pub spots-as : (s : Setting) (p : Progress) → parentSpots (settingAs s) p ≡ parentSpots s p
   unfolding parentSpots
-  spots-as z s p = rw (parent-as s)
+  spots-as s p = rw (parent-as s)
 
-  pub starting-as : (z : ℕ) (s : Setting) → startingPair z (settingAs s) ≡ startingPair z s
+  pub starting-as : (s : Setting) (vol : Volume) → startingPair (settingAs s) vol ≡ startingPair s vol
   unfolding startingPair pairOf committedSpots rootOf
-  starting-as z s = rw (parent-as s, committed-as r new z (parent s))
+  starting-as s vol = rw (parent-as s, committed-as r new (s .sector) (parent s))
 
-  pub running-as : (z : ℕ) (s : Setting) (f : Spot → List ℕ) (p : Progress) → runningPair z (settingAs s) f p ≡ runningPair z s f p
+  pub running-as : (s : Setting) (f : Spot → List ℕ) (p : Progress) → runningPair (settingAs s) f p ≡ runningPair s f p
   unfolding runningPair
-  running-as z s f p = rw (spots-as z s p)
+  running-as s f p = rw (spots-as s p)
 
-  pub contract-as : (z : ℕ) (s : Setting) (p : Progress) (id : List ℕ) → contractSource z (settingAs s) p (r id) ≡ contractSource z s p id
+  pub contract-as : (s : Setting) (p : Progress) (id : List ℕ) → contractSource (settingAs s) p (r id) ≡ contractSource s p id
   unfolding contractSource committedSpots
-  contract-as z s p id =
+  contract-as s p id =
       let c = s .terms .head .contract in
-      rw (whose-as r new id (s .places), spots-as z s p, committed-as r new z (whose id (s .places)), new .differ id c)
+      rw (whose-as r new id (s .places), spots-as s p, committed-as r new (s .sector) (whose id (s .places)), new .differ id c)
 
   -- the places that a test passes are as many before the first, and the others have the same sectors
   module _ (z : ℕ) (mine mine′ : Place → Bool) (alike : (p : Place) → mine′ (placeAs r p) ≡ mine p) where
@@ -70,13 +69,13 @@ module _ (r : List ℕ → List ℕ) (new : Renaming r) where
   unfolding nobody
   all-seats-as z ps = seats-as z nobody nobody (λ p. refl) [] ps
 
-  pub seats-of-as : (z : ℕ) (s : Setting) (p : Progress) → seatsOf z (settingAs s) p ≡ seatsOf z s p
+  pub seats-of-as : (s : Setting) (p : Progress) → seatsOf (settingAs s) p ≡ seatsOf s p
   unfolding seatsOf readOnlyMode
-  seats-of-as z s p =
+  seats-of-as s p =
       let id = s .terms .head .contract in
-      rw (word-as r new id, all-seats-as z (s .places), spots-as z s p, seats-as z (hasId id) (hasId (r id)) (has-as r new id) (parentSpots z s p) (s .places))
+      rw (word-as r new id, all-seats-as (s .sector) (s .places), spots-as s p, seats-as (s .sector) (hasId id) (hasId (r id)) (has-as r new id) (parentSpots s p) (s .places))
 
-  pub sector-as : (z : ℕ) (s : Setting) (f : Spot → List ℕ) (p : Progress) (key : List ℕ)
-      → sectorSource z (settingAs s) f p key ≡ sectorSource z s f p key
+  pub sector-as : (s : Setting) (f : Spot → List ℕ) (p : Progress) (key : List ℕ)
+      → sectorSource (settingAs s) f p key ≡ sectorSource s f p key
   unfolding sectorSource
-  sector-as z s f p key = rw (seats-of-as z s p)
+  sector-as s f p key = rw (seats-of-as s p)

@@ -4,7 +4,8 @@ use Rattle.lists.specs.Pick.{pick}
 use Rattle.sia.specs.Names.{opOf}
 use Rattle.sia.specs.Empty.{noInstruction}
 use Rattle.host.specs.With.{withRunning, withStaged}
-use Rattle.machine_rules.specs.View.{Setting, Turn, readOnlyMode, freeCopies}
+use Rattle.machine_rules.specs.View.{Turn, readOnlyMode, freeCopies, Volume}
+use Rattle.machine_rules.specs.declared.Setting.{Setting}
 use Rattle.machine_rules.specs.Inputs.{dataIn, inputsOf, argsOf}
 use Rattle.machine_rules.specs.declared.Args.{Args}
 use Rattle.machine_rules.specs.Roots.{rootOf, rootAt}
@@ -28,103 +29,103 @@ use Rattle.machine_rules.proofs.Renaming.Inputs.{withKey, new-key, touc
 module _ (r : List ℕ → List ℕ) (new : Renaming r) where
   -- ---- one instruction
 
-  from-as : (z : ℕ) (s : Setting) (p : Progress) (asked : Bool) (n : ℕ) (op : Op) (a : Args) (k : List ℕ)
-      → weighed z (settingAs r new s) p asked n op (withKey a k) ≡ weighed z s p asked n op a
+  from-as : (s : Setting) (p : Progress) (asked : Bool) (n : ℕ) (op : Op) (a : Args) (k : List ℕ)
+      → weighed (settingAs r new s) p asked n op (withKey a k) ≡ weighed s p asked n op a
   unfolding weighed fitted badSpans badProof freeCopies wanted touched newSize recordCount proofCount outputCount
-  from-as z s p asked n Read a k = rw (others-as r new (s .terms .head .contract) (s .places))
-  from-as z s p asked n ReadSector a k = rw (others-as r new (s .terms .head .contract) (s .places))
-  from-as z s p asked n Write a k = rw (others-as r new (s .terms .head .contract) (s .places))
-  from-as z s p asked n Copy a k = rw (others-as r new (s .terms .head .contract) (s .places))
-  from-as z s p asked n Swap a k = rw (others-as r new (s .terms .head .contract) (s .places))
-  from-as z s p asked n Truncate a k = rw (others-as r new (s .terms .head .contract) (s .places))
-  from-as z s p asked n Unknown a k = rw (others-as r new (s .terms .head .contract) (s .places))
+  from-as s p asked n Read a k = rw (others-as r new (s .terms .head .contract) (s .places))
+  from-as s p asked n ReadSector a k = rw (others-as r new (s .terms .head .contract) (s .places))
+  from-as s p asked n Write a k = rw (others-as r new (s .terms .head .contract) (s .places))
+  from-as s p asked n Copy a k = rw (others-as r new (s .terms .head .contract) (s .places))
+  from-as s p asked n Swap a k = rw (others-as r new (s .terms .head .contract) (s .places))
+  from-as s p asked n Truncate a k = rw (others-as r new (s .terms .head .contract) (s .places))
+  from-as s p asked n Unknown a k = rw (others-as r new (s .terms .head .contract) (s .places))
 
   mode-as : (s : Setting) → readOnlyMode (settingAs r new s .terms) ≡ readOnlyMode (s .terms)
   unfolding readOnlyMode
   mode-as s = word-as r new (s .terms .head .contract)
 
-  inputs-as : (z : ℕ) (s : Setting) (f : Spot → List ℕ) (p : Progress) (i : Instruction) (op : Op) (l : List (List ℕ))
-      → plannedInputs z (settingAs r new s) f p i op (inputsAs r op l) ≡ plannedInputs z s f p i op l
+  inputs-as : (s : Setting) (f : Spot → List ℕ) (p : Progress) (i : Instruction) (op : Op) (l : List (List ℕ))
+      → plannedInputs (settingAs r new s) f p i op (inputsAs r op l) ≡ plannedInputs s f p i op l
   unfolding plannedInputs plannedArgs
-  inputs-as z s f p i op l =
+  inputs-as s f p i op l =
       rw (
         args-as r new op l,
         well-as r new op l,
         mode-as s,
-        source-as r new z s f p op (argsOf op l .key),
-        from-as z s p (i .proof) (length (spots (sourceOf z s f p op (argsOf op l .key)))) op (argsOf op l) (keyAs r new op (argsOf op l .key)),
+        source-as r new s f p op (argsOf op l .key),
+        from-as s p (i .proof) (length (spots (sourceOf s f p op (argsOf op l .key)))) op (argsOf op l) (keyAs r new op (argsOf op l .key)),
       )
 
-  planned-as : (z : ℕ) (s : Setting) (f : Spot → List ℕ) (p : Progress) (i : Instruction) (l : List (List ℕ))
-      → planned z (settingAs r new s) f p i (inputsAs r (opOf (i .name)) l) ≡ planned z s f p i l
+  planned-as : (s : Setting) (f : Spot → List ℕ) (p : Progress) (i : Instruction) (l : List (List ℕ))
+      → planned (settingAs r new s) f p i (inputsAs r (opOf (i .name)) l) ≡ planned s f p i l
   unfolding planned
-  planned-as z s f p i l = rw (inputs-as z s f p i (opOf (i .name)) l)
+  planned-as s f p i l = rw (inputs-as s f p i (opOf (i .name)) l)
 
-  judged-as : (z : ℕ) (s : Setting) (f : Spot → List ℕ) (p : Progress) (i : Instruction) (l : List (List ℕ))
-      → judged z (settingAs r new s) f p i (inputsAs r (opOf (i .name)) l) ≡ judged z s f p i l
+  judged-as : (s : Setting) (f : Spot → List ℕ) (p : Progress) (i : Instruction) (l : List (List ℕ))
+      → judged (settingAs r new s) f p i (inputsAs r (opOf (i .name)) l) ≡ judged s f p i l
   unfolding judged
-  judged-as z s f p i l = ap (λ (r : Plan). r .number) (planned-as z s f p i l)
+  judged-as s f p i l = ap (λ (r : Plan). r .number) (planned-as s f p i l)
 
-  pub failing-as : (z : ℕ) (s : Setting) (n : ℕ) (t : Turn) → failing z (settingAs r new s) n t ≡ failing z s n t
+  pub failing-as : (s : Setting) (vol : Volume) (n : ℕ) (t : Turn) → failing (settingAs r new s) vol n t ≡ failing s vol n t
   unfolding failing failureBytes
-  failing-as z s n t = rw (starting-as r new z s)
+  failing-as s vol n t = rw (starting-as r new s vol)
 
-  success-as : (z : ℕ) (s : Setting) (f : Spot → List ℕ) (p : Progress) (asked : Bool) (from : Source) (op : Op) (a : Args) (k : List ℕ)
+  success-as : (s : Setting) (vol : Volume) (f : Spot → List ℕ) (p : Progress) (asked : Bool) (from : Source) (op : Op) (a : Args) (k : List ℕ)
       (n size : ℕ) (g : Staging)
-      → successBytes z (settingAs r new s) f p asked from op (withKey a k) n size g ≡ successBytes z s f p asked from op a n size g
+      → successBytes (settingAs r new s) vol f p asked from op (withKey a k) n size g ≡ successBytes s vol f p asked from op a n size g
   unfolding successBytes proofCount outputCount
-  success-as z s f p asked from op a k n size g =
-      rw (running-as r new z s f (withStaged (withRunning p size) (g .staged)), output-key z (s .disk) (g .bytes) (spots from) a k)
+  success-as s vol f p asked from op a k n size g =
+      rw (running-as r new s f (withStaged (withRunning p size) (g .staged)), output-key (s .sector) (vol .disk) (g .bytes) (spots from) a k)
 
-  succeeding-as : (z : ℕ) (s : Setting) (asked : Bool) (op : Op) (a : Args) (d : List ℕ) (t : Turn)
-      → succeeding z (settingAs r new s) asked op (withKey a (keyAs r new op (a .key))) d t ≡ succeeding z s asked op a d t
+  succeeding-as : (s : Setting) (vol : Volume) (asked : Bool) (op : Op) (a : Args) (d : List ℕ) (t : Turn)
+      → succeeding (settingAs r new s) vol asked op (withKey a (keyAs r new op (a .key))) d t ≡ succeeding s vol asked op a d t
   unfolding succeeding recordCount proofCount outputCount rootOf
-  succeeding-as z s asked op a d t =
+  succeeding-as s vol asked op a d t =
       let p = t .progress in
       let k = keyAs r new op (a .key) in
       let g : Staging = record { staged = p .staged; bytes = t .stage } in
-      let after = effect z (groundOf s) (p .size) op a d g in
+      let after = effect (s .sector) (groundOf s vol) (p .size) op a d g in
       let price = cost (s .terms .head .length) (s .terms .prices) op (a .len) in
       rw (
-        source-as r new z s (rootAt z s t) p op (a .key),
+        source-as r new s (rootAt s vol t) p op (a .key),
         parent-as r new s,
         new-key (p .size) op a k,
-        touched-key z (p .size) op a k,
-        effect-key z (groundOf s) (p .size) op a k d g,
-        success-as z s (rootOf z s (after .bytes) (rehashed z after (touched z (p .size) op a) (t .roots))) p asked
-            (sourceOf z s (rootAt z s t) p op (a .key)) op a k price (newSize (p .size) op a) after,
+        touched-key (s .sector) (p .size) op a k,
+        effect-key (s .sector) (groundOf s vol) (p .size) op a k d g,
+        success-as s vol (rootOf s vol (after .bytes) (rehashed (s .sector) after (touched (s .sector) (p .size) op a) (t .roots))) p asked
+            (sourceOf s (rootAt s vol t) p op (a .key)) op a k price (newSize (p .size) op a) after,
       )
 
-  pub stepped-as : (z : ℕ) (s : Setting) (i : Instruction) (l : List (List ℕ)) (t : Turn)
-      → stepped z (settingAs r new s) i (inputsAs r (opOf (i .name)) l) t ≡ stepped z s i l t
+  pub stepped-as : (s : Setting) (vol : Volume) (i : Instruction) (l : List (List ℕ)) (t : Turn)
+      → stepped (settingAs r new s) vol i (inputsAs r (opOf (i .name)) l) t ≡ stepped s vol i l t
   unfolding stepped rootOf
-  stepped-as z s i l t =
+  stepped-as s vol i l t =
       let op = opOf (i .name) in
-      let f = rootAt z s t in
-      let n = judged z s f (t .progress) i l in
+      let f = rootAt s vol t in
+      let n = judged s f (t .progress) i l in
       rw (
-        judged-as z s f (t .progress) i l,
+        judged-as s f (t .progress) i l,
         args-as r new op l,
         data-as r new op l,
-        succeeding-as z s (i .proof) op (argsOf op l) (dataIn l) t,
-        failing-as z s n t,
+        succeeding-as s vol (i .proof) op (argsOf op l) (dataIn l) t,
+        failing-as s vol n t,
       )
 
   -- ---- instructions in turn
 
-  module _ (z : ℕ) (s : Setting) (input input′ : List ℕ) (asks : AsksAs r (s .terms .head) input input′) where
-    step-as : (t : Turn) → step z (settingAs r new s) input′ t ≡ step z s input t
+  module _ (s : Setting) (vol : Volume) (input input′ : List ℕ) (asks : AsksAs r (s .terms .head) input input′) where
+    step-as : (t : Turn) → step (settingAs r new s) vol input′ t ≡ step s vol input t
     unfolding step current
     step-as t =
         let i = getD (s .terms .head .instructions) (t .progress .ran) noInstruction in
-        rw (asks (t .progress .ran), stepped-as z s i (inputsOf i input) t)
+        rw (asks (t .progress .ran), stepped-as s vol i (inputsOf i input) t)
 
-    runs-as : (k n : ℕ) (t : Turn) → runs z (settingAs r new s) input′ k n t ≡ runs z s input k n t
+    runs-as : (k n : ℕ) (t : Turn) → runs (settingAs r new s) vol input′ k n t ≡ runs s vol input k n t
     unfolding runs ready going current
     runs-as k zero t = refl
     runs-as k (suc n) t =
-        ap (λ (x : Turn). pick (ready s k t) x t) (ap (runs z (settingAs r new s) input′ k n) (step-as t) ∙ runs-as k n (step z s input t))
+        ap (λ (x : Turn). pick (ready s k t) x t) (ap (runs (settingAs r new s) vol input′ k n) (step-as t) ∙ runs-as k n (step s vol input t))
 
-    pub run-as : (k : ℕ) (t : Turn) → run z (settingAs r new s) input′ k t ≡ run z s input k t
+    pub run-as : (k : ℕ) (t : Turn) → run (settingAs r new s) vol input′ k t ≡ run s vol input k t
     unfolding run
     run-as k t = runs-as k (s .terms .head .count) t

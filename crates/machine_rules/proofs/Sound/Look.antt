@@ -9,7 +9,7 @@ use Rattle.area.proofs.Laws.Same.{same-eq}
 use Rattle.tree.specs.Tree as Tree
 use Rattle.host.specs.Places.{taken}
 use Rattle.host.specs.Order.{inOrder}
-use Rattle.machine_rules.specs.View.{Way, kept, worked, settingBy, settingOf, readOnlyMode, sector, parent, parentSpots}
+use Rattle.machine_rules.specs.View.{Way, kept, worked, readOnlyMode, sector, parent, parentSpots, settingOf, volumeBy, volumeOf}
 use Rattle.machine_rules.specs.Roots.{sectorRoot, rootBy, rootOf}
 use Rattle.machine_rules.specs.Seats.{nobody, allSeats, seatsOf, seatsIn, notLocated, locatedAt, locatedBy}
 use Rattle.machine_rules.specs.Plan.{Source, seen, spots, sectorSource}
@@ -30,39 +30,39 @@ module _ (h : Host) (disk stage : List ℕ) (s : Sound h disk stage) where
   z = h .sector
 
   abbrev rootsBy : Way → Spot → List ℕ
-  rootsBy way = rootOf z (settingBy way h disk) stage (h .stageroots)
+  rootsBy way = rootOf (settingOf h) (volumeBy way h disk) stage (h .stageroots)
 
   o : inOrder h ≡ true
   o = sound-order disk h stage (s .right)
 
   disk-known : every (λ n. agree (rootsBy kept) (rootsBy worked) (OnDisk n)) (taken z (h .places)) ≡ true
-  unfolding settingBy withWay
-  disk-known = known-disk z (settingOf h disk) stage (h .stageroots) (sound-disk disk h stage (s .right))
+  unfolding volumeBy withWay
+  disk-known = known-disk (settingOf h) (volumeOf h disk) stage (h .stageroots) (sound-disk disk h stage (s .right))
 
   module _ (live : h .program .active ≡ true) where
     -- what holds of all sectors in use holds of those that the program sees
-    parent-known : every (agree (rootsBy kept) (rootsBy worked)) (parentSpots z (settingOf h []) (h .program .progress)) ≡ true
-    unfolding settingBy withWay parentSpots parent
+    parent-known : every (agree (rootsBy kept) (rootsBy worked)) (parentSpots (settingOf h) (h .program .progress)) ≡ true
+    unfolding volumeBy withWay parentSpots parent
     parent-known =
         let blank = zeros (h .disk * h .sector) in
         let solid = order-solid h blank (zeros (h .stage * h .sector)) o (blank-right h) in
         let good = order-good h blank o live (s .declared .staged) in
-        all-parent z (settingOf h blank) (h .program .progress) solid (good .orderly .staged)
-        (few-sectors z (settingOf h blank) (h .program .progress) (solid .lent) good) (good .entries) (s .declared .places) _ disk-known
-        (known-stage z (settingOf h disk) stage (h .stageroots) (h .program .progress .staged) (sound-stage disk h stage (s .right) live))
+        all-parent (settingOf h) (volumeOf h blank) (h .program .progress) solid (good .orderly .staged)
+        (few-sectors (settingOf h) (h .program .progress) (solid .lent) good) (good .entries) (s .declared .places) _ disk-known
+        (known-stage (settingOf h) (volumeOf h disk) stage (h .stageroots) (h .program .progress .staged) (sound-stage disk h stage (s .right) live))
 
-    program-known : every (λ x. agree (rootsBy kept) (rootsBy worked) (x .spot)) (seatsOf z (settingOf h []) (h .program .progress)) ≡ true
-    unfolding settingBy
-    program-known = program-every (agree (rootsBy kept) (rootsBy worked)) z (settingOf h []) (h .program .progress) parent-known disk-known
+    program-known : every (λ x. agree (rootsBy kept) (rootsBy worked) (x .spot)) (seatsOf (settingOf h) (h .program .progress)) ≡ true
+    unfolding volumeBy
+    program-known = program-every (agree (rootsBy kept) (rootsBy worked)) (settingOf h) (h .program .progress) parent-known disk-known
 
     -- the sector that is read has that root, worked out from its bytes
-    pub read-bytes : (key : List ℕ) (x : Spot) → sectorSource z (settingOf h disk) (rootsBy kept) (h .program .progress) key ≡ seen (x ∷ [])
+    pub read-bytes : (key : List ℕ) (x : Spot) → sectorSource (settingOf h) (rootsBy kept) (h .program .progress) key ≡ seen (x ∷ [])
         → Tree.root (sector z disk stage x) ≡ key
-    unfolding sectorSource settingBy seatsOf readOnlyMode parentSpots parent every spots agree rootOf rootBy sectorRoot
+    unfolding sectorSource volumeBy seatsOf readOnlyMode parentSpots parent every spots agree rootOf rootBy sectorRoot
     read-bytes key x e =
-        let all = sought-every (agree (rootsBy kept) (rootsBy worked)) (rootsBy kept) key (seatsOf z (settingOf h []) (h .program .progress)) program-known in
+        let all = sought-every (agree (rootsBy kept) (rootsBy worked)) (rootsBy kept) key (seatsOf (settingOf h) (h .program .progress)) program-known in
         let one = both-left _ _ (sym (ap (λ (from : Source). every (agree (rootsBy kept) (rootsBy worked)) (spots from)) e) ∙ all) in
-        sym (same-eq _ _ one) ∙ source-root z (settingOf h disk) (rootsBy kept) (h .program .progress) key x e
+        sym (same-eq _ _ one) ∙ source-root (settingOf h) (rootsBy kept) (h .program .progress) key x e
 
   seats-known : every (λ x. agree (rootsBy kept) (rootsBy worked) (x .spot)) (seatsIn h) ≡ true
   unfolding seatsIn

@@ -9,7 +9,7 @@ use Rattle.area.specs.Area.{put}
 use Rattle.host.specs.Empty.{noProgram}
 use Rattle.host.specs.With.{withPlaces, withProgram, withDiskRoots, withStageRoots, withCame, withProgress}
 use Rattle.host.specs.Places.{taken}
-use Rattle.machine_rules.specs.View.{kept, worked, Turn, settingBy, settingOf, turnOf, withRun, areasRight, parent, sector, parentSpots, committedSpots}
+use Rattle.machine_rules.specs.View.{kept, worked, Turn, turnOf, withRun, areasRight, parent, sector, parentSpots, committedSpots, settingOf, volumeBy, volumeOf}
 use Rattle.machine_rules.specs.Roots.{sectorRoot, keptRoot, rootBy, rootOf, rootOnDisk}
 use Rattle.machine_rules.specs.Record.{pairing, samePair, pairOf, startingPair, runningPair}
 use Rattle.machine_rules.specs.Run.{failedProgress, failing, run}
@@ -63,8 +63,8 @@ module _ (disk : List ℕ) (h : Host) (stage : List ℕ) (shape : Declared h) (f
   o : inOrder h ≡ true
   o = sound-order disk h stage fine
 
-  start-known : (output : List ℕ) → h .program .active ≡ true → Known z (settingOf h disk) (turnOf h stage output)
-  unfolding settingBy turnOf
+  start-known : (output : List ℕ) → h .program .active ≡ true → Known (settingOf h) (volumeOf h disk) (turnOf h stage output)
+  unfolding volumeBy turnOf
   start-known output live = record {
     disk = sound-disk disk h stage fine;
     stage = sound-stage disk h stage fine live;
@@ -74,13 +74,13 @@ module _ (disk : List ℕ) (h : Host) (stage : List ℕ) (shape : Declared h) (f
 
   accepted-alike : (input output bytes : List ℕ) → areasRight h disk stage ≡ true → h .program .active ≡ true
       → acceptedBy kept disk h stage input output bytes ≡ acceptedBy worked disk h stage input output bytes
-  unfolding acceptedBy run settingBy withWay turnOf
+  unfolding acceptedBy run volumeBy withWay turnOf
   accepted-alike input output bytes areas live =
       let k = h .program .came + length bytes in
       let area = put input (h .program .came) bytes in
       ap (λ (t : Turn). pieced 0 (t .progress .tally) (withRun h (h .program .came + length bytes) (t .progress) (t .roots)) (t .stage)
       (put input (h .program .came) bytes) (t .output))
-      (runs-alike z (settingOf h disk) (order-solid h disk stage o areas) (put input (h .program .came) bytes) (h .program .came + length bytes)
+      (runs-alike (settingOf h) (volumeOf h disk) (order-solid h disk stage o areas) (put input (h .program .came) bytes) (h .program .came + length bytes)
       (h .program .terms .head .count) (turnOf h stage output)
       (order-good h disk o live (shape .staged)) (start-known output live))
 
@@ -94,9 +94,9 @@ module _ (disk : List ℕ) (h : Host) (stage : List ℕ) (shape : Declared h) (f
 
   pub records-alike : (output all : List ℕ) → areasRight h disk stage ≡ true → h .program .active ≡ true
       → wholeRunBy kept h (lends disk stage output) all ≡ wholeRunBy worked h (lends disk stage output) all
-  unfolding wholeRunBy settingBy withWay turnOf
+  unfolding wholeRunBy volumeBy withWay turnOf
   records-alike output all areas live =
-      trail-alike z (settingOf h disk) (order-solid h disk stage o areas) all (h .program .terms .head .length) (h .program .terms .head .count)
+      trail-alike (settingOf h) (volumeOf h disk) (order-solid h disk stage o areas) all (h .program .terms .head .length) (h .program .terms .head .count)
       (turnOf h stage output)
       (order-good h disk o live (shape .staged)) (start-known output live)
 
@@ -104,9 +104,9 @@ module _ (disk : List ℕ) (h : Host) (stage : List ℕ) (shape : Declared h) (f
   accepted-sound : (input output bytes : List ℕ) → areasRight h disk stage ≡ true → h .program .active ≡ true
       → inOrder (acceptedBy kept disk h stage input output bytes .host) ≡ true
       → sound disk (acceptedBy kept disk h stage input output bytes .host) (acceptedBy kept disk h stage input output bytes .stage) ≡ true
-  unfolding acceptedBy run withRun withStageRoots withProgram withProgress withCame settingBy withWay turnOf
+  unfolding acceptedBy run withRun withStageRoots withProgram withProgress withCame volumeBy withWay turnOf
   accepted-sound input output bytes areas live order =
-      let known = runs-known z (settingOf h disk) (order-solid h disk stage o areas) (put input (h .program .came) bytes)
+      let known = runs-known (settingOf h) (volumeOf h disk) (order-solid h disk stage o areas) (put input (h .program .came) bytes)
       (h .program .came + length bytes) (h .program .terms .head .count) (turnOf h stage output)
       (order-good h disk o live (shape .staged)) (start-known output live) in
       is-sound disk _ _ order (sound-disk disk h stage fine) (λ _. known .stage)
@@ -130,38 +130,37 @@ module _ (disk : List ℕ) (h : Host) (stage : List ℕ) (shape : Declared h) (f
   -- ---- interrupts
 
   pub interrupt-alike : (output : List ℕ) → interruptBy kept disk h output ≡ interruptBy worked disk h output
-  unfolding interruptBy stoppedBy settingBy withWay
+  unfolding interruptBy stoppedBy volumeBy withWay
   interrupt-alike output =
       behind (not (inOrder h)) _ _ _ (λ _. behind _ _ _ _ (λ _. behind _ _ _ _ (λ _. behind _ _ _ _ (λ _. ahead _ _ _ _ (λ _.
       ap (λ (t : Turn). record { number = 0; tally = t .progress .tally; host = withRun h (h .program .came) (t .progress) (t .roots); output = t .output })
-      (failing-alike z (settingOf h disk) 20 (turnOf h [] output) (sound-disk disk h stage fine)))))))
+      (failing-alike (settingOf h) (volumeOf h disk) 20 (turnOf h [] output) (sound-disk disk h stage fine)))))))
 
   -- ---- the running pair
 
   parent-right : areasRight h disk stage ≡ true → h .program .active ≡ true
-      → every (agree (rootOf z (settingBy kept h disk) stage (h .stageroots)) (rootOf z (settingBy worked h disk) stage (h .stageroots)))
-      (parentSpots z (settingOf h disk) (h .program .progress)) ≡ true
-  unfolding settingBy withWay
+      → every (agree (rootOf (settingOf h) (volumeBy kept h disk) stage (h .stageroots)) (rootOf (settingOf h) (volumeBy worked h disk) stage (h .stageroots)))
+      (parentSpots (settingOf h) (h .program .progress)) ≡ true
+  unfolding volumeBy withWay
   parent-right areas live =
-      let s = settingOf h disk in
       let g = order-good h disk o live (shape .staged) in
       let solid = order-solid h disk stage o areas in
-      all-parent z (settingOf h disk) (h .program .progress) solid (g .orderly .staged)
-      (few-sectors z (settingOf h disk) (h .program .progress) (solid .lent) g) (g .entries) (shape .places) _
-      (known-disk z (settingOf h disk) stage (h .stageroots) (sound-disk disk h stage fine))
-      (known-stage z (settingOf h disk) stage (h .stageroots) (h .program .progress .staged) (sound-stage disk h stage fine live))
+      all-parent (settingOf h) (volumeOf h disk) (h .program .progress) solid (g .orderly .staged)
+      (few-sectors (settingOf h) (h .program .progress) (solid .lent) g) (g .entries) (shape .places) _
+      (known-disk (settingOf h) (volumeOf h disk) stage (h .stageroots) (sound-disk disk h stage fine))
+      (known-stage (settingOf h) (volumeOf h disk) stage (h .stageroots) (h .program .progress .staged) (sound-stage disk h stage fine live))
 
-  pub pair-alike : areasRight h disk stage ≡ true → h .program .active ≡ true → runningPair z (settingBy kept h disk)
-      (rootOf z (settingBy kept h disk) stage (h .stageroots)) (h .program .progress)
-      ≡ runningPair z (settingBy worked h disk) (rootOf z (settingBy worked h disk) stage (h .stageroots)) (h .program .progress)
-  unfolding runningPair parentSpots parent settingBy
+  pub pair-alike : areasRight h disk stage ≡ true → h .program .active ≡ true → runningPair (settingOf h)
+      (rootOf (settingOf h) (volumeBy kept h disk) stage (h .stageroots)) (h .program .progress)
+      ≡ runningPair (settingOf h) (rootOf (settingOf h) (volumeBy worked h disk) stage (h .stageroots)) (h .program .progress)
+  unfolding runningPair parentSpots parent volumeBy
   pair-alike areas live = ap (λ (r : List ℕ). pairing (h .program .progress .size) r) (root-agree _ _ _ (parent-right areas live))
 
-  starting-alike : startingPair z (settingBy kept h disk) ≡ startingPair z (settingBy worked h disk)
-  unfolding startingPair pairOf parent settingBy withWay
-  starting-alike = ap (λ (r : List ℕ). pairing (parent (settingOf h disk) .size) r)
-      (root-agree (rootOnDisk z (settingBy kept h disk)) (rootOnDisk z (settingBy worked h disk)) (committedSpots z (parent (settingOf h disk)))
-      (all-start z (settingOf h disk) _ (known-disk z (settingOf h disk) [] [] (sound-disk disk h stage fine))))
+  starting-alike : startingPair (settingOf h) (volumeBy kept h disk) ≡ startingPair (settingOf h) (volumeBy worked h disk)
+  unfolding startingPair pairOf parent volumeBy withWay
+  starting-alike = ap (λ (r : List ℕ). pairing (parent (settingOf h) .size) r)
+      (root-agree (rootOnDisk (settingOf h) (volumeBy kept h disk)) (rootOnDisk (settingOf h) (volumeBy worked h disk)) (committedSpots z (parent (settingOf h)))
+      (all-start (settingOf h) _ (known-disk (settingOf h) (volumeOf h disk) [] [] (sound-disk disk h stage fine))))
 
   pub reached-alike : reachedBy kept disk h stage ≡ reachedBy worked disk h stage
   unfolding reachedBy reachedPairBy
@@ -194,7 +193,7 @@ module _ (disk : List ℕ) (h : Host) (stage : List ℕ) (shape : Declared h) (f
   commit-idle = refl
 
   commit-sound : areasRight h disk stage ≡ true → h .program .active ≡ true → Ends (commit disk h stage)
-  unfolding agree rootOf rootBy settingBy keptRoot sectorRoot
+  unfolding agree rootOf rootBy volumeBy keptRoot sectorRoot
   commit-sound areas live =
       is-sound (commit disk h stage .disk) (commit disk h stage .host) stage (commit-order disk h stage shape o live)
       (commit-right disk h stage shape o areas live (parent-right areas live) (sound-disk disk h stage fine)) (λ u. never (sym u ∙ commit-idle))

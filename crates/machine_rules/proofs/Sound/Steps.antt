@@ -10,7 +10,8 @@ use Rattle.area.proofs.Laws.Slots as Slots
 use Rattle.sia.specs.Names.{opOf}
 use Rattle.host.specs.With.{withRunning, withStaged}
 use Rattle.host.specs.Places.{taken}
-use Rattle.machine_rules.specs.View.{Way, kept, worked, Setting, Turn, readOnlyMode, parent, parentSpots, committedSpots}
+use Rattle.machine_rules.specs.View.{Way, kept, worked, Turn, readOnlyMode, parent, parentSpots, committedSpots, Volume}
+use Rattle.machine_rules.specs.declared.Setting.{Setting}
 use Rattle.machine_rules.specs.Seats.{seatsOf}
 use Rattle.machine_rules.specs.Roots.{rootOf, rootAt, rootOnDisk}
 use Rattle.machine_rules.specs.Inputs.{dataIn, nth, argsOf, inputsOf}
@@ -46,264 +47,260 @@ args-full op l e = subst (λ (o : Op). length (dataIn l) ≡ argsOf o l .len) (s
 
 -- ---- a failure
 
-failure-alike : (z : ℕ) (s : Setting) (n : ℕ) → every (right z (s .disk) (s .roots)) (taken z (s .places)) ≡ true → failureBytes z (withWay kept s) n
-    ≡ failureBytes z (withWay worked s) n
+failure-alike : (s : Setting) (vol : Volume) (n : ℕ) → every (right (s .sector) (vol .disk) (vol .roots)) (taken (s .sector) (s .places)) ≡ true → failureBytes s (withWay kept vol) n
+    ≡ failureBytes s (withWay worked vol) n
 unfolding failureBytes startingPair pairOf parent withWay
-failure-alike z s n h =
+failure-alike s vol n h =
     ap (λ (r : List ℕ). recordBytes n 0 (record { size = parent s .size; root = r }) 0 [] 0 [])
-    (root-agree (rootOnDisk z (withWay kept s)) (rootOnDisk z (withWay worked s)) (committedSpots z (parent s)) (all-start z s _ (known-disk z s [] [] h)))
+    (root-agree (rootOnDisk s (withWay kept vol)) (rootOnDisk s (withWay worked vol)) (committedSpots (s .sector) (parent s)) (all-start s _ (known-disk s vol [] [] h)))
 
-pub failing-alike : (z : ℕ) (s : Setting) (n : ℕ) (t : Turn) → every (right z (s .disk) (s .roots)) (taken z (s .places)) ≡ true
-    → failing z (withWay kept s) n t ≡ failing z (withWay worked s) n t
+pub failing-alike : (s : Setting) (vol : Volume) (n : ℕ) (t : Turn) → every (right (s .sector) (vol .disk) (vol .roots)) (taken (s .sector) (s .places)) ≡ true
+    → failing s (withWay kept vol) n t ≡ failing s (withWay worked vol) n t
 unfolding failing
-failing-alike z s n t h =
+failing-alike s vol n t h =
     ap (λ (b : List ℕ). record {
       progress = failedProgress (t .progress);
       stage = t .stage;
       output = put (t .output) (t .progress .written) b;
       roots = t .roots;
-    }) (failure-alike z s n h)
+    }) (failure-alike s vol n h)
 
 -- ---- an instruction that runs
 
-success-alike : (z : ℕ) (s : Setting) (f r : Spot → List ℕ) (p : Progress) (asked : Bool) (from : Source) (op : Op) (a : Args) (n size : ℕ) (g : Staging)
-    → every (agree f r) (parentSpots z s (withStaged (withRunning p size) (g .staged))) ≡ true → every (agree f r) (spots from) ≡ true
-    → successBytes z (withWay kept s) f p asked from op a n size g ≡ successBytes z (withWay worked s) r p asked from op a n size g
+success-alike : (s : Setting) (vol : Volume) (f r : Spot → List ℕ) (p : Progress) (asked : Bool) (from : Source) (op : Op) (a : Args) (n size : ℕ) (g : Staging)
+    → every (agree f r) (parentSpots s (withStaged (withRunning p size) (g .staged))) ≡ true → every (agree f r) (spots from) ≡ true
+    → successBytes s (withWay kept vol) f p asked from op a n size g ≡ successBytes s (withWay worked vol) r p asked from op a n size g
 unfolding successBytes runningPair parentSpots parent withWay
-success-alike z s f r p asked from op a n size g u v =
+success-alike s vol f r p asked from op a n size g u v =
     ap₂ (λ (x y : List ℕ). recordBytes 0 n (record { size = withStaged (withRunning p size) (g .staged) .size; root = x })
-    (proofCount z asked (length (spots from)) a)
+    (proofCount (s .sector) asked (length (spots from)) a)
     (pick asked y [])
-    (outputCount op a) (pick (eqb (outputCount op a) 0) [] (outputOf z (s .disk) (g .bytes) (spots from) a)))
-    (root-agree f r _ u) (proof-agree z f r (s .disk) (g .bytes) (spots from) (a .first) (a .len) v)
+    (outputCount op a) (pick (eqb (outputCount op a) 0) [] (outputOf (s .sector) (vol .disk) (g .bytes) (spots from) a)))
+    (root-agree f r _ u) (proof-agree (s .sector) f r (vol .disk) (g .bytes) (spots from) (a .first) (a .len) v)
 
-module _ (z : ℕ) (s : Setting) (t : Turn) (solid : Solid z (withWay kept s)) (good : Good z (withWay kept s) (t .progress))
-    (known : Known z (withWay kept s) t) where
+module _ (s : Setting) (vol : Volume) (t : Turn) (solid : Solid s (withWay kept vol)) (good : Good s (t .progress))
+    (known : Known s (withWay kept vol) t) where
   unfoldable after : Op → Args → List ℕ → Staging
-  after op a d = effect z (groundOf (withWay kept s)) (t .progress .size) op a d (record { staged = t .progress .staged; bytes = t .stage })
+  after op a d = effect (s .sector) (groundOf s (withWay kept vol)) (t .progress .size) op a d (record { staged = t .progress .staged; bytes = t .stage })
 
   unfoldable copies : Op → Args → List ℕ → List ℕ
-  copies op a d = rehashed z (after op a d) (touched z (t .progress .size) op a) (t .roots)
+  copies op a d = rehashed (s .sector) (after op a d) (touched (s .sector) (t .progress .size) op a) (t .roots)
 
-  disk-known : every (right z (s .disk) (s .roots)) (taken z (s .places)) ≡ true
+  disk-known : every (right (s .sector) (vol .disk) (vol .roots)) (taken (s .sector) (s .places)) ≡ true
   unfolding withWay
   disk-known = known .disk
 
-  now-agree : every (λ x. agree (rootAt z (withWay kept s) t) (rootAt z (withWay worked s) t) (x .spot)) (seatsOf z s (t .progress)) ≡ true
+  now-agree : every (λ x. agree (rootAt s (withWay kept vol) t) (rootAt s (withWay worked vol) t) (x .spot)) (seatsOf s (t .progress)) ≡ true
   unfolding withWay seatsOf readOnlyMode parentSpots parent
   now-agree =
-      all-seats z (withWay kept s) (t .progress) solid (good .orderly .staged) (few-sectors z (withWay kept s) (t .progress) (solid .lent) good)
+      all-seats s (withWay kept vol) (t .progress) solid (good .orderly .staged) (few-sectors s (t .progress) (solid .lent) good)
       (good .entries) (known .shaped) _
-      (known-disk z s (t .stage) (t .roots) disk-known) (known-stage z s (t .stage) (t .roots) (t .progress .staged) (known .stage))
+      (known-disk s vol (t .stage) (t .roots) disk-known) (known-stage s vol (t .stage) (t .roots) (t .progress .staged) (known .stage))
 
-  source-same : (op : Op) (key : List ℕ) → sourceOf z (withWay kept s) (rootAt z (withWay kept s) t) (t .progress) op key
-      ≡ sourceOf z (withWay worked s) (rootAt z (withWay worked s) t) (t .progress) op key
-  source-same op key = source-alike z s _ _ (t .progress) op key now-agree
+  source-same : (op : Op) (key : List ℕ) → sourceOf s (rootAt s (withWay kept vol) t) (t .progress) op key
+      ≡ sourceOf s (rootAt s (withWay worked vol) t) (t .progress) op key
+  source-same op key = source-alike s _ _ (t .progress) op key now-agree
 
   -- what is read is read with roots that are right
   source-after : (op : Op) (a : Args) (d : List ℕ) (r : Spot → List ℕ) (key : List ℕ)
-      → every (agree (rootOf z (withWay kept s) (after op a d .bytes) (copies op a d)) (rootOf z (withWay worked s) (after op a d .bytes) (copies op a d)))
-      (spots (sourceOf z (withWay kept s) r (t .progress) op key)) ≡ true
+      → every (agree (rootOf s (withWay kept vol) (after op a d .bytes) (copies op a d)) (rootOf s (withWay worked vol) (after op a d .bytes) (copies op a d)))
+      (spots (sourceOf s r (t .progress) op key)) ≡ true
   unfolding after copies effect touched rehashed withWay spots sourceOf
   source-after Read a d r key =
-      all-source z (withWay kept s) (t .progress) solid (good .orderly .staged) (few-sectors z (withWay kept s) (t .progress) (solid .lent) good)
+      all-source s (withWay kept vol) (t .progress) solid (good .orderly .staged) (few-sectors s (t .progress) (solid .lent) good)
       (good .entries) (known .shaped) _
-      (known-disk z s (t .stage) (t .roots) disk-known) (known-stage z s (t .stage) (t .roots) (t .progress .staged) (known .stage)) r Read key
+      (known-disk s vol (t .stage) (t .roots) disk-known) (known-stage s vol (t .stage) (t .roots) (t .progress .staged) (known .stage)) r Read key
   source-after ReadSector a d r key =
-      all-source z (withWay kept s) (t .progress) solid (good .orderly .staged) (few-sectors z (withWay kept s) (t .progress) (solid .lent) good)
+      all-source s (withWay kept vol) (t .progress) solid (good .orderly .staged) (few-sectors s (t .progress) (solid .lent) good)
       (good .entries) (known .shaped) _
-      (known-disk z s (t .stage) (t .roots) disk-known) (known-stage z s (t .stage) (t .roots) (t .progress .staged) (known .stage)) r ReadSector key
+      (known-disk s vol (t .stage) (t .roots) disk-known) (known-stage s vol (t .stage) (t .roots) (t .progress .staged) (known .stage)) r ReadSector key
   source-after Write a d r key = every-none _
   source-after Copy a d r key = every-none _
   source-after Swap a d r key = every-none _
   source-after Truncate a d r key = every-none _
   source-after Unknown a d r key = every-none _
 
-  module _ (op : Op) (a : Args) (d : List ℕ) (n : ℕ) {r : Spot → List ℕ} (passes : Passed z (withWay kept s) r (t .progress) op a n)
+  module _ (op : Op) (a : Args) (d : List ℕ) (n : ℕ) {r : Spot → List ℕ} (passes : Passed s r (t .progress) op a n)
       (full : op ≡ Write → length d ≡ a .len)
       (run : going (s .terms) (t .progress) ≡ true) where
-    ran : Good z (withWay kept s) (ranProgress (t .progress) (cost (s .terms .head .length) (s .terms .prices) op (a .len)) n
+    ran : Good s (ranProgress (t .progress) (cost (s .terms .head .length) (s .terms .prices) op (a .len)) n
         (newSize (t .progress .size) op a) (after op a d .staged))
     unfolding after withWay
-    ran = ran-good z (withWay kept s) (t .progress) op a n d (t .stage) (solid .lent) (not-failed (withWay kept s) t run)
-        (left-going (withWay kept s) t run .1) passes good
+    ran = ran-good s (withWay kept vol) (t .progress) op a n d (t .stage) (solid .lent) (not-failed s t run)
+        (left-going s t run .1) passes good
 
-    few-new : newSize (t .progress .size) op a ≤ length (t .progress .staged) * z
-    few-new = le-trans (omega (arith, passes .fits)) (mul-le-mul-right {m = withWay kept s .sectors} {n = length (t .progress .staged)} z
+    few-new : newSize (t .progress .size) op a ≤ length (t .progress .staged) * s .sector
+    few-new = le-trans (omega (arith, passes .fits)) (mul-le-mul-right {m = s .disksectors} {n = length (t .progress .staged)} (s .sector)
         (omega (arith, solid .lent .most, good .entries)))
 
-    wrote : Wrote z (touched z (t .progress .size) op a) (record { staged = t .progress .staged; bytes = t .stage }) (after op a d)
+    wrote : Wrote (s .sector) (touched (s .sector) (t .progress .size) op a) (record { staged = t .progress .staged; bytes = t .stage }) (after op a d)
     unfolding after
     wrote =
-        wrote-effect z (groundOf (withWay kept s)) (t .progress .size) (record { staged = t .progress .staged; bytes = t .stage })
-        (Slots.some z (solid .lent .size)) (good .orderly .whole)
-        (omega (arith, few-sectors z (withWay kept s) (t .progress) (solid .lent) good, good .entries)) _ op a d (passes .spans) full few-new
+        wrote-effect (s .sector) (groundOf s (withWay kept vol)) (t .progress .size) (record { staged = t .progress .staged; bytes = t .stage })
+        (Slots.some (s .sector) (solid .lent .size)) (good .orderly .whole)
+        (omega (arith, few-sectors s (t .progress) (solid .lent) good, good .entries)) _ op a d (passes .spans) full few-new
 
     -- the roots beside the stage's slots are right again
-    staged-right : stagedRight z (after op a d .bytes) (copies op a d) (after op a d .staged) ≡ true
+    staged-right : stagedRight (s .sector) (after op a d .bytes) (copies op a d) (after op a d .staged) ≡ true
     unfolding copies ranProgress
-    staged-right = rehashed-right z _ (t .roots) _ (after op a d) (withWay kept s .copies) _ _ wrote (solid .lent .few) (ran .orderly .staged)
+    staged-right = rehashed-right (s .sector) _ (t .roots) _ (after op a d) (s .stagesectors) _ _ wrote (solid .lent .few) (ran .orderly .staged)
         (known .kept) (known .stage)
 
-    parent-agree : every (agree (rootOf z (withWay kept s) (after op a d .bytes) (copies op a d))
-        (rootOf z (withWay worked s) (after op a d .bytes) (copies op a d)))
-        (parentSpots z s (withStaged (withRunning (t .progress) (newSize (t .progress .size) op a)) (after op a d .staged))) ≡ true
+    parent-agree : every (agree (rootOf s (withWay kept vol) (after op a d .bytes) (copies op a d))
+        (rootOf s (withWay worked vol) (after op a d .bytes) (copies op a d)))
+        (parentSpots s (withStaged (withRunning (t .progress) (newSize (t .progress .size) op a)) (after op a d .staged))) ≡ true
     unfolding parentSpots parent withWay withStaged withRunning ranProgress
     parent-agree =
-        all-parent z (withWay kept s) (ranProgress (t .progress) (cost (s .terms .head .length) (s .terms .prices) op (a .len)) n
+        all-parent s (withWay kept vol) (ranProgress (t .progress) (cost (s .terms .head .length) (s .terms .prices) op (a .len)) n
         (newSize (t .progress .size) op a) (after op a d .staged)) solid (ran .orderly .staged)
-        (few-sectors z (withWay kept s) _ (solid .lent) ran) (ran .entries) (known .shaped) _ (known-disk z s (after op a d .bytes) (copies op a d) disk-known)
-        (known-stage z s (after op a d .bytes) (copies op a d) (after op a d .staged) staged-right)
+        (few-sectors s _ (solid .lent) ran) (ran .entries) (known .shaped) _ (known-disk s vol (after op a d .bytes) (copies op a d) disk-known)
+        (known-stage s vol (after op a d .bytes) (copies op a d) (after op a d .staged) staged-right)
 
-    succeeding-alike : (asked : Bool) → succeeding z (withWay kept s) asked op a d t ≡ succeeding z (withWay worked s) asked op a d t
+    succeeding-alike : (asked : Bool) → succeeding s (withWay kept vol) asked op a d t ≡ succeeding s (withWay worked vol) asked op a d t
     unfolding succeeding after copies parent withWay
     succeeding-alike asked =
         let made : Source → List ℕ → Turn = λ from b. record {
-          progress = ranProgress (t .progress) (cost (s .terms .head .length) (s .terms .prices) op (a .len)) (recordCount z asked (length (spots from)) op a)
+          progress = ranProgress (t .progress) (cost (s .terms .head .length) (s .terms .prices) op (a .len)) (recordCount (s .sector) asked (length (spots from)) op a)
               (newSize (t .progress .size) op a) (after op a d .staged);
           stage = after op a d .bytes;
           output = put (t .output) (t .progress .written) b;
           roots = copies op a d;
         } in
-        let bytes : Way → Source → List ℕ = λ way from. successBytes z (withWay way s) (rootOf z (withWay way s) (after op a d .bytes) (copies op a d))
+        let bytes : Way → Source → List ℕ = λ way from. successBytes s (withWay way vol) (rootOf s (withWay way vol) (after op a d .bytes) (copies op a d))
         (t .progress) asked from op a
         (cost (s .terms .head .length) (s .terms .prices) op (a .len)) (newSize (t .progress .size) op a) (after op a d) in
-        let from : Source = sourceOf z (withWay kept s) (rootAt z (withWay kept s) t) (t .progress) op (a .key) in
-        ap (made from) (success-alike z s _ _ (t .progress) asked from op a _ _ (after op a d) parent-agree
-        (source-after op a d (rootAt z (withWay kept s) t) (a .key)))
+        let from : Source = sourceOf s (rootAt s (withWay kept vol) t) (t .progress) op (a .key) in
+        ap (made from) (success-alike s vol _ _ (t .progress) asked from op a _ _ (after op a d) parent-agree
+        (source-after op a d (rootAt s (withWay kept vol) t) (a .key)))
         ∙ ap (λ (x : Source). made x (bytes worked x)) (source-same op (a .key))
 
-    known-ran : (asked : Bool) → Known z (withWay kept s) (succeeding z (withWay kept s) asked op a d t)
+    known-ran : (asked : Bool) → Known s (withWay kept vol) (succeeding s (withWay kept vol) asked op a d t)
     unfolding succeeding ranProgress after copies
-    known-ran asked = record { disk = known .disk; stage = staged-right; kept = rehashed-length z _ _ (t .roots) ∙ known .kept; shaped = known .shaped }
+    known-ran asked = record { disk = known .disk; stage = staged-right; kept = rehashed-length (s .sector) _ _ (t .roots) ∙ known .kept; shaped = known .shaped }
 
-  known-failing : (n : ℕ) → Known z (withWay kept s) (failing z (withWay kept s) n t)
+  known-failing : (n : ℕ) → Known s (withWay kept vol) (failing s (withWay kept vol) n t)
   unfolding failing failedProgress
   known-failing n = record { disk = known .disk; stage = known .stage; kept = known .kept; shaped = known .shaped }
 
   -- one instruction, whichever it is: the kept roots give what document 01 says
-  pub stepped-alike : (i : Instruction) (l : List (List ℕ)) → going (s .terms) (t .progress) ≡ true → stepped z (withWay kept s) i l t
-      ≡ stepped z (withWay worked s) i l t
+  pub stepped-alike : (i : Instruction) (l : List (List ℕ)) → going (s .terms) (t .progress) ≡ true → stepped s (withWay kept vol) i l t
+      ≡ stepped s (withWay worked vol) i l t
   unfolding stepped
   stepped-alike i l run =
-      let n = judged z (withWay kept s) (rootAt z (withWay kept s) t) (t .progress) i l in
-      let m = judged z (withWay worked s) (rootAt z (withWay worked s) t) (t .progress) i l in
-      let e : judged z (withWay kept s) (rootAt z (withWay kept s) t) (t .progress) i l
-      ≡ judged z (withWay worked s) (rootAt z (withWay worked s) t) (t .progress) i l =
-      judged-alike z s _ _ (t .progress) i l now-agree in
-      by (eqb (judged z (withWay kept s) (rootAt z (withWay kept s) t) (t .progress) i l) 0)
-      (λ u. picks (eqb (judged z (withWay kept s) (rootAt z (withWay kept s) t) (t .progress) i l) 0) _ _ u
-      ∙ succeeding-alike (opOf (i .name)) (argsOf (opOf (i .name)) l) (dataIn l) _ (passed z (withWay kept s) _ (t .progress) i l (eqb-true _ _ u))
+      let n = judged s (rootAt s (withWay kept vol) t) (t .progress) i l in
+      let m = judged s (rootAt s (withWay worked vol) t) (t .progress) i l in
+      let e : judged s (rootAt s (withWay kept vol) t) (t .progress) i l
+      ≡ judged s (rootAt s (withWay worked vol) t) (t .progress) i l =
+      judged-alike s _ _ (t .progress) i l now-agree in
+      by (eqb (judged s (rootAt s (withWay kept vol) t) (t .progress) i l) 0)
+      (λ u. picks (eqb (judged s (rootAt s (withWay kept vol) t) (t .progress) i l) 0) _ _ u
+      ∙ succeeding-alike (opOf (i .name)) (argsOf (opOf (i .name)) l) (dataIn l) _ (passed s _ (t .progress) i l (eqb-true _ _ u))
       (args-full (opOf (i .name)) l) run (i .proof)
-      ∙ sym (picks (eqb (judged z (withWay worked s) (rootAt z (withWay worked s) t) (t .progress) i l) 0) _ _ (ap (λ (x : ℕ). eqb x 0) (sym e) ∙ u)))
-      (λ u. skips (eqb (judged z (withWay kept s) (rootAt z (withWay kept s) t) (t .progress) i l) 0) _ _ u
-      ∙ failing-alike z s _ t disk-known
-      ∙ ap (λ (x : ℕ). failing z (withWay worked s) x t) e
-      ∙ sym (skips (eqb (judged z (withWay worked s) (rootAt z (withWay worked s) t) (t .progress) i l) 0) _ _ (ap (λ (x : ℕ). eqb x 0) (sym e) ∙ u)))
+      ∙ sym (picks (eqb (judged s (rootAt s (withWay worked vol) t) (t .progress) i l) 0) _ _ (ap (λ (x : ℕ). eqb x 0) (sym e) ∙ u)))
+      (λ u. skips (eqb (judged s (rootAt s (withWay kept vol) t) (t .progress) i l) 0) _ _ u
+      ∙ failing-alike s vol _ t disk-known
+      ∙ ap (λ (x : ℕ). failing s (withWay worked vol) x t) e
+      ∙ sym (skips (eqb (judged s (rootAt s (withWay worked vol) t) (t .progress) i l) 0) _ _ (ap (λ (x : ℕ). eqb x 0) (sym e) ∙ u)))
 
   -- and its record is document 01's
-  pub record-alike : (i : Instruction) (l : List (List ℕ)) → going (s .terms) (t .progress) ≡ true → recordOf z (withWay kept s) i l t
-      ≡ recordOf z (withWay worked s) i l t
+  pub record-alike : (i : Instruction) (l : List (List ℕ)) → going (s .terms) (t .progress) ≡ true → recordOf s (withWay kept vol) i l t
+      ≡ recordOf s (withWay worked vol) i l t
   unfolding recordOf after copies parent withWay
   record-alike i l run =
       let op : Op = opOf (i .name) in
       let a : Args = argsOf (opOf (i .name)) l in
-      let e : judged z (withWay kept s) (rootAt z (withWay kept s) t) (t .progress) i l
-      ≡ judged z (withWay worked s) (rootAt z (withWay worked s) t) (t .progress) i l =
-      judged-alike z s _ _ (t .progress) i l now-agree in
-      let bytes : Way → Source → List ℕ = λ way from. successBytes z (withWay way s)
-      (rootOf z (withWay way s) (after (opOf (i .name)) (argsOf (opOf (i .name)) l) (dataIn l) .bytes)
+      let e : judged s (rootAt s (withWay kept vol) t) (t .progress) i l
+      ≡ judged s (rootAt s (withWay worked vol) t) (t .progress) i l =
+      judged-alike s _ _ (t .progress) i l now-agree in
+      let bytes : Way → Source → List ℕ = λ way from. successBytes s (withWay way vol)
+      (rootOf s (withWay way vol) (after (opOf (i .name)) (argsOf (opOf (i .name)) l) (dataIn l) .bytes)
       (copies (opOf (i .name)) (argsOf (opOf (i .name)) l) (dataIn l)))
       (t .progress) (i .proof) from
       (opOf (i .name)) (argsOf (opOf (i .name)) l) (cost (s .terms .head .length) (s .terms .prices) (opOf (i .name))
       (argsOf (opOf (i .name)) l .len)) (newSize (t .progress .size) (opOf (i .name)) (argsOf (opOf (i .name)) l))
       (after (opOf (i .name)) (argsOf (opOf (i .name)) l) (dataIn l)) in
-      by (eqb (judged z (withWay kept s) (rootAt z (withWay kept s) t) (t .progress) i l) 0)
-      (λ u. picks (eqb (judged z (withWay kept s) (rootAt z (withWay kept s) t) (t .progress) i l) 0) _ _ u
-      ∙ success-alike z s _ _ (t .progress) (i .proof) _ (opOf (i .name)) (argsOf (opOf (i .name)) l) _ _
+      by (eqb (judged s (rootAt s (withWay kept vol) t) (t .progress) i l) 0)
+      (λ u. picks (eqb (judged s (rootAt s (withWay kept vol) t) (t .progress) i l) 0) _ _ u
+      ∙ success-alike s vol _ _ (t .progress) (i .proof) _ (opOf (i .name)) (argsOf (opOf (i .name)) l) _ _
       (after (opOf (i .name)) (argsOf (opOf (i .name)) l) (dataIn l))
-      (parent-agree (opOf (i .name)) (argsOf (opOf (i .name)) l) (dataIn l) _ (passed z (withWay kept s) _ (t .progress) i l (eqb-true _ _ u))
+      (parent-agree (opOf (i .name)) (argsOf (opOf (i .name)) l) (dataIn l) _ (passed s _ (t .progress) i l (eqb-true _ _ u))
       (args-full (opOf (i .name)) l) run)
-      (source-after (opOf (i .name)) (argsOf (opOf (i .name)) l) (dataIn l) (rootAt z (withWay kept s) t) (argsOf (opOf (i .name)) l .key))
+      (source-after (opOf (i .name)) (argsOf (opOf (i .name)) l) (dataIn l) (rootAt s (withWay kept vol) t) (argsOf (opOf (i .name)) l .key))
       ∙ ap (bytes worked) (source-same (opOf (i .name)) (argsOf (opOf (i .name)) l .key))
-      ∙ sym (picks (eqb (judged z (withWay worked s) (rootAt z (withWay worked s) t) (t .progress) i l) 0) _ _ (ap (λ (x : ℕ). eqb x 0) (sym e) ∙ u)))
-      (λ u. skips (eqb (judged z (withWay kept s) (rootAt z (withWay kept s) t) (t .progress) i l) 0) _ _ u
-      ∙ failure-alike z s _ disk-known
-      ∙ ap (failureBytes z (withWay worked s)) e
-      ∙ sym (skips (eqb (judged z (withWay worked s) (rootAt z (withWay worked s) t) (t .progress) i l) 0) _ _ (ap (λ (x : ℕ). eqb x 0) (sym e) ∙ u)))
+      ∙ sym (picks (eqb (judged s (rootAt s (withWay worked vol) t) (t .progress) i l) 0) _ _ (ap (λ (x : ℕ). eqb x 0) (sym e) ∙ u)))
+      (λ u. skips (eqb (judged s (rootAt s (withWay kept vol) t) (t .progress) i l) 0) _ _ u
+      ∙ failure-alike s vol _ disk-known
+      ∙ ap (failureBytes s (withWay worked vol)) e
+      ∙ sym (skips (eqb (judged s (rootAt s (withWay worked vol) t) (t .progress) i l) 0) _ _ (ap (λ (x : ℕ). eqb x 0) (sym e) ∙ u)))
 
   -- and it leaves roots that are right
   pub stepped-known : (i : Instruction) (l : List (List ℕ)) → going (s .terms) (t .progress) ≡ true
-      → Known z (withWay kept s) (stepped z (withWay kept s) i l t)
+      → Known s (withWay kept vol) (stepped s (withWay kept vol) i l t)
   unfolding stepped
   stepped-known i l run =
-      by (eqb (judged z (withWay kept s) (rootAt z (withWay kept s) t) (t .progress) i l) 0)
-      (λ u. subst (λ (x : Turn). Known z (withWay kept s) x)
-      (sym (picks (eqb (judged z (withWay kept s) (rootAt z (withWay kept s) t) (t .progress) i l) 0) _ _ u))
-      (known-ran (opOf (i .name)) (argsOf (opOf (i .name)) l) (dataIn l) _ (passed z (withWay kept s) _ (t .progress) i l (eqb-true _ _ u))
+      by (eqb (judged s (rootAt s (withWay kept vol) t) (t .progress) i l) 0)
+      (λ u. subst (λ (x : Turn). Known s (withWay kept vol) x)
+      (sym (picks (eqb (judged s (rootAt s (withWay kept vol) t) (t .progress) i l) 0) _ _ u))
+      (known-ran (opOf (i .name)) (argsOf (opOf (i .name)) l) (dataIn l) _ (passed s _ (t .progress) i l (eqb-true _ _ u))
       (args-full (opOf (i .name)) l) run (i .proof)))
-      (λ u. subst (λ (x : Turn). Known z (withWay kept s) x)
-      (sym (skips (eqb (judged z (withWay kept s) (rootAt z (withWay kept s) t) (t .progress) i l) 0) _ _ u)) (known-failing _))
+      (λ u. subst (λ (x : Turn). Known s (withWay kept vol) x)
+      (sym (skips (eqb (judged s (rootAt s (withWay kept vol) t) (t .progress) i l) 0) _ _ u)) (known-failing _))
 
 -- ---- a run
 
-module _ (z : ℕ) (s : Setting) (solid : Solid z (withWay kept s)) (a : List ℕ) (k : ℕ) where
-  ready-way : (way : Way) (t : Turn) → ready (withWay way s) k t ≡ ready s k t
-  unfolding ready current withWay
-  ready-way way t = refl
-
-  step-alike : (t : Turn) → Good z (withWay kept s) (t .progress) → Known z (withWay kept s) t → going (s .terms) (t .progress) ≡ true
-      → step z (withWay kept s) a t ≡ step z (withWay worked s) a t
+module _ (s : Setting) (vol : Volume) (solid : Solid s (withWay kept vol)) (a : List ℕ) (k : ℕ) where
+  step-alike : (t : Turn) → Good s (t .progress) → Known s (withWay kept vol) t → going (s .terms) (t .progress) ≡ true
+      → step s (withWay kept vol) a t ≡ step s (withWay worked vol) a t
   unfolding step current withWay
-  step-alike t g q h = stepped-alike z s t solid g q (current s t) (inputsOf (current s t) a) h
+  step-alike t g q h = stepped-alike s vol t solid g q (current s t) (inputsOf (current s t) a) h
 
-  step-known : (t : Turn) → Good z (withWay kept s) (t .progress) → Known z (withWay kept s) t → going (s .terms) (t .progress) ≡ true
-      → Known z (withWay kept s) (step z (withWay kept s) a t)
+  step-known : (t : Turn) → Good s (t .progress) → Known s (withWay kept vol) t → going (s .terms) (t .progress) ≡ true
+      → Known s (withWay kept vol) (step s (withWay kept vol) a t)
   unfolding step
-  step-known t g q h = stepped-known z s t solid g q _ _ h
+  step-known t g q h = stepped-known s vol t solid g q _ _ h
 
-  step-good : (t : Turn) → Good z (withWay kept s) (t .progress) → going (s .terms) (t .progress) ≡ true
-      → Good z (withWay kept s) (step z (withWay kept s) a t .progress)
+  step-good : (t : Turn) → Good s (t .progress) → going (s .terms) (t .progress) ≡ true
+      → Good s (step s (withWay kept vol) a t .progress)
   unfolding step withWay
-  step-good t g h = stepped-good z (withWay kept s) _ _ t (solid .lent) h g
+  step-good t g h = stepped-good s (withWay kept vol) _ _ t (solid .lent) h g
 
-  pub runs-alike : (n : ℕ) (t : Turn) → Good z (withWay kept s) (t .progress) → Known z (withWay kept s) t → runs z (withWay kept s) a k n t
-      ≡ runs z (withWay worked s) a k n t
+  pub runs-alike : (n : ℕ) (t : Turn) → Good s (t .progress) → Known s (withWay kept vol) t → runs s (withWay kept vol) a k n t
+      ≡ runs s (withWay worked vol) a k n t
   unfolding runs
   runs-alike zero t g q = refl
   runs-alike (suc n) t g q =
       by (ready s k t)
       (λ r. let h = ready-going s k t r in
-      runs-go z (withWay kept s) a k n t (ready-way kept t ∙ r)
-      ∙ runs-alike n (step z (withWay kept s) a t) (step-good t g h) (step-known t g q h)
-      ∙ ap (runs z (withWay worked s) a k n) (step-alike t g q h)
-      ∙ sym (runs-go z (withWay worked s) a k n t (ready-way worked t ∙ r)))
-      (λ r. runs-stop z (withWay kept s) a k (suc n) t (ready-way kept t ∙ r) ∙ sym (runs-stop z (withWay worked s) a k (suc n) t (ready-way worked t ∙ r)))
+      runs-go s (withWay kept vol) a k n t r
+      ∙ runs-alike n (step s (withWay kept vol) a t) (step-good t g h) (step-known t g q h)
+      ∙ ap (runs s (withWay worked vol) a k n) (step-alike t g q h)
+      ∙ sym (runs-go s (withWay worked vol) a k n t r))
+      (λ r. runs-stop s (withWay kept vol) a k (suc n) t r ∙ sym (runs-stop s (withWay worked vol) a k (suc n) t r))
 
-  recorded-alike : (t : Turn) → Good z (withWay kept s) (t .progress) → Known z (withWay kept s) t → going (s .terms) (t .progress) ≡ true
-      → recorded z (withWay kept s) a t ≡ recorded z (withWay worked s) a t
+  recorded-alike : (t : Turn) → Good s (t .progress) → Known s (withWay kept vol) t → going (s .terms) (t .progress) ≡ true
+      → recorded s (withWay kept vol) a t ≡ recorded s (withWay worked vol) a t
   unfolding recorded current withWay
-  recorded-alike t g q h = record-alike z s t solid g q (current s t) (inputsOf (current s t) a) h
+  recorded-alike t g q h = record-alike s vol t solid g q (current s t) (inputsOf (current s t) a) h
 
-  pub trail-alike : (n : ℕ) (t : Turn) → Good z (withWay kept s) (t .progress) → Known z (withWay kept s) t → trail z (withWay kept s) a k n t
-      ≡ trail z (withWay worked s) a k n t
-  trail-alike zero t g q = trail-zero z (withWay kept s) a k t ∙ sym (trail-zero z (withWay worked s) a k t)
+  pub trail-alike : (n : ℕ) (t : Turn) → Good s (t .progress) → Known s (withWay kept vol) t → trail s (withWay kept vol) a k n t
+      ≡ trail s (withWay worked vol) a k n t
+  trail-alike zero t g q = trail-zero s (withWay kept vol) a k t ∙ sym (trail-zero s (withWay worked vol) a k t)
   trail-alike (suc n) t g q =
       by (ready s k t)
       (λ r. let h = ready-going s k t r in
-      trail-go z (withWay kept s) a k n t (ready-way kept t ∙ r)
-      ∙ ap₂ _∷_ (recorded-alike t g q h) (trail-alike n (step z (withWay kept s) a t) (step-good t g h) (step-known t g q h)
-      ∙ ap (trail z (withWay worked s) a k n) (step-alike t g q h))
-      ∙ sym (trail-go z (withWay worked s) a k n t (ready-way worked t ∙ r)))
-      (λ r. trail-stop z (withWay kept s) a k (suc n) t (ready-way kept t ∙ r) ∙ sym (trail-stop z (withWay worked s) a k (suc n) t (ready-way worked t ∙ r)))
+      trail-go s (withWay kept vol) a k n t r
+      ∙ ap₂ _∷_ (recorded-alike t g q h) (trail-alike n (step s (withWay kept vol) a t) (step-good t g h) (step-known t g q h)
+      ∙ ap (trail s (withWay worked vol) a k n) (step-alike t g q h))
+      ∙ sym (trail-go s (withWay worked vol) a k n t r))
+      (λ r. trail-stop s (withWay kept vol) a k (suc n) t r ∙ sym (trail-stop s (withWay worked vol) a k (suc n) t r))
 
-  pub runs-known : (n : ℕ) (t : Turn) → Good z (withWay kept s) (t .progress) → Known z (withWay kept s) t
-      → Known z (withWay kept s) (runs z (withWay kept s) a k n t)
+  pub runs-known : (n : ℕ) (t : Turn) → Good s (t .progress) → Known s (withWay kept vol) t
+      → Known s (withWay kept vol) (runs s (withWay kept vol) a k n t)
   unfolding runs
   runs-known zero t g q = q
   runs-known (suc n) t g q =
       by (ready s k t)
       (λ r. let h = ready-going s k t r in
-      subst (λ (x : Turn). Known z (withWay kept s) x) (sym (runs-go z (withWay kept s) a k n t (ready-way kept t ∙ r)))
-      (runs-known n (step z (withWay kept s) a t) (step-good t g h) (step-known t g q h)))
-      (λ r. subst (λ (x : Turn). Known z (withWay kept s) x) (sym (runs-stop z (withWay kept s) a k (suc n) t (ready-way kept t ∙ r))) q)
+      subst (λ (x : Turn). Known s (withWay kept vol) x) (sym (runs-go s (withWay kept vol) a k n t r))
+      (runs-known n (step s (withWay kept vol) a t) (step-good t g h) (step-known t g q h)))
+      (λ r. subst (λ (x : Turn). Known s (withWay kept vol) x) (sym (runs-stop s (withWay kept vol) a k (suc n) t r)) q)

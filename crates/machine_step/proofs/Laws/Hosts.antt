@@ -6,7 +6,7 @@ use Rattle.host.specs.Places.{whose, taken}
 use Rattle.host.specs.Order.{inOrder}
 use Rattle.host.proofs.Laws.Order.{order-facts}
 use Rattle.host.proofs.Laws.Whose.{whose-order}
-use Rattle.machine_rules.specs.View.{settingBy, settingOf, turnOf, diskRight, areasRight, parent, parentSpots}
+use Rattle.machine_rules.specs.View.{turnOf, diskRight, areasRight, parent, parentSpots, settingOf, volumeBy, volumeOf}
 use Rattle.machine_rules.specs.Roots.{keptRoot, rootBy, rootOf}
 use Rattle.machine_rules.specs.Record.{startingPair, runningPair}
 use Rattle.machine_rules.specs.Calls.{outputRight}
@@ -46,18 +46,18 @@ stands h id long e o =
 pub reads : (h : Host) {p : Place} → length (h .program .progress .staged) ≡ 64 → length (h .diskroots) ≡ 2048 → length (h .stageroots) ≡ 512
     → p ≡ whose (h .program .terms .head .contract) (h .places) → inOrder h ≡ true → h .program .active ≡ true
     → Reads (h .sector) (h .diskroots) (h .stageroots) p (h .program .progress)
-unfolding settingBy parent
+unfolding volumeBy parent
 reads h long d s e o live =
     let disk = zeros (h .disk * h .sector) in
     let stage = zeros (h .stage * h .sector) in
-    reads-good (h .sector) (settingOf h disk) (h .program .progress) (h .diskroots) (h .stageroots) _
+    reads-good (settingOf h) (volumeOf h disk) (h .program .progress) (h .diskroots) (h .stageroots) _
     (order-solid h disk stage o (blank-right h)) (order-good h disk o live long) d s e
 
 -- instructions in turn on a host in order, with its areas as stated
 pub turns-right : (h : Host) (disk stage input output : List ℕ) → length (h .program .progress .staged) ≡ 64 → length (h .diskroots) ≡ 2048
     → length (h .stageroots) ≡ 512 → Ready disk h stage → length input ≡ h .program .terms .head .length → outputRight h output ≡ true
-    → Runs (h .sector) (settingOf h disk) (turnOf h stage output) input
-unfolding outputRight turnOf settingBy
+    → Runs (settingOf h) (volumeOf h disk) (turnOf h stage output) input
+unfolding outputRight turnOf volumeBy
 turns-right h disk stage input output long d s r i o = record {
   solid = order-solid h disk stage (r .order) (r .areas);
   good = order-good h disk (r .order) (r .live) long;
@@ -71,12 +71,12 @@ turns-right h disk stage input output long d s r i o = record {
 
 -- ---- kept roots look at no area
 
-pub starting-any : (h : Host) (disk : List ℕ) → startingPair (h .sector) (settingOf h []) ≡ startingPair (h .sector) (settingOf h disk)
-unfolding startingPair parent settingBy rootOf rootBy
+pub starting-any : (h : Host) (disk : List ℕ) → startingPair (settingOf h) (volumeOf h []) ≡ startingPair (settingOf h) (volumeOf h disk)
+unfolding startingPair parent volumeBy rootOf rootBy
 starting-any h disk = refl
 
 pub running-any : (h : Host) (disk stage : List ℕ) → let s = settingOf h disk in
-    runningPair (h .sector) (settingOf h []) (keptRoot (h .diskroots) (h .stageroots)) (h .program .progress)
+    runningPair (settingOf h) (keptRoot (h .diskroots) (h .stageroots)) (h .program .progress)
     ≡ runningPair (h .sector) s (rootOf (h .sector) s stage (h .stageroots)) (h .program .progress)
-unfolding runningPair parentSpots parent settingBy rootOf rootBy
+unfolding runningPair parentSpots parent volumeBy rootOf rootBy
 running-any h disk stage = refl

@@ -10,7 +10,8 @@ use Rattle.sia.specs.Names.{opOf}
 use Rattle.sia.specs.Encode.{within}
 use Rattle.host.specs.Order.{termsInOrder}
 use Rattle.host.specs.With.{withRunning, withStaged}
-use Rattle.machine_rules.specs.View.{Setting, Turn, turn, parent, spotOf, parentSpots}
+use Rattle.machine_rules.specs.View.{Turn, turn, parent, spotOf, parentSpots, Volume}
+use Rattle.machine_rules.specs.declared.Setting.{Setting}
 use Rattle.machine_rules.specs.Roots.{keptRoot, rootOf, rootAt, contractRoot, rangeProof}
 use Rattle.machine_rules.specs.Inputs.{wellFormed, dataIn, pastEnd, inputsOf, nth, argsOf}
 use Rattle.machine_rules.specs.declared.Args.{Args}
@@ -53,12 +54,12 @@ use Rattle.lists.specs.Tests.{every}
 use Rattle.machine_rules.specs.declared.Plan.{Plan}
 
 -- a root is kept beside each sector of the parent of a program in order
-pub reads-good : (z : ℕ) (s : Setting) (g : Progress) (diskroots stageroots : List ℕ) (q : Place) → Solid z s → Good z s g
-    → length diskroots ≡ 2048 → length stageroots ≡ 512 → q ≡ parent s → Reads z diskroots stageroots q g
+pub reads-good : (s : Setting) (vol : Volume) (g : Progress) (diskroots stageroots : List ℕ) (q : Place) → Solid s vol → Good s g
+    → length diskroots ≡ 2048 → length stageroots ≡ 512 → q ≡ parent s → Reads (s .sector) diskroots stageroots q g
 unfolding parent
-reads-good z s g diskroots stageroots q solid good d e own =
-    let seeks = program-seeks z s diskroots solid d stageroots e g good in
-    subst (λ (p : Place). Reads z diskroots stageroots p g) (sym own) (record {
+reads-good s vol g diskroots stageroots q solid good d e own =
+    let seeks = program-seeks s vol diskroots solid d stageroots e g good in
+    subst (λ (p : Place). Reads (s .sector) diskroots stageroots p g) (sym own) (record {
       size = solid .lent .size;
       few = seeks .few;
       spots = seeks .own;
@@ -70,12 +71,12 @@ unfolding part
 part-within l at n some e = omega (arith, length-take n (drop at l), length-drop at l)
 
 -- a head within limits has at most 32 instructions
-pub within-count : (z : ℕ) (s : Setting) (t : Turn) {input : List ℕ} → Steps z s t input → s .terms .head .count ≤ 32
+pub within-count : (s : Setting) (vol : Volume) (t : Turn) {input : List ℕ} → Steps s vol t input → s .terms .head .count ≤ 32
 unfolding termsInOrder within
-within-count z s t x = leb-true _ _ (both-left _ _ (both-left _ _ (both-right _ _ (x .good .terms))))
+within-count s vol t x = leb-true _ _ (both-left _ _ (both-left _ _ (both-right _ _ (x .good .terms))))
 
-module _ (z : ℕ) (s : Setting) (t : Turn) (input : List ℕ) (i : Instruction) (q : Place) (r : Task) (x : Steps z s t input) (own : q ≡ parent s)
-    (operands : length (i .operands) ≡ 4) (e : said r ≡ planOf z s (rootAt z s t) (t .progress) i input) where
+module _ (s : Setting) (vol : Volume) (t : Turn) (input : List ℕ) (i : Instruction) (q : Place) (r : Task) (x : Steps s vol t input) (own : q ≡ parent s)
+    (operands : length (i .operands) ≡ 4) (e : said r ≡ planOf s (rootAt s vol t) (t .progress) i input) where
   unfoldable op : Op
   op = opOf (i .name)
 
@@ -83,7 +84,7 @@ module _ (z : ℕ) (s : Setting) (t : Turn) (input : List ℕ) (i : Instruction)
   a = argsOf (opOf (i .name)) (inputsOf i input)
 
   unfoldable from : Source
-  from = sourceOf z s (rootAt z s t) (t .progress) op (a .key)
+  from = sourceOf s (rootAt s vol t) (t .progress) op (a .key)
 
   -- its plan where it can run, and what goes with it
   abbrev fine : Plan
@@ -91,76 +92,76 @@ module _ (z : ℕ) (s : Setting) (t : Turn) (input : List ℕ) (i : Instruction)
     number = 0;
     cost = cost (s .terms .head .length) (s .terms .prices) op (a .len);
     size = newSize (t .progress .size) op a;
-    hashes = proofCount z (i .proof) (length (spots from)) a;
-    count = recordCount z (i .proof) (length (spots from)) op a;
+    hashes = proofCount (s .sector) (i .proof) (length (spots from)) a;
+    count = recordCount (s .sector) (i .proof) (length (spots from)) op a;
   }
 
   abbrev done : Said
   done = record { plan = fine; op = op; args = a; from = fromOf op i; sectors = spots from }
 
-  plan-is : r .plan ≡ planned z s (rootAt z s t) (t .progress) i (inputsOf i input)
+  plan-is : r .plan ≡ planned s (rootAt s vol t) (t .progress) i (inputsOf i input)
   unfolding planOf says failed
   plan-is =
-      let w = planned z s (rootAt z s t) (t .progress) i (inputsOf i input) in
+      let w = planned s (rootAt s vol t) (t .progress) i (inputsOf i input) in
       ap (λ (y : Said). y .plan) e
       ∙ by (eqb (w .number) 0)
       (λ u. ap (λ (y : Said). y .plan) (picks (eqb (w .number) 0) _ _ u))
       (λ u. ap (λ (y : Said). y .plan) (skips (eqb (w .number) 0) _ _ u))
 
-  pub number-is : r .plan .number ≡ judged z s (rootAt z s t) (t .progress) i (inputsOf i input)
+  pub number-is : r .plan .number ≡ judged s (rootAt s vol t) (t .progress) i (inputsOf i input)
   unfolding judged
   number-is = ap (λ (w : Plan). w .number) plan-is
 
   module _ (zero : r .plan .number ≡ 0) where
-    can : judged z s (rootAt z s t) (t .progress) i (inputsOf i input) ≡ 0
+    can : judged s (rootAt s vol t) (t .progress) i (inputsOf i input) ≡ 0
     can = sym number-is ∙ zero
 
     says-is : said r ≡ done
     unfolding planOf says judged op a from
     says-is =
-        let w = planned z s (rootAt z s t) (t .progress) i (inputsOf i input) in
+        let w = planned s (rootAt s vol t) (t .progress) i (inputsOf i input) in
         e ∙ picks (eqb (w .number) 0) _ _ (eq-eqb _ 0 can)
         ∙ ap (λ (y : Plan). record { plan = y; op = op; args = a; from = fromOf op i; sectors = spots from })
-        (planned-fine z s (rootAt z s t) (t .progress) i (inputsOf i input) can)
+        (planned-fine s (rootAt s vol t) (t .progress) i (inputsOf i input) can)
 
-    pass : Passed z s (rootAt z s t) (t .progress) op a (recordCount z (i .proof) (length (spots from)) op a)
+    pass : Passed s (rootAt s vol t) (t .progress) op a (recordCount (s .sector) (i .proof) (length (spots from)) op a)
     unfolding op a from
-    pass = passed z s (rootAt z s t) (t .progress) i (inputsOf i input) can
+    pass = passed s (rootAt s vol t) (t .progress) i (inputsOf i input) can
 
     -- Write's data
     data-is : op ≡ Write → part input (fromOf op i) (a .len) ≡ dataIn (inputsOf i input)
     unfolding op a
     data-is w =
-        let f = well-formed z s (rootAt z s t) (t .progress) i (inputsOf i input) can in
+        let f = well-formed s (rootAt s vol t) (t .progress) i (inputsOf i input) can in
         let known : Write ≡ opOf (i .name) = sym w in
         ap (λ (o : Op). part input (fromOf o i) (argsOf o (inputsOf i input) .len)) w
         ∙ data-given input i operands (count-right i Write known (f .0)) (ap (λ (n : ℕ). pastEnd n i) (x .input) ∙ f .1)
         (ap (λ (o : Op). wellFormed o (inputsOf i input)) known ∙ f .2)
 
-    after-is : stageAfter z (s .copies) q (s .disk) input r (t .progress) (t .stage)
-        ≡ effect z (groundOf s) (t .progress .size) op a (dataIn (inputsOf i input)) (staging (t .progress .staged) (t .stage))
+    after-is : stageAfter (s .sector) (s .stagesectors) q (vol .disk) input r (t .progress) (t .stage)
+        ≡ effect (s .sector) (groundOf s vol) (t .progress .size) op a (dataIn (inputsOf i input)) (staging (t .progress .staged) (t .stage))
     unfolding stageAfter
     after-is =
-        effect-with z s (q .slots) (ap (λ (p : Place). p .slots) own) (t .progress .size) op a (part input (fromOf op i) (a .len))
+        effect-with s vol (q .slots) (ap (λ (p : Place). p .slots) own) (t .progress .size) op a (part input (fromOf op i) (a .len))
         (dataIn (inputsOf i input)) (staging (t .progress .staged) (t .stage)) data-is
-        (ap (λ (y : Said). effect z (ground (s .copies) (q .slots) (s .disk)) (t .progress .size) (y .op)
+        (ap (λ (y : Said). effect (s .sector) (ground (s .stagesectors) (q .slots) (vol .disk)) (t .progress .size) (y .op)
         (args (y .args .first) (y .args .second) (y .args .len)) (part input (y .from) (y .args .len)) (staging (t .progress .staged) (t .stage))) says-is)
 
     -- what the effect asks
-    stands : Effect.Stands z (ground (s .copies) (q .slots) (s .disk)) (t .progress .size) (r .op)
+    stands : Effect.Stands (s .sector) (ground (s .stagesectors) (q .slots) (vol .disk)) (t .progress .size) (r .op)
         (args (r .args .first) (r .args .second) (r .args .len)) (staging (t .progress .staged) (t .stage))
     stands =
-        subst (λ (y : Said). Effect.Stands z (ground (s .copies) (q .slots) (s .disk)) (t .progress .size) (y .op)
+        subst (λ (y : Said). Effect.Stands (s .sector) (ground (s .stagesectors) (q .slots) (vol .disk)) (t .progress .size) (y .op)
         (args (y .args .first) (y .args .second) (y .args .len)) (staging (t .progress .staged) (t .stage)))
         (sym says-is)
-        (stands-with z s (t .progress) (t .stage) (x .good) (x .solid) (x .stage) (q .slots) (ap (λ (p : Place). p .slots) own) op a _ pass)
+        (stands-with s vol (t .progress) (t .stage) (x .good) (x .solid) (x .stage) (q .slots) (ap (λ (p : Place). p .slots) own) op a _ pass)
 
     -- a Write writes something
     some-data : op ≡ Write → 0 < a .len
     unfolding badSpans badSpan from
     some-data w =
-        let as-write = ap (λ (o : Op). badSpans z (t .progress .size) (length (spots from)) o a) (sym w) in
-        let b : badSpans z (t .progress .size) (length (spots from)) Write a ≡ false = as-write ∙ pass .spans in
+        let as-write = ap (λ (o : Op). badSpans (s .sector) (t .progress .size) (length (spots from)) o a) (sym w) in
+        let b : badSpans (s .sector) (t .progress .size) (length (spots from)) Write a ≡ false = as-write ∙ pass .spans in
         let n = eqb-false (a .len) 0 (either-left _ _ b) in
         omega arith
 
@@ -176,51 +177,51 @@ module _ (z : ℕ) (s : Setting) (t : Turn) (input : List ℕ) (i : Instruction)
     -- ---- after the effect
 
     unfoldable after : Staging
-    after = effect z (groundOf s) (t .progress .size) op a (dataIn (inputsOf i input)) (staging (t .progress .staged) (t .stage))
+    after = effect (s .sector) (groundOf s vol) (t .progress .size) op a (dataIn (inputsOf i input)) (staging (t .progress .staged) (t .stage))
 
     -- the roots kept beside the stage's slots
     unfoldable roots : List ℕ
-    roots = rehashed z after (touched z (t .progress .size) op a) (t .roots)
+    roots = rehashed (s .sector) after (touched (s .sector) (t .progress .size) op a) (t .roots)
 
     roots-long : length roots ≡ 512
     unfolding roots
-    roots-long = rehashed-length z after (touched z (t .progress .size) op a) (t .roots) ∙ x .stageroots
+    roots-long = rehashed-length (s .sector) after (touched (s .sector) (t .progress .size) op a) (t .roots) ∙ x .stageroots
 
-    roots-are : rootsAfter z r (t .progress) after (t .roots) ≡ roots
+    roots-are : rootsAfter (s .sector) r (t .progress) after (t .roots) ≡ roots
     unfolding rootsAfter roots op a
     roots-are =
-        ap (λ (y : Said). rehashed z after (touched z (t .progress .size) (y .op) (args (y .args .first) (y .args .second) 0)) (t .roots)) says-is
-        ∙ ap (λ (l : List ℕ). rehashed z after l (t .roots)) (touched-args z (t .progress .size) op a)
+        ap (λ (y : Said). rehashed (s .sector) after (touched (s .sector) (t .progress .size) (y .op) (args (y .args .first) (y .args .second) 0)) (t .roots)) says-is
+        ∙ ap (λ (l : List ℕ). rehashed (s .sector) after l (t .roots)) (touched-args (s .sector) (t .progress .size) op a)
 
-    stage-long : length (after .bytes) ≡ s .copies * z
+    stage-long : length (after .bytes) ≡ s .stagesectors * s .sector
     unfolding after
-    stage-long = effect-bytes z (groundOf s) (t .progress .size) op a (dataIn (inputsOf i input)) (staging (t .progress .staged) (t .stage)) ∙ x .stage
+    stage-long = effect-bytes (s .sector) (groundOf s vol) (t .progress .size) op a (dataIn (inputsOf i input)) (staging (t .progress .staged) (t .stage)) ∙ x .stage
 
-    good-after : Good z s (ranProgress (t .progress) (cost (s .terms .head .length) (s .terms .prices) op (a .len))
-        (recordCount z (i .proof) (length (spots from)) op a)
+    good-after : Good s (ranProgress (t .progress) (cost (s .terms .head .length) (s .terms .prices) op (a .len))
+        (recordCount (s .sector) (i .proof) (length (spots from)) op a)
         (newSize (t .progress .size) op a) (after .staged))
     unfolding after
-    good-after = ran-good z s (t .progress) op a _ (dataIn (inputsOf i input)) (t .stage) (x .solid .lent) (not-failed s t (x .going))
+    good-after = ran-good s vol (t .progress) op a _ (dataIn (inputsOf i input)) (t .stage) (x .solid .lent) (not-failed s t (x .going))
         (left-going s t (x .going) .1) pass (x .good)
 
     -- what rehashing asks
-    rehash-after : Rehashes z (t .progress .size) (r .op) (args (r .args .first) (r .args .second) 0)
-        (stageAfter z (s .copies) q (s .disk) input r (t .progress) (t .stage)) (t .roots)
+    rehash-after : Rehashes (s .sector) (t .progress .size) (r .op) (args (r .args .first) (r .args .second) 0)
+        (stageAfter (s .sector) (s .stagesectors) q (vol .disk) input r (t .progress) (t .stage)) (t .roots)
     unfolding stageAfter
     rehash-after =
-        rehashes z (ground (s .copies) (q .slots) (s .disk)) (t .progress .size) (r .op)
+        rehashes (s .sector) (ground (s .stagesectors) (q .slots) (vol .disk)) (t .progress .size) (r .op)
         (args (r .args .first) (r .args .second) (r .args .len)) (part input (r .from) (r .args .len)) (staging (t .progress .staged) (t .stage))
         _ (t .roots) (x .good .entries) (x .stageroots) stands refl
 
-    read-after : let g = stageAfter z (s .copies) q (s .disk) input r (t .progress) (t .stage) in
-        Reads z (s .roots) (rootsAfter z r (t .progress) g (t .roots)) q (progressAfter r (t .progress) g)
+    read-after : let g = stageAfter (s .sector) (s .stagesectors) q (vol .disk) input r (t .progress) (t .stage) in
+        Reads (s .sector) (vol .roots) (rootsAfter (s .sector) r (t .progress) g (t .roots)) q (progressAfter r (t .progress) g)
     unfolding progressAfter after op a from
     read-after =
-        subst (λ (g : Staging). Reads z (s .roots) (rootsAfter z r (t .progress) g (t .roots)) q (progressAfter r (t .progress) g)) (sym after-is)
-        (subst (λ (l : List ℕ). Reads z (s .roots) l q (progressAfter r (t .progress) after)) (sym roots-are)
-        (subst (λ (y : Said). Reads z (s .roots) roots q (ranProgress (t .progress) (y .plan .cost) (y .plan .count) (y .plan .size) (after .staged)))
+        subst (λ (g : Staging). Reads (s .sector) (vol .roots) (rootsAfter (s .sector) r (t .progress) g (t .roots)) q (progressAfter r (t .progress) g)) (sym after-is)
+        (subst (λ (l : List ℕ). Reads (s .sector) (vol .roots) l q (progressAfter r (t .progress) after)) (sym roots-are)
+        (subst (λ (y : Said). Reads (s .sector) (vol .roots) roots q (ranProgress (t .progress) (y .plan .cost) (y .plan .count) (y .plan .size) (after .staged)))
         (sym says-is)
-        (reads-good z s _ (s .roots) roots q (x .solid) good-after (x .diskroots) roots-long own)))
+        (reads-good s vol _ (vol .roots) roots q (x .solid) good-after (x .diskroots) roots-long own)))
 
     -- ---- what is shown
 
@@ -233,61 +234,61 @@ module _ (z : ℕ) (s : Setting) (t : Turn) (input : List ℕ) (i : Instruction)
 
     few-read : length (spots from) ≤ 64
     unfolding from
-    few-read = few-spots z s (rootAt z s t) (t .progress) op (a .key) (x .solid .small) (few-sectors z s (t .progress) (x .solid .lent) (x .good))
+    few-read = few-spots s (rootAt s vol t) (t .progress) op (a .key) (x .solid .small) (few-sectors s (t .progress) (x .solid .lent) (x .good))
 
     read-valid : every (valid s) (spots from) ≡ true
     unfolding from
     read-valid =
-        let few = few-sectors z s (t .progress) (x .solid .lent) (x .good) in
-        source-valid z s (t .progress) (x .solid) (x .good .orderly .staged) (omega (arith, x .good .entries, few)) (rootAt z s t) op (a .key)
+        let few = few-sectors s (t .progress) (x .solid .lent) (x .good) in
+        source-valid s vol (t .progress) (x .solid) (x .good .orderly .staged) (omega (arith, x .good .entries, few)) (rootAt s vol t) op (a .key)
 
-    seen-lies : Lies z (s .disk) (after .bytes) (r .seen)
+    seen-lies : Lies (s .sector) (vol .disk) (after .bytes) (r .seen)
     seen-lies =
-        seen-valid s (r .seen) (spots from) seen-is few-read read-valid z (s .disk) (after .bytes) (x .solid .lent .size) (omega (arith, x .solid .disk))
+        seen-valid s (r .seen) (spots from) seen-is few-read read-valid (s .sector) (vol .disk) (after .bytes) (x .solid .lent .size) (omega (arith, x .solid .disk))
         (omega (arith, stage-long))
 
-    roots-known : Known (s .roots) roots (r .seen)
+    roots-known : Known (vol .roots) roots (r .seen)
     roots-known =
-        seen-known s (r .seen) (spots from) seen-is few-read read-valid (s .roots) roots (omega (arith, x .diskroots, x .solid .lent .most))
+        seen-known s (r .seen) (spots from) seen-is few-read read-valid (vol .roots) roots (omega (arith, x .diskroots, x .solid .lent .most))
         (omega (arith, roots-long, x .solid .lent .few))
 
-    span-right : reads op ≡ true → badSpan z (r .seen .count * z) (a .first) (a .len) ≡ false
+    span-right : reads op ≡ true → badSpan (s .sector) (r .seen .count * s .sector) (a .first) (a .len) ≡ false
     unfolding from
-    span-right u = ap (λ (n : ℕ). badSpan z (n * z) (a .first) (a .len)) count-is ∙ read-span z (t .progress .size) (length (spots from)) op a u (pass .spans)
+    span-right u = ap (λ (n : ℕ). badSpan (s .sector) (n * s .sector) (a .first) (a .len)) count-is ∙ read-span (s .sector) (t .progress .size) (length (spots from)) op a u (pass .spans)
 
-    inside : reads op ≡ true → Inside z (r .seen .count) (a .first) (a .len)
-    inside u = span-inside z (x .solid .lent .size) (r .seen .count) (a .first) (a .len) (span-right u)
+    inside : reads op ≡ true → Inside (s .sector) (r .seen .count) (a .first) (a .len)
+    inside u = span-inside (s .sector) (x .solid .lent .size) (r .seen .count) (a .first) (a .len) (span-right u)
 
     asked-is : i .proof ≡ true → reads op ≡ true
     unfolding op
-    asked-is h = asked-reads z s (rootAt z s t) (t .progress) i (inputsOf i input) can h
+    asked-is h = asked-reads s (rootAt s vol t) (t .progress) i (inputsOf i input) can h
 
-    ranged : i .proof ≡ true → Ranged z (r .seen .count) (a .first) (a .len)
+    ranged : i .proof ≡ true → Ranged (s .sector) (r .seen .count) (a .first) (a .len)
     unfolding op a
-    ranged h = range-ranged z (x .solid .lent .size) op a (r .seen .count) (span-right (asked-is h))
-        (asked-right z s (rootAt z s t) (t .progress) i (inputsOf i input) can h)
+    ranged h = range-ranged (s .sector) (x .solid .lent .size) op a (r .seen .count) (span-right (asked-is h))
+        (asked-right s (rootAt s vol t) (t .progress) i (inputsOf i input) can h)
 
     -- the roots that the record is made with
     abbrev reader : Spot → List ℕ
-    reader = rootOf z s (after .bytes) roots
+    reader = rootOf s vol (after .bytes) roots
 
-    reader-kept : keptRoot (s .roots) roots ≡ reader
-    reader-kept = sym (reads-kept z s (after .bytes) roots (x .way))
+    reader-kept : keptRoot (vol .roots) roots ≡ reader
+    reader-kept = sym (reads-kept s vol (after .bytes) roots (x .way))
 
-    proof-is : shownProof z (i .proof) (keptRoot (s .roots) roots) (s .disk) (after .bytes) (r .seen) (a .first) (a .len)
-        ≡ pick (i .proof) (rangeProof z reader (s .disk) (after .bytes) (spots from) (a .first) (a .len)) []
+    proof-is : shownProof (s .sector) (i .proof) (keptRoot (vol .roots) roots) (vol .disk) (after .bytes) (r .seen) (a .first) (a .len)
+        ≡ pick (i .proof) (rangeProof (s .sector) reader (vol .disk) (after .bytes) (spots from) (a .first) (a .len)) []
     unfolding shownProof
     proof-is =
-        ap₂ (λ (f : Spot → List ℕ) (l : List Spot). pick (i .proof) (rangeProof z f (s .disk) (after .bytes) l (a .first) (a .len)) []) reader-kept seen-is
+        ap₂ (λ (f : Spot → List ℕ) (l : List Spot). pick (i .proof) (rangeProof (s .sector) f (vol .disk) (after .bytes) l (a .first) (a .len)) []) reader-kept seen-is
 
-    proof-long : length (shownProof z (i .proof) (keptRoot (s .roots) roots) (s .disk) (after .bytes) (r .seen) (a .first) (a .len))
-        ≡ 32 * proofCount z (i .proof) (length (spots from)) a
+    proof-long : length (shownProof (s .sector) (i .proof) (keptRoot (vol .roots) roots) (vol .disk) (after .bytes) (r .seen) (a .first) (a .len))
+        ≡ 32 * proofCount (s .sector) (i .proof) (length (spots from)) a
     proof-long =
         ap length proof-is
-        ∙ length-proof z s (after .bytes) roots from a (i .proof) (x .solid) stage-long (x .diskroots) roots-long read-valid few-read
+        ∙ length-proof s vol (after .bytes) roots from a (i .proof) (x .solid) stage-long (x .diskroots) roots-long read-valid few-read
         (λ h. within-read h)
       where
-        within-read : i .proof ≡ true → Within z (length (spots from)) (a .first) (a .len)
+        within-read : i .proof ≡ true → Within (s .sector) (length (spots from)) (a .first) (a .len)
         within-read h =
             let g = ranged h in
             record {
@@ -298,26 +299,26 @@ module _ (z : ℕ) (s : Setting) (t : Turn) (input : List ℕ) (i : Instruction)
               many = g .whole;
             }
 
-    room : 72 + 32 * proofCount z (i .proof) (length (spots from)) a + pick (reads op) (a .len) 0 ≤ length (drop (t .progress .written) (t .output))
+    room : 72 + 32 * proofCount (s .sector) (i .proof) (length (spots from)) a + pick (reads op) (a .len) 0 ≤ length (drop (t .progress .written) (t .output))
     unfolding outputCount recordCount
     room = omega (arith, pass .room, x .output, length-drop (t .progress .written) (t .output))
 
-    shows : let g = stageAfter z (s .copies) q (s .disk) input r (t .progress) (t .stage) in
-        Shows z (s .roots) (rootsAfter z r (t .progress) g (t .roots)) (s .disk) (g .bytes) (r .seen) (i .proof) (reads (r .op))
+    shows : let g = stageAfter (s .sector) (s .stagesectors) q (vol .disk) input r (t .progress) (t .stage) in
+        Shows (s .sector) (vol .roots) (rootsAfter (s .sector) r (t .progress) g (t .roots)) (vol .disk) (g .bytes) (r .seen) (i .proof) (reads (r .op))
         (r .args .first) (r .args .len) (r .plan .hashes) (drop (t .progress .written) (t .output))
     unfolding after op a from
     shows =
         let left = drop (t .progress .written) (t .output) in
-        subst (λ (g : Staging). Shows z (s .roots) (rootsAfter z r (t .progress) g (t .roots)) (s .disk) (g .bytes) (r .seen) (i .proof) (reads (r .op))
+        subst (λ (g : Staging). Shows (s .sector) (vol .roots) (rootsAfter (s .sector) r (t .progress) g (t .roots)) (vol .disk) (g .bytes) (r .seen) (i .proof) (reads (r .op))
         (r .args .first) (r .args .len) (r .plan .hashes) left) (sym after-is)
-        (subst (λ (l : List ℕ). Shows z (s .roots) l (s .disk) (after .bytes) (r .seen) (i .proof) (reads (r .op)) (r .args .first) (r .args .len)
+        (subst (λ (l : List ℕ). Shows (s .sector) (vol .roots) l (vol .disk) (after .bytes) (r .seen) (i .proof) (reads (r .op)) (r .args .first) (r .args .len)
         (r .plan .hashes) left) (sym roots-are)
-        (subst (λ (y : Said). Shows z (s .roots) roots (s .disk) (after .bytes) (r .seen) (i .proof) (reads (y .op)) (y .args .first) (y .args .len)
+        (subst (λ (y : Said). Shows (s .sector) (vol .roots) roots (vol .disk) (after .bytes) (r .seen) (i .proof) (reads (y .op)) (y .args .first) (y .args .len)
         (y .plan .hashes) left) (sym says-is)
         (record { known = roots-known; lies = seen-lies; inside = inside; ranged = ranged; count = proof-long; room = room })))
 
     -- all that an instruction that can run asks
-    pub runs-right : s .terms .budget < 2 ^ 64 → Runs z (s .copies) q (s .roots) (s .disk) input r (i .proof) t
+    pub runs-right : s .terms .budget < 2 ^ 64 → Runs (s .sector) (s .stagesectors) q (vol .roots) (vol .disk) input r (i .proof) t
     unfolding op a from
     runs-right small = record {
       stands = stands;
@@ -325,7 +326,7 @@ module _ (z : ℕ) (s : Setting) (t : Turn) (input : List ℕ) (i : Instruction)
       rehashes = rehash-after;
       read = read-after;
       shows = shows;
-      ran = omega (arith, left-going s t (x .going) .1, within-count z s t x);
+      ran = omega (arith, left-going s t (x .going) .1, within-count s vol t x);
       tally = subst (λ (y : Said). t .progress .tally + y .plan .cost < 2 ^ 64) (sym says-is) (omega (arith, pass .paid));
       written = subst (λ (y : Said). t .progress .written + y .plan .count ≤ length (t .output)) (sym says-is) (omega (arith, pass .room, x .output));
     }
@@ -336,45 +337,45 @@ module _ (z : ℕ) (s : Setting) (t : Turn) (input : List ℕ) (i : Instruction)
     unfolding badSpan
     some-read u h = eqb-false (a .len) 0 (either-left _ _ (span-right u)) h
 
-    bytes-shown : shownBytes z (reads op) (s .disk) (after .bytes) (r .seen) (a .first) (a .len)
-        ≡ pick (eqb (outputCount op a) 0) [] (outputOf z (s .disk) (after .bytes) (spots from) a)
+    bytes-shown : shownBytes (s .sector) (reads op) (vol .disk) (after .bytes) (r .seen) (a .first) (a .len)
+        ≡ pick (eqb (outputCount op a) 0) [] (outputOf (s .sector) (vol .disk) (after .bytes) (spots from) a)
     unfolding shownBytes
     bytes-shown =
         by (reads op)
         (λ u. picks (reads op) _ [] u
-        ∙ span-output z (s .disk) (after .bytes) (r .seen) a (inside u .below)
-        ∙ ap (λ (l : List Spot). outputOf z (s .disk) (after .bytes) l a) seen-is
+        ∙ span-output (s .sector) (vol .disk) (after .bytes) (r .seen) a (inside u .below)
+        ∙ ap (λ (l : List Spot). outputOf (s .sector) (vol .disk) (after .bytes) l a) seen-is
         ∙ sym (skips (eqb (outputCount op a) 0) [] _ (ne-eqb _ 0 (λ h. some-read u (sym (count-read op a u) ∙ h)))))
         (λ u. skips (reads op) _ [] u ∙ sym (picks (eqb (outputCount op a) 0) [] _ (eq-eqb _ 0 (count-change op a u))))
 
-    record-is : recordAfter z (keptRoot (s .roots) roots) q (s .disk) r (i .proof) after
-        ≡ successBytes z s reader (t .progress) (i .proof) from op a (cost (s .terms .head .length) (s .terms .prices) op (a .len))
+    record-is : recordAfter (s .sector) (keptRoot (vol .roots) roots) q (vol .disk) r (i .proof) after
+        ≡ successBytes s vol reader (t .progress) (i .proof) from op a (cost (s .terms .head .length) (s .terms .prices) op (a .len))
         (newSize (t .progress .size) op a) after
     unfolding recordAfter successBytes runningPair parentSpots withRunning withStaged outputCount op a from
     record-is =
         let own-cost = cost (s .terms .head .length) (s .terms .prices) op (a .len) in
         let size = newSize (t .progress .size) op a in
-        let kept-reader = keptRoot (s .roots) roots in
-        let rooted : (Spot → List ℕ) → List ℕ → ℕ → List ℕ = λ f slots n. contractRoot f (tab 0 (n / z) (spotOf slots (after .staged))) in
+        let kept-reader = keptRoot (vol .roots) roots in
+        let rooted : (Spot → List ℕ) → List ℕ → ℕ → List ℕ = λ f slots n. contractRoot f (tab 0 (n / s .sector) (spotOf slots (after .staged))) in
         ap (λ (y : Said). recordBytes 0 (y .plan .cost) (pairing (y .plan .size) (rooted kept-reader (q .slots) (y .plan .size))) (y .plan .hashes)
-        (shownProof z (i .proof) kept-reader (s .disk) (after .bytes) (r .seen) (y .args .first) (y .args .len))
-        (pick (reads (y .op)) (y .args .len) 0) (shownBytes z (reads (y .op)) (s .disk) (after .bytes) (r .seen) (y .args .first) (y .args .len))) says-is
+        (shownProof (s .sector) (i .proof) kept-reader (vol .disk) (after .bytes) (r .seen) (y .args .first) (y .args .len))
+        (pick (reads (y .op)) (y .args .len) 0) (shownBytes (s .sector) (reads (y .op)) (vol .disk) (after .bytes) (r .seen) (y .args .first) (y .args .len))) says-is
         ∙ ap₂ (λ (f : Spot → List ℕ) (b : Place). recordBytes 0 own-cost (pairing size (rooted f (b .slots) size))
-        (proofCount z (i .proof) (length (spots from)) a) (shownProof z (i .proof) kept-reader (s .disk) (after .bytes) (r .seen) (a .first) (a .len))
+        (proofCount (s .sector) (i .proof) (length (spots from)) a) (shownProof (s .sector) (i .proof) kept-reader (vol .disk) (after .bytes) (r .seen) (a .first) (a .len))
         (outputCount op a)
-        (shownBytes z (reads op) (s .disk) (after .bytes) (r .seen) (a .first) (a .len))) reader-kept own
+        (shownBytes (s .sector) (reads op) (vol .disk) (after .bytes) (r .seen) (a .first) (a .len))) reader-kept own
         ∙ ap₂ (λ (pr bs : List ℕ). recordBytes 0 own-cost
-        (runningPair z s reader (withStaged (withRunning (t .progress) size) (after .staged)))
-        (proofCount z (i .proof) (length (spots from)) a) pr (outputCount op a) bs) proof-is bytes-shown
+        (runningPair s reader (withStaged (withRunning (t .progress) size) (after .staged)))
+        (proofCount (s .sector) (i .proof) (length (spots from)) a) pr (outputCount op a) bs) proof-is bytes-shown
 
-    pub ran-succeeds : ran z (s .copies) q (s .roots) (s .disk) input r (i .proof) t
-        ≡ succeeding z s (i .proof) (opOf (i .name)) (argsOf (opOf (i .name)) (inputsOf i input)) (dataIn (inputsOf i input)) t
+    pub ran-succeeds : ran (s .sector) (s .stagesectors) q (vol .roots) (vol .disk) input r (i .proof) t
+        ≡ succeeding s vol (i .proof) (opOf (i .name)) (argsOf (opOf (i .name)) (inputsOf i input)) (dataIn (inputsOf i input)) t
     unfolding ran progressAfter succeeding after roots op a from
     ran-succeeds =
         let laid : List ℕ → List ℕ = λ l. put (t .output) (t .progress .written) l in
         let left : Staging → List ℕ → Turn = λ g l.
-        turn (progressAfter r (t .progress) g) (g .bytes) (laid (recordAfter z (keptRoot (s .roots) l) q (s .disk) r (i .proof) g)) l in
-        ap (λ (g : Staging). left g (rootsAfter z r (t .progress) g (t .roots))) after-is
+        turn (progressAfter r (t .progress) g) (g .bytes) (laid (recordAfter (s .sector) (keptRoot (vol .roots) l) q (vol .disk) r (i .proof) g)) l in
+        ap (λ (g : Staging). left g (rootsAfter (s .sector) r (t .progress) g (t .roots))) after-is
         ∙ ap (left after) roots-are
         ∙ ap₂ (λ (y : Said) (l : List ℕ). turn (ranProgress (t .progress) (y .plan .cost) (y .plan .count) (y .plan .size) (after .staged))
         (after .bytes) (laid l) roots)

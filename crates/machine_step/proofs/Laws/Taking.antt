@@ -5,7 +5,8 @@ use Rattle.lists.proofs.Laws.Pick.{picks, skips}
 use Rattle.area.specs.Area.{put}
 use Rattle.sia.specs.Names.{opOf}
 use Rattle.host.specs.Places.{whose}
-use Rattle.machine_rules.specs.View.{kept, Setting, setting, Turn, turn, parent}
+use Rattle.machine_rules.specs.View.{kept, Turn, turn, parent, Volume}
+use Rattle.machine_rules.specs.declared.Setting.{Setting}
 use Rattle.machine_rules.specs.Roots.{keptRoot, rootAt}
 use Rattle.machine_rules.specs.Inputs.{dataIn, argsOf}
 use Rattle.machine_rules.specs.Plan.{judged}
@@ -27,13 +28,13 @@ use Rattle.host.specs.declared.Place.{Place}
 use Rattle.host.specs.declared.Progress.{Progress}
 use Rattle.machine_rules.specs.declared.Spot.{Spot}
 
-module _ (z : ℕ) (s : Setting) (t : Turn) (input : List ℕ) (x : Steps z s t input) where
+module _ (s : Setting) (vol : Volume) (t : Turn) (input : List ℕ) (x : Steps s vol t input) where
   -- what a look-up asks
-  seeks : Seeks z (s .roots) (t .roots) (s .places) (s .terms .head .contract) (t .progress .staged) (t .progress .size)
-  seeks = program-seeks z s (s .roots) (x .solid) (x .diskroots) (t .roots) (x .stageroots) (t .progress) (x .good)
+  seeks : Seeks (s .sector) (vol .roots) (t .roots) (s .places) (s .terms .head .contract) (t .progress .staged) (t .progress .size)
+  seeks = program-seeks s vol (vol .roots) (x .solid) (x .diskroots) (t .roots) (x .stageroots) (t .progress) (x .good)
 
   -- what a plan asks
-  pub plans : Plans z (setting (s .sectors) (s .copies) (s .places) (s .terms) [] []) (t .progress) (s .roots) (t .roots)
+  pub plans : Plans (s .sector) (setting (s .disksectors) (s .stagesectors) (s .places) (s .terms) [] []) (t .progress) (vol .roots) (t .roots)
   plans = record {
     lent = record { size = x .solid .lent .size; few = x .solid .lent .few; most = x .solid .lent .most };
     sources = record {
@@ -43,16 +44,16 @@ module _ (z : ℕ) (s : Setting) (t : Turn) (input : List ℕ) (x : Steps z s t 
     };
   }
 
-  pub plans-good : Good z (setting (s .sectors) (s .copies) (s .places) (s .terms) [] []) (t .progress)
+  pub plans-good : Good (s .sector) (setting (s .disksectors) (s .stagesectors) (s .places) (s .terms) [] []) (t .progress)
   plans-good = record { orderly = x .good .orderly; terms = x .good .terms; entries = x .good .entries }
 
   -- the parent stands
-  pub parent-stands : {q : Place} → q ≡ whose (s .terms .head .contract) (s .places) → Stands z (s .roots) q
+  pub parent-stands : {q : Place} → q ≡ whose (s .terms .head .contract) (s .places) → Stands (s .sector) (vol .roots) q
   parent-stands own =
-      subst (Stands z (s .roots)) (sym own) (record {
+      subst (Stands (s .sector) (vol .roots)) (sym own) (record {
         size = x .solid .lent .size;
-        order = whose-order z (s .terms .head .contract) (s .places) (x .solid .small);
-        slots = whose-every (holds 32 (s .roots)) z (s .terms .head .contract) (s .places) (seeks .stand .slots);
+        order = whose-order (s .sector) (s .terms .head .contract) (s .places) (x .solid .small);
+        slots = whose-every (holds 32 (vol .roots)) (s .sector) (s .terms .head .contract) (s .places) (seeks .stand .slots);
       })
 
   -- there is room for a failure
@@ -60,21 +61,21 @@ module _ (z : ℕ) (s : Setting) (t : Turn) (input : List ℕ) (x : Steps z s t 
   failure-fits = omega (arith, x .good .orderly .fits, x .output, skips {A = ℕ} (t .progress .failed) 0 72 (not-failed s t (x .going)))
 
   pub ran-below : t .progress .ran < 32
-  ran-below = omega (arith, left-going s t (x .going) .1, within-count z s t x)
+  ran-below = omega (arith, left-going s t (x .going) .1, within-count s vol t x)
 
-module _ (z : ℕ) (s : Setting) (t : Turn) (i : Instruction) (l : List (List ℕ)) {n : ℕ} (way : s .way ≡ kept)
-    (number : n ≡ judged z s (rootAt z s t) (t .progress) i l) where
+module _ (s : Setting) (vol : Volume) (t : Turn) (i : Instruction) (l : List (List ℕ)) {n : ℕ} (way : vol .way ≡ kept)
+    (number : n ≡ judged s (rootAt s vol t) (t .progress) i l) where
   pub step-fails : {q : Place} {g : Progress} {out : List ℕ} → (n ≡ 0 → ⊥) → q ≡ parent s → g ≡ failedProgress (t .progress)
-      → out ≡ put (t .output) (t .progress .written) (recordBytes n 0 (pairOf z (keptRoot (s .roots) []) q) 0 [] 0 [])
-      → turn g (t .stage) out (t .roots) ≡ stepped z s i l t
+      → out ≡ put (t .output) (t .progress .written) (recordBytes n 0 (pairOf (s .sector) (keptRoot (vol .roots) []) q) 0 [] 0 [])
+      → turn g (t .stage) out (t .roots) ≡ stepped s vol i l t
   unfolding stepped failing failureBytes startingPair
   step-fails other own p o =
-      let laid : (Spot → List ℕ) → ℕ → Place → List ℕ = λ f m b. put (t .output) (t .progress .written) (recordBytes m 0 (pairOf z f b) 0 [] 0 []) in
+      let laid : (Spot → List ℕ) → ℕ → Place → List ℕ = λ f m b. put (t .output) (t .progress .written) (recordBytes m 0 (pairOf (s .sector) f b) 0 [] 0 []) in
       ap₂ (λ (g : Progress) (l : List ℕ). turn g (t .stage) l (t .roots)) p
-      (o ∙ ap₂ (laid (keptRoot (s .roots) [])) number own
-      ∙ ap (λ (f : Spot → List ℕ). laid f (judged z s (rootAt z s t) (t .progress) i l) (parent s)) (sym (reads-kept z s [] [] way)))
-      ∙ sym (skips (eqb (judged z s (rootAt z s t) (t .progress) i l) 0) _ _ (ne-eqb _ 0 (λ e. other (number ∙ e))))
+      (o ∙ ap₂ (laid (keptRoot (vol .roots) [])) number own
+      ∙ ap (λ (f : Spot → List ℕ). laid f (judged s (rootAt s vol t) (t .progress) i l) (parent s)) (sym (reads-kept s vol [] [] way)))
+      ∙ sym (skips (eqb (judged s (rootAt s vol t) (t .progress) i l) 0) _ _ (ne-eqb _ 0 (λ e. other (number ∙ e))))
 
-  pub step-succeeds : {w : Turn} → n ≡ 0 → w ≡ succeeding z s (i .proof) (opOf (i .name)) (argsOf (opOf (i .name)) l) (dataIn l) t → w ≡ stepped z s i l t
+  pub step-succeeds : {w : Turn} → n ≡ 0 → w ≡ succeeding s vol (i .proof) (opOf (i .name)) (argsOf (opOf (i .name)) l) (dataIn l) t → w ≡ stepped s vol i l t
   unfolding stepped
-  step-succeeds zero e = e ∙ sym (picks (eqb (judged z s (rootAt z s t) (t .progress) i l) 0) _ _ (eq-eqb _ 0 (sym number ∙ zero)))
+  step-succeeds zero e = e ∙ sym (picks (eqb (judged s (rootAt s vol t) (t .progress) i l) 0) _ _ (eq-eqb _ 0 (sym number ∙ zero)))

@@ -5,7 +5,8 @@ use Rattle.lists.proofs.Laws.Entries.{any-default}
 use Rattle.sia.specs.Encode.{within}
 use Rattle.sia.specs.Empty.{noInstruction}
 use Rattle.host.specs.Order.{termsInOrder}
-use Rattle.machine_rules.specs.View.{Setting, Turn}
+use Rattle.machine_rules.specs.View.{Turn, Volume}
+use Rattle.machine_rules.specs.declared.Setting.{Setting}
 use Rattle.machine_rules.specs.Inputs.{need, inputsOf}
 use Rattle.machine_rules.specs.Run.{stepped, current, step, going, ready, runs, run}
 use Rattle.machine_rules.proofs.Laws.Areas.{stepped-alike}
@@ -22,10 +23,10 @@ unfolding current
 turn-is s t d h = any-default (s .terms .head .instructions) (t .progress .ran) d noInstruction h
 
 -- and one step of the run
-pub steps-turn : (z : ℕ) (s : Setting) (a : List ℕ) (t : Turn) {i : Instruction} {u : Turn} → i ≡ current s t
-    → u ≡ stepped z s i (inputsOf i a) t → u ≡ step z s a t
+pub steps-turn : (s : Setting) (vol : Volume) (a : List ℕ) (t : Turn) {i : Instruction} {u : Turn} → i ≡ current s t
+    → u ≡ stepped s vol i (inputsOf i a) t → u ≡ step s vol a t
 unfolding step
-steps-turn z s a t e h = h ∙ ap (λ (j : Instruction). stepped z s j (inputsOf j a) t) e
+steps-turn s vol a t e h = h ∙ ap (λ (j : Instruction). stepped s vol j (inputsOf j a) t) e
 
 -- whether it is ready: the program goes on, and its need has come
 module _ (s : Setting) (k : ℕ) (t : Turn) where
@@ -42,30 +43,30 @@ module _ (s : Setting) (k : ℕ) (t : Turn) where
   unfolding ready
   ends g = both-not-left _ _ g
 
-few-instructions : (z : ℕ) (s : Setting) (t : Turn) (a : List ℕ) → Runs z s t a → s .terms .head .count ≤ 32
+few-instructions : (s : Setting) (vol : Volume) (t : Turn) (a : List ℕ) → Runs s vol t a → s .terms .head .count ≤ 32
 unfolding termsInOrder within
-few-instructions z s t a r = leb-true _ _ (both-left _ _ (both-left _ _ (both-right _ _ (r .good .terms))))
+few-instructions s vol t a r = leb-true _ _ (both-left _ _ (both-left _ _ (both-right _ _ (r .good .terms))))
 
-pub few-ran : (z : ℕ) (s : Setting) (t : Turn) (a : List ℕ) → Runs z s t a → going (s .terms) (t .progress) ≡ true → t .progress .ran < 32
+pub few-ran : (s : Setting) (vol : Volume) (t : Turn) (a : List ℕ) → Runs s vol t a → going (s .terms) (t .progress) ≡ true → t .progress .ran < 32
 unfolding going
-few-ran z s t a r g =
+few-ran s vol t a r g =
     let below : t .progress .ran < s .terms .head .count = ltb-true _ _ (both-right _ _ g) in
-    omega (arith, few-instructions z s t a r)
+    omega (arith, few-instructions s vol t a r)
 
-module _ (z : ℕ) (s : Setting) (a : List ℕ) (k : ℕ) where
+module _ (s : Setting) (vol : Volume) (a : List ℕ) (k : ℕ) where
   -- a turn that is ready is the run's first
-  turns : (n : ℕ) (t : Turn) → left s t ≤ n → ready s k t ≡ true → runs z s a k n t ≡ runs z s a k n (step z s a t)
+  turns : (n : ℕ) (t : Turn) → left s t ≤ n → ready s k t ≡ true → runs s vol a k n t ≡ runs s vol a k n (step s vol a t)
   turns zero t h r = never (sym r ∙ none-left s k t (omega arith))
   turns (suc n) t h r =
-      let d = step-left z s a k t r in
-      runs-go z s a k n t r ∙ sym (runs-enough z s a k n (step z s a t) (omega arith))
+      let d = step-left s vol a k t r in
+      runs-go s vol a k n t r ∙ sym (runs-enough s vol a k n (step s vol a t) (omega arith))
 
   -- the turn reached from t₀ when so many have run
   pub record Reached (t₀ t : Turn) : Type 0 where
-    pub ends : run z s a k t₀ ≡ run z s a k t
-    pub kept : Runs z s t a
+    pub ends : run s vol a k t₀ ≡ run s vol a k t
+    pub kept : Runs s vol t a
 
-  pub steps : (t : Turn) → Runs z s t a → ready s k t ≡ true → Steps z s t a
+  pub steps : (t : Turn) → Runs s vol t a → ready s k t ≡ true → Steps s vol t a
   steps t r h = record {
     solid = r .solid;
     good = r .good;
@@ -78,16 +79,16 @@ module _ (z : ℕ) (s : Setting) (a : List ℕ) (k : ℕ) where
     stageroots = r .stageroots;
   }
 
-  pub further : (t₀ t : Turn) {u : Turn} → Reached t₀ t → ready s k t ≡ true → u ≡ step z s a t → Reached t₀ u
+  pub further : (t₀ t : Turn) {u : Turn} → Reached t₀ t → ready s k t ≡ true → u ≡ step s vol a t → Reached t₀ u
   unfolding run step
   further t₀ t x h e =
       let r = x .kept in
-      let same = stepped-alike z s (current s t) (inputsOf (current s t) a) t in
+      let same = stepped-alike s vol (current s t) (inputsOf (current s t) a) t in
       subst (Reached t₀) (sym e) (record {
         ends = x .ends ∙ turns (s .terms .head .count) t (left-most s t) h;
         kept = record {
           solid = r .solid;
-          good = stepped-good z s (current s t) (inputsOf (current s t) a) t (r .solid .lent) (ready-going s k t h) (r .good);
+          good = stepped-good s vol (current s t) (inputsOf (current s t) a) t (r .solid .lent) (ready-going s k t h) (r .good);
           input = r .input;
           stage = same .stage ∙ r .stage;
           output = same .output ∙ r .output;
@@ -97,9 +98,9 @@ module _ (z : ℕ) (s : Setting) (a : List ℕ) (k : ℕ) where
         };
       })
 
-  pub fewer : (t : Turn) {u : Turn} → ready s k t ≡ true → u ≡ step z s a t → left s u < left s t
-  fewer t h e = subst (λ (u : Turn). left s u < left s t) (sym e) (step-left z s a k t h)
+  pub fewer : (t : Turn) {u : Turn} → ready s k t ≡ true → u ≡ step s vol a t → left s u < left s t
+  fewer t h e = subst (λ (u : Turn). left s u < left s t) (sym e) (step-left s vol a k t h)
 
-  pub ended : (t₀ t : Turn) → Reached t₀ t → ready s k t ≡ false → t ≡ run z s a k t₀
+  pub ended : (t₀ t : Turn) → Reached t₀ t → ready s k t ≡ false → t ≡ run s vol a k t₀
   unfolding run
-  ended t₀ t x h = sym (runs-stop z s a k (s .terms .head .count) t h) ∙ sym (x .ends)
+  ended t₀ t x h = sym (runs-stop s vol a k (s .terms .head .count) t h) ∙ sym (x .ends)

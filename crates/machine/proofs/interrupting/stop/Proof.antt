@@ -3,7 +3,7 @@ use Rattle.lists.proofs.Kit.{ap, ap₂, _∙_, List, [], ℕ, needs}
 use Rattle.area.specs.Area.{put}
 use Rattle.host.specs.With.{withProgram, withCame, withProgress, withStageRoots}
 use Rattle.host.proofs.Laws.Lengths.{disk-rooted}
-use Rattle.machine_rules.specs.View.{settingBy, turnOf, withRun, parent}
+use Rattle.machine_rules.specs.View.{turnOf, withRun, parent, volumeBy}
 use Rattle.machine_rules.specs.Roots.{keptRoot, rootBy, rootOf}
 use Rattle.machine_rules.specs.Record.{pairOf, startingPair, recordBytes, failureBytes}
 use Rattle.machine_rules.specs.Run.{failing}
@@ -22,7 +22,7 @@ fail-requires c κs =
     (stands h _ (disk-rooted h _ (s .good .0)) (found .parent .ensures) (s .pre .order), room-left h (s .pre))
 
 returns : tie.Need-returns
-unfolding stoppedBy failing failureBytes startingPair parent settingBy turnOf withRun withStageRoots withProgram withProgress withCame rootOf rootBy
+unfolding stoppedBy failing failureBytes startingPair parent volumeBy turnOf withRun withStageRoots withProgram withProgress withCame rootOf rootBy
 returns c =
     let failed = c .before .before in let at-diskroots = failed .before .before .before in let found = at-diskroots .before .before in
     let a = found .before .before .before .args in

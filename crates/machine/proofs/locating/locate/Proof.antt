@@ -2,7 +2,7 @@
 use Rattle.lists.proofs.Kit.{_≡_, sym, ap, _∙_, true, not, needs, not-false}
 use Rattle.lists.proofs.Laws.Pick.{yes, no}
 use Rattle.host.specs.Order.{inOrder}
-use Rattle.machine_rules.specs.View.{settingBy}
+use Rattle.machine_rules.specs.View.{volumeBy}
 use Rattle.machine_rules.specs.Roots.{rootBy, rootOf}
 use Rattle.machine_rules.specs.Seats.{locatedAt, locatedBy}
 use Rattle.machine.proofs.locating.locate.Statement.{statement}
@@ -16,7 +16,7 @@ unfolding locatedBy
 returns c = yes _ _ _ (ap not (sym (c .before .before .in-order .ensures)) ∙ c .before .if1 .taken) (c .not-located .ensures)
 
 returns-2 : tie.Need-returns-2
-unfolding locatedBy rootOf rootBy settingBy
+unfolding locatedBy rootOf rootBy volumeBy
 returns-2 c =
     let at-sought = c .before in
     no _ _ _ (ap not (in-order (at-sought .before))) (c .located-at .ensures ∙ ap locatedAt (at-sought .sought .ensures))

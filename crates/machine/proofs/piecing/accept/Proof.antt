@@ -5,7 +5,7 @@ use Rattle.area.proofs.Laws.Parts.{part-whole}
 use Rattle.area.proofs.Laws.Puts.{length-put}
 use Rattle.host.specs.With.{withProgram, withCame, withProgress, withStageRoots}
 use Rattle.host.proofs.Laws.Lengths.{hosted, disk-rooted, stage-rooted}
-use Rattle.machine_rules.specs.View.{settingBy, turnOf, withRun}
+use Rattle.machine_rules.specs.View.{turnOf, withRun, volumeBy}
 use Rattle.machine_step.proofs.Laws.Hosts.{turns-right}
 use Rattle.machine.proofs.Laws.Hosts.{input-long, accepted-is, declared-most}
 use Rattle.machine.proofs.piecing.accept.Statement.{statement}
@@ -39,7 +39,7 @@ slice-aggregate-run-2 c =
     sym (stage-rooted (s .args .host) _ (s .good .0))
 
 run-requires : tie.Need-run-requires
-unfolding settingBy turnOf
+unfolding volumeBy turnOf
 run-requires c κs =
     let at-stageroots2 = c .before .before in let at-stageroots = at-stageroots2 .before .before .before in
     let at-input = at-stageroots .before .before .before in let came = at-input .before in let at-places = came .before .before .before in
@@ -50,7 +50,7 @@ run-requires c κs =
     (ap length (came .copy-between .ensures) ∙ length-put _ _ _ ∙ input-long h _ (s .pre .inputs)) (s .pre .outputs)
 
 returns : tie.Need-returns
-unfolding settingBy turnOf withRun withStageRoots withProgram withProgress withCame
+unfolding volumeBy turnOf withRun withStageRoots withProgram withProgress withCame
 returns c =
     let at-stage = c .before .before .before in let done = at-stage .before .before in let at-stageroots2 = done .before .before .before in
     let at-stageroots = at-stageroots2 .before .before .before in let at-input = at-stageroots .before .before .before in

@@ -2,7 +2,8 @@
 use Rattle.lists.proofs.Kit.{ap₂, _≡_, sym, ap, _∙_, refl, false, not, List, [], ℕ, arith, length, not-true, not-false, needs}
 use Rattle.lists.specs.Pick.{both}
 use Rattle.lists.proofs.Laws.Pick.{yes, no}
-use Rattle.machine_rules.specs.View.{Setting, setting, readOnlyMode}
+use Rattle.machine_rules.specs.View.{readOnlyMode}
+use Rattle.machine_rules.specs.declared.Setting.{Setting}
 use Rattle.machine_rules.specs.Roots.{keptRoot}
 use Rattle.machine_rules.specs.Plan.{plannedArgs, weighed, Source, isThere, spots, sourceOf}
 use Rattle.machine_rules.specs.Kinds.{changes}

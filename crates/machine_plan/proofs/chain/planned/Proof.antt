@@ -2,7 +2,7 @@
 use Rattle.lists.proofs.Kit.{_≡_, sym, ap, _∙_, refl, not, true, false, List, [], suc, ℕ, not-true, not-false, needs}
 use Rattle.lists.proofs.Laws.Pick.{yes, no}
 use Rattle.sia.specs.Names.{opOf}
-use Rattle.machine_rules.specs.View.{Setting, setting}
+use Rattle.machine_rules.specs.declared.Setting.{Setting}
 use Rattle.machine_rules.specs.Roots.{keptRoot}
 use Rattle.machine_rules.specs.Inputs.{illFormed, pastEnd, inputsOf, wellFormed, argsOf}
 use Rattle.sia.specs.declared.Op.{Op}

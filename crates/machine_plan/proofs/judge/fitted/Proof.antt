@@ -2,7 +2,7 @@
 use Rattle.lists.proofs.Kit.{_≡_, sym, ap, ap₂, _∙_, not, false, [], ℕ, _+_, _*_, _≤_, mul-le-mul, arith, ltb, ltb-false, needs}
 use Rattle.lists.proofs.Laws.Pick.{yes, no}
 use Rattle.host.specs.Places.{others}
-use Rattle.machine_rules.specs.View.{freeCopies, setting}
+use Rattle.machine_rules.specs.View.{freeCopies}
 use Rattle.machine_rules.specs.Plan.{fitted, wanted, newSize, recordCount}
 use Rattle.machine_plan.proofs.Laws.Weighed.{not-leb}
 use Rattle.machine_plan.proofs.judge.fitted.Statement.{statement}

@@ -2,7 +2,7 @@
 use Rattle.lists.proofs.Kit.{ap, _∙_, List, ℕ, _/_, needs}
 use Rattle.lists.specs.Tab.{tab}
 use Rattle.host.proofs.Laws.Lengths.{hosted, disk-rooted, stage-rooted}
-use Rattle.machine_rules.specs.View.{settingBy, parent, spotOf, parentSpots}
+use Rattle.machine_rules.specs.View.{parent, spotOf, parentSpots, volumeBy}
 use Rattle.machine_rules.specs.Roots.{keptRoot, contractRoot}
 use Rattle.machine_rules.specs.Record.{pairing, runningPair}
 use Rattle.machine_step.proofs.Laws.Hosts.{reads}
@@ -17,7 +17,7 @@ running-root-requires c κs =
     reads h (hosted h _ (s .good .0)) (disk-rooted h _ (s .good .0)) (stage-rooted h _ (s .good .0)) (found .parent .ensures) (s .pre .0) (s .pre .1)
 
 returns : tie.Need-returns
-unfolding runningPair parentSpots parent settingBy
+unfolding runningPair parentSpots parent volumeBy
 returns c =
     let at-stageroots = c .before .before .before in let found = at-stageroots .before .before in
     let h = found .before .before .before .args .host in

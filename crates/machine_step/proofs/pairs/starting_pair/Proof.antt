@@ -1,7 +1,7 @@
 -- `machine_step::pairs::starting_pair` meets its contract: the parent's size, and the root of its committed sectors. Assumes nothing.
 use Rattle.lists.proofs.Kit.{ap, _∙_, [], needs}
 use Rattle.host.proofs.Laws.Lengths.{disk-rooted}
-use Rattle.machine_rules.specs.View.{settingBy, parent}
+use Rattle.machine_rules.specs.View.{parent, volumeBy}
 use Rattle.machine_rules.specs.Roots.{keptRoot, rootBy, rootOf}
 use Rattle.machine_rules.specs.Record.{pairing, pairOf, startingPair}
 use Rattle.machine_step.proofs.Laws.Hosts.{stands}
@@ -15,7 +15,7 @@ committed-root-requires c κs =
     stands (s .args .host) _ (disk-rooted (s .args .host) _ (s .good .0)) (found .parent .ensures) (s .pre)
 
 returns : tie.Need-returns
-unfolding startingPair pairOf parent settingBy rootOf rootBy
+unfolding startingPair pairOf parent volumeBy rootOf rootBy
 returns c =
     let found = c .before .before .before in
     let h = found .before .args .host in

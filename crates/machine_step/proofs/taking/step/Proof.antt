@@ -1,7 +1,8 @@
 -- `machine_step::taking::step` meets its contract: a failure by its number, or what the plan leaves. Assumes nothing.
 use Rattle.lists.proofs.Kit.{_≡_, refl, sym, ap, _∙_, List, ℕ, length, needs}
 use Rattle.sia.proofs.Laws.Known.{known-instruction}
-use Rattle.machine_rules.specs.View.{Setting, setting, Turn, turn, parent}
+use Rattle.machine_rules.specs.View.{Turn, turn, parent}
+use Rattle.machine_rules.specs.declared.Setting.{Setting}
 use Rattle.machine_rules.specs.Roots.{keptRoot, rootAt}
 use Rattle.machine_rules.specs.Inputs.{inputsOf}
 use Rattle.machine_rules.specs.Plan.{judged}

@@ -1,6 +1,7 @@
 -- `machine_step::running::run` meets its contract: each turn is the run's next, and as many are left as there are instructions. Assumes nothing.
 use Rattle.lists.proofs.Kit.{_≡_, refl, sym, _∙_, true, _<_, arith, getD, not-true, not-false, needs}
-use Rattle.machine_rules.specs.View.{Setting, setting, Turn, turn}
+use Rattle.machine_rules.specs.View.{Turn, turn}
+use Rattle.machine_rules.specs.declared.Setting.{Setting}
 use Rattle.machine_rules.specs.Run.{current, going, ready}
 use Rattle.machine_rules.proofs.Laws.Steps.{left}
 use Rattle.machine_step.proofs.Laws.Known.{known-terms}
