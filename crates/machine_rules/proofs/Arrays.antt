@@ -3,9 +3,8 @@ use Rattle.lists.specs.Pick.{pick}
 use Rattle.lists.specs.Tests.{each}
 use Rattle.lists.proofs.Laws.Pick.{by, picks, skips}
 use Rattle.lists.proofs.Laws.Ways.{either-way}
-use Rattle.machine_rules.specs.Roots.{rootAt}
 use Rattle.lists.proofs.Kit.{_≡_, refl, sym, ap, _∙_, subst, Bool, true, List, [], _∷_, ℕ, zero, suc, _-_, _/_, _≤_, le-of-mul-le-mul-right, arith, length}
-use Rattle.lists.proofs.Kit.{length-append, length-replicate, eqb}
+use Rattle.lists.proofs.Kit.{length-append, length-replicate}
 use Rattle.sia.specs.Names.{opOf}
 use Rattle.sia.specs.Decode.{decode}
 use Rattle.host.specs.Empty.{noPlace, noProgram, noProgress, newPlace, bare, started}
@@ -15,15 +14,15 @@ use Rattle.host.specs.Calls.{freshed, formedAt, formed, replaced, dropped}
 use Rattle.machine_rules.specs.View.{Turn, turnOf, withRun, parent, Volume, settingOf, volumeBy, volumeOf}
 use Rattle.machine_rules.specs.declared.Setting.{Setting}
 use Rattle.machine_rules.specs.Inputs.{dataIn, inputsOf, argsOf}
-use Rattle.machine_rules.specs.Plan.{judged}
 use Rattle.machine_rules.specs.Effect.{groundOf}
-use Rattle.machine_rules.specs.Run.{failedProgress, failing, ranProgress, succeeding, stepped, current, step, ready, runs, run}
+use Rattle.machine_rules.specs.Run.{failedProgress, failing, ranProgress, succeeding, stepped, current, step, ready, runs, run, turned}
 use Rattle.machine_rules.specs.Calls.{answered, begun, openedHead, opened, Pieced, pieced, accepted, piece, Interrupted, interrupt}
 use Rattle.machine_rules.specs.Calls.{acceptedBy, interruptBy, stoppedBy}
 use Rattle.machine_rules.specs.Commit.{Closed, givenUp, finalSlots, finalPlace, commit}
 use Rattle.machine_rules.specs.Visit.{Areas, Opening, Agreement, opens, gives, stops, closes, Shaped, Declared, Ready}
 use Rattle.machine_rules.specs.Trace.{fed, fedBy}
 use Rattle.machine_rules.specs.Outcome.{Kept}
+use Rattle.machine_rules.proofs.Laws.Passed.{stepped-either}
 use Rattle.machine_rules.proofs.Forming.{making}
 use Rattle.machine_rules.proofs.Ordering.{orders}
 use Rattle.machine_rules.proofs.Nothing.{close-ways}
@@ -45,16 +44,15 @@ use Rattle.machine_rules.specs.declared.Answer.{Answer}
 
 stepped-entries : (s : Setting) (vol : Volume) (i : Instruction) (l : List (List ℕ)) (t : Turn)
     → length (stepped s vol i l t .progress .staged) ≡ length (t .progress .staged)
-unfolding stepped succeeding failing ranProgress failedProgress
+unfolding succeeding failing ranProgress failedProgress
 stepped-entries s vol i l t =
-    by (eqb (judged s (rootAt s vol t) (t .progress) i l) 0)
-    (λ e. ap (λ (x : Turn). length (x .progress .staged)) (picks (eqb (judged s (rootAt s vol t) (t .progress) i l) 0) _ _ e)
-    ∙ effect-length (s .sector) (groundOf s vol) (t .progress .size) (opOf (i .name)) (argsOf (opOf (i .name)) l) (dataIn l) _)
-    (λ e. ap (λ (x : Turn). length (x .progress .staged)) (skips (eqb (judged s (rootAt s vol t) (t .progress) i l) 0) _ _ e))
+    stepped-either s vol i l t (λ x. length (x .progress .staged) ≡ length (t .progress .staged))
+    (λ _. effect-length (s .sector) (groundOf s vol) (t .progress .size) (opOf (i .name)) (argsOf (opOf (i .name)) l) (dataIn l) _)
+    (λ _. refl)
 
 runs-entries : (s : Setting) (vol : Volume) (a : List ℕ) (k n : ℕ) (t : Turn)
     → length (runs s vol a k n t .progress .staged) ≡ length (t .progress .staged)
-unfolding runs step
+unfolding runs step turned
 runs-entries s vol a k zero t = refl
 runs-entries s vol a k (suc n) t =
     by (ready s k t)
@@ -186,7 +184,7 @@ abbrev Stops : Interrupted → Type 0
 Stops r = Declared (r .host)
 
 declared-stops : (h : Host) (a : Areas) → Declared h → Stops (stops h a)
-unfolding interruptBy stoppedBy failing failedProgress withRun withStageRoots withProgram withProgress withCame turnOf
+unfolding interruptBy stoppedBy failing turned failedProgress withRun withStageRoots withProgram withProgress withCame turnOf
 declared-stops h a d =
     either-way Stops _ _ _ (λ e. d) (λ e. either-way Stops _ _ _ (λ e. d) (λ e. either-way Stops _ _ _ (λ e. d) (λ e.
     either-way Stops _ _ _ (λ e. d) (λ e. either-way Stops _ _ _

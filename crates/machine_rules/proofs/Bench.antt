@@ -84,7 +84,7 @@ unfolding RulesView.volumeBy RulesView.turnOf RulesView.withRun RulesView.diskRi
     RulesEffect.sectorAt RulesEffect.copied RulesEffect.spanRead RulesEffect.laid RulesEffect.spanWritten RulesEffect.resized
     RulesEffect.effect RulesRecord.pairOf RulesRecord.startingPair RulesRecord.runningPair RulesRecord.recordBytes RulesRecord.failureBytes
     RulesRecord.outputOf RulesRecord.successBytes RulesRun.failedProgress RulesRun.failing RulesRun.ranProgress RulesRun.succeeding
-    RulesRun.stepped RulesRun.current RulesRun.step RulesRun.going RulesRun.ready RulesRun.runs RulesRun.run RulesCalls.roomRight
+    RulesRun.stepped RulesRun.turned RulesRun.current RulesRun.step RulesRun.going RulesRun.ready RulesRun.runs RulesRun.run RulesCalls.roomRight
     RulesCalls.begun RulesCalls.openedHead RulesCalls.opened RulesCalls.acceptedBy RulesCalls.inputRight RulesCalls.outputRight
     RulesCalls.pieceBy RulesBench.prices RulesBench.id RulesBench.operand RulesBench.instruction RulesBench.program RulesBench.host
     RulesBench.sectorHost RulesBench.start RulesBench.given RulesBench.ran RulesBench.failed RulesBench.records RulesBench.counts

@@ -7,7 +7,7 @@ use Rattle.host.specs.With.{withPlaces, withProgram, withCame, withProgress, wi
 use Rattle.host.specs.Calls.{formed, dropped}
 use Rattle.host.specs.Calls as Contracts
 use Rattle.machine_rules.specs.View.{kept, turnOf, withRun}
-use Rattle.machine_rules.specs.Run.{failing}
+use Rattle.machine_rules.specs.Run.{failing, turned}
 use Rattle.machine_rules.specs.Calls.{answered, openedHead, opened, Interrupted, interrupted, stoppedBy, interruptBy}
 use Rattle.machine_rules.specs.Commit.{Closed, givenUp, commit}
 use Rattle.machine_rules.specs.Visit.{Areas, Opening, Agreement, opens, stops, closes}
@@ -49,7 +49,7 @@ module _ (h : Host) (a : Areas) where
   interrupt-not b n rest f = either-way (λ (r : Interrupted). Beside h (r .host)) b (interrupted n 0 h (a .output)) rest (λ _. same) f
 
   interrupts : Beside h (stops h a .host)
-  unfolding interruptBy stoppedBy failing turnOf withRun withStageRoots withProgram withProgress withCame
+  unfolding interruptBy stoppedBy failing turned turnOf withRun withStageRoots withProgram withProgress withCame
   interrupts =
       interrupt-not _ 1 _ (λ _. interrupt-not _ 2 _ (λ _. interrupt-not _ 2 _ (λ _. interrupt-not _ 4 _ (λ _.
       either-way (λ (r : Interrupted). Beside h (r .host)) _ (stoppedBy kept (a .disk) h (a .output))

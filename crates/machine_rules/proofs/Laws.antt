@@ -1,4 +1,5 @@
 -- The laws, a file for each subject.
+pub mod Passed
 pub mod Steps
 pub mod Clash
 pub mod Staged

@@ -22,7 +22,7 @@ use Rattle.host.specs.Facts.{Staged}
 use Rattle.host.specs.Calls.{formed, dropped}
 use Rattle.host.proofs.Laws.Order.{order-facts, facts-staged, came-within}
 use Rattle.machine_rules.specs.View.{turnOf, settingOf, volumeBy, volumeOf}
-use Rattle.machine_rules.specs.Run.{failing, going, run}
+use Rattle.machine_rules.specs.Run.{failing, going, run, turned}
 use Rattle.machine_rules.specs.Calls.{roomRight, begun, openedHead, opened, Pieced, accepted, piece, Interrupted, stopped, interrupt}
 use Rattle.machine_rules.specs.Calls.{reached, acceptedBy, pieceBy, interruptBy, stoppedBy, reachedBy}
 use Rattle.machine_rules.specs.Commit.{Closed, givenUp, close, agreedBy, closeBy}
@@ -134,7 +134,7 @@ pieces disk h stage input output bytes sound o =
 
 pub stopped-order : (disk : List ℕ) (h : Host) (output : List ℕ) → Declared h → inOrder h ≡ true → h .program .active ≡ true
     → going (h .program .terms) (h .program .progress) ≡ true → inOrder (stopped disk h output .host) ≡ true
-unfolding stoppedBy failing turnOf volumeBy
+unfolding stoppedBy failing turned turnOf volumeBy
 stopped-order disk h output sound o live g =
     good-order h disk (h .program .came) _ _ o (came-within h o live)
     (failed-good (settingOf h) (h .program .progress) (not-failed (settingOf h) (turnOf h [] output) g)

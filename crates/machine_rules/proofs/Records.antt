@@ -2,21 +2,20 @@
 -- last. Assumes nothing.
 use Rattle.lists.specs.Pick.{pick}
 use Rattle.lists.proofs.Laws.Pick.{by}
-use Rattle.machine_rules.specs.Roots.{rootAt}
-use Rattle.lists.proofs.Kit.{_≡_, refl, sym, ap, ap₂, _∙_, Bool, true, false, List, ℕ, zero, suc, _+_, _*_, _≤_, arith, length, take, length-append, eqb}
+use Rattle.lists.proofs.Kit.{_≡_, refl, sym, ap, ap₂, _∙_, Bool, true, false, List, ℕ, zero, suc, _+_, _*_, _≤_, arith, length, take, length-append}
 use Rattle.area.specs.Area.{put}
 use Rattle.area.proofs.Laws.Puts.{put-nil, put-append}
 use Rattle.host.specs.With.{withProgram, withCame, withProgress, withStageRoots}
 use Rattle.machine_rules.specs.View.{Turn, turnOf, withRun, Volume, settingOf, volumeBy, volumeOf}
 use Rattle.machine_rules.specs.declared.Setting.{Setting}
 use Rattle.machine_rules.specs.Inputs.{inputsOf}
-use Rattle.machine_rules.specs.Plan.{judged}
-use Rattle.machine_rules.specs.Run.{failedProgress, failing, ranProgress, succeeding, stepped, current, step, going, ready, runs, run}
+use Rattle.machine_rules.specs.Run.{failedProgress, failing, ranProgress, succeeding, stepped, current, step, going, ready, runs, run, turned}
 use Rattle.machine_rules.specs.Visit.{Areas}
 use Rattle.machine_rules.specs.Trace.{together, lentTo, made, after, recorded, trail, met, firstRecords, recordsIn, wholeRunBy}
 use Rattle.machine_rules.specs.Facts.{Good, Lent, Solid}
+use Rattle.machine_rules.proofs.Laws.Passed.{stepped-either}
 use Rattle.machine_rules.proofs.Laws.Steps.{runs-zero, runs-go, runs-stop, ready-going, not-failed}
-use Rattle.machine_rules.proofs.Laws.Trails.{stepped-output, trail-zero, trail-go, trail-stop, firsts, counted}
+use Rattle.machine_rules.proofs.Laws.Trails.{trail-zero, trail-go, trail-stop, firsts, counted}
 use Rattle.machine_rules.proofs.Laws.Kept.{stepped-good}
 use Rattle.machine_rules.proofs.Laws.Areas.{stepped-alike}
 use Rattle.machine_rules.proofs.Laws.Taking.{Taking, order-good, order-solid, areas-stage}
@@ -28,17 +27,17 @@ use Rattle.host.specs.declared.Host.{Host}
 step-written : (s : Setting) (vol : Volume) (a : List ℕ) (t : Turn) → Solid s vol → Good s (t .progress) → length (t .stage) ≡ s .stagesectors * s .sector
     → length (vol .roots) ≡ 2048 → length (t .roots) ≡ 512
     → step s vol a t .progress .written ≡ t .progress .written + length (recorded s vol a t)
-unfolding step recorded
+unfolding step turned recorded
 step-written s vol a t solid g e d c = stepped-written s vol (current s t) (inputsOf (current s t) a) t solid g e d c
 
 step-output : (s : Setting) (vol : Volume) (a : List ℕ) (t : Turn)
     → step s vol a t .output ≡ put (t .output) (t .progress .written) (recorded s vol a t)
-unfolding step recorded
-step-output s vol a t = stepped-output s vol (current s t) (inputsOf (current s t) a) t
+unfolding step turned recorded
+step-output s vol a t = refl
 
 step-good : (s : Setting) (vol : Volume) (a : List ℕ) (t : Turn) → Lent s → going (s .terms) (t .progress) ≡ true → Good s (t .progress)
     → Good s (step s vol a t .progress)
-unfolding step
+unfolding step turned
 step-good s vol a t L h g = stepped-good s vol (current s t) (inputsOf (current s t) a) t L h g
 
 step-stage : (s : Setting) (vol : Volume) (a : List ℕ) (t : Turn) → length (step s vol a t .stage) ≡ length (t .stage)
@@ -101,19 +100,14 @@ runs-length s vol a k (suc n) t solid g e d c =
 
 stepped-counts : (s : Setting) (vol : Volume) (i : Instruction) (l : List (List ℕ)) (t : Turn) → t .progress .failed ≡ false
     → counts (stepped s vol i l t .progress) ≡ counts (t .progress) + 1
-unfolding stepped succeeding failing ranProgress failedProgress pick
+unfolding succeeding failing ranProgress failedProgress pick
 stepped-counts s vol i l t f =
     let bit = ap {B = ℕ} (λ (b : Bool). pick b 1 0) f in
-    under (eqb (judged s (rootAt s vol t) (t .progress) i l) 0) _ _ (omega (arith, bit)) (omega (arith, bit))
-  where
-    under : (b : Bool) (x y : Turn) → counts (x .progress) ≡ counts (t .progress) + 1 → counts (y .progress) ≡ counts (t .progress) + 1
-        → counts (pick b x y .progress) ≡ counts (t .progress) + 1
-    under true x y p q = p
-    under false x y p q = q
+    stepped-either s vol i l t (λ x. counts (x .progress) ≡ counts (t .progress) + 1) (λ _. omega (arith, bit)) (λ _. omega (arith, bit))
 
 step-counts : (s : Setting) (vol : Volume) (a : List ℕ) (k : ℕ) (t : Turn) → ready s k t ≡ true
     → counts (step s vol a t .progress) ≡ counts (t .progress) + 1
-unfolding step
+unfolding step turned
 step-counts s vol a k t r = stepped-counts s vol (current s t) (inputsOf (current s t) a) t (not-failed s t (ready-going s k t r))
 
 runs-counts : (s : Setting) (vol : Volume) (a : List ℕ) (k n : ℕ) (t : Turn)

@@ -1,23 +1,21 @@
 -- The last record shows the running pair: each instruction that succeeds writes the pair that it leaves. Assumes nothing.
-use Rattle.lists.specs.Pick.{pick}
 use Rattle.lists.proofs.Laws.Pick.{by, never, skips}
 use Rattle.lists.proofs.Laws.Ways.{either-way}
 use Rattle.machine_rules.specs.Roots.{rootAt}
-use Rattle.lists.proofs.Kit.{_≡_, refl, sym, ap, _∙_, Bool, true, false, List, [], _++_, ℕ, zero, suc, _≤_, _<_, arith, length, take, take-append-seam}
-use Rattle.lists.proofs.Kit.{eqb}
+use Rattle.lists.proofs.Kit.{_≡_, sym, ap, _∙_, false, List, [], _++_, ℕ, zero, suc, _≤_, _<_, arith, length, take, take-append-seam}
 use Rattle.area.specs.Area.{part}
 use Rattle.area.specs.Little.{bytesOf, le8}
-use Rattle.host.specs.With.{withProgram, withCame, withProgress, withRunning, withStaged, withStageRoots}
-use Rattle.machine_rules.specs.View.{Turn, turnOf, withRun, parentSpots, Volume, settingOf, volumeBy, volumeOf}
+use Rattle.host.specs.With.{withProgram, withCame, withProgress, withStageRoots}
+use Rattle.machine_rules.specs.View.{Turn, turnOf, withRun, Volume, settingOf, volumeBy, volumeOf}
 use Rattle.machine_rules.specs.declared.Setting.{Setting}
 use Rattle.machine_rules.specs.Inputs.{inputsOf}
-use Rattle.machine_rules.specs.Plan.{judged}
 use Rattle.machine_rules.specs.Record.{pairing, runningPair, recordBytes, successBytes}
-use Rattle.machine_rules.specs.Run.{failedProgress, failing, ranProgress, succeeding, stepped, current, step, ready, runs, run}
+use Rattle.machine_rules.specs.Run.{failedProgress, failing, succeeding, stepped, current, step, ready, runs, run, turned}
 use Rattle.machine_rules.specs.Calls.{reachedPairBy, reachedBy}
 use Rattle.machine_rules.specs.Visit.{Areas}
-use Rattle.machine_rules.specs.Trace.{leftBy, made, after, recordOf, recorded, trail, firstRecords, lastOf, running}
+use Rattle.machine_rules.specs.Trace.{leftBy, made, after, recorded, trail, firstRecords, lastOf, running}
 use Rattle.machine_rules.specs.Demand2.{Tells}
+use Rattle.machine_rules.proofs.Laws.Passed.{stepped-either}
 use Rattle.machine_rules.proofs.Laws.Steps.{runs-zero, runs-go, runs-stop}
 use Rattle.machine_rules.proofs.Laws.Trails.{trail-zero, trail-go, trail-stop}
 use Rattle.machine_rules.proofs.Laws.Lengths.{length-root}
@@ -44,19 +42,15 @@ module _ (s : Setting) (vol : Volume) where
   shows t = shown (runningPair s (rootAt s vol t) (t .progress))
 
   stepped-shows : (i : Instruction) (l : List (List ℕ)) (t : Turn) → stepped s vol i l t .progress .failed ≡ false
-      → part (recordOf s vol i l t) 16 40 ≡ shows (stepped s vol i l t)
-  unfolding stepped recordOf succeeding failing ranProgress failedProgress successBytes runningPair parentSpots withStaged withRunning pick
+      → part (stepped s vol i l t .bytes) 16 40 ≡ shows (turned t (stepped s vol i l t))
+  unfolding succeeding failing turned failedProgress successBytes runningPair
   stepped-shows i l t =
-      under (eqb (judged s (rootAt s vol t) (t .progress) i l) 0) _ _ _ _ (record-shows 0 _ _ _ _ _ _ (length-root _ _)) refl
-    where
-      under : (b : Bool) (x y : Turn) (u v : List ℕ) → part u 16 40 ≡ shows x → y .progress .failed ≡ true
-          → pick b x y .progress .failed ≡ false → part (pick b u v) 16 40 ≡ shows (pick b x y)
-      under true x y u v p q f = p
-      under false x y u v p q f = never (sym q ∙ f)
+      stepped-either s vol i l t (λ x. x .progress .failed ≡ false → part (x .bytes) 16 40 ≡ shows (turned t x))
+      (λ _ _. record-shows 0 _ _ _ _ _ _ (length-root _ _)) (λ _ f. never f)
 
   module _ (a : List ℕ) (k : ℕ) where
     step-shows : (t : Turn) → step s vol a t .progress .failed ≡ false → part (recorded s vol a t) 16 40 ≡ shows (step s vol a t)
-    unfolding step recorded
+    unfolding step turned recorded
     step-shows t = stepped-shows (current s t) (inputsOf (current s t) a) t
 
     -- r shows what the turn before shows, if that has not failed

@@ -17,7 +17,7 @@ use Rattle.host.specs.Order.{inOrder}
 use Rattle.machine_rules.specs.View.{Way, kept, turnOf, withRun, diskRight, areasRight, settingOf, volumeBy}
 use Rattle.machine_rules.specs.Roots.{rootOf}
 use Rattle.machine_rules.specs.Record.{startingPair, runningPair}
-use Rattle.machine_rules.specs.Run.{failing, going, run}
+use Rattle.machine_rules.specs.Run.{failing, turned, going, run}
 use Rattle.sia.specs.declared.Head.{Head}
 use Rattle.host.specs.declared.Prices.{Prices}
 use Rattle.host.specs.declared.Program.{Program}
@@ -120,7 +120,8 @@ interrupted n tally h output = record { number = n; tally = tally; host = h; out
 -- "An interrupt writes record 20 .. for the first instruction not run"
 unfoldable pub stoppedBy : Way → List ℕ → Host → List ℕ → Interrupted
 stoppedBy way disk h output =
-    let t = failing (settingOf h) (volumeBy way h disk) 20 (turnOf h [] output) in
+    let start = turnOf h [] output in
+    let t = turned start (failing (settingOf h) (volumeBy way h disk) 20 start) in
     interrupted 0 (t .progress .tally) (withRun h (h .program .came) (t .progress) (t .roots)) (t .output)
 
 abbrev pub stopped : List ℕ → Host → List ℕ → Interrupted

@@ -22,11 +22,11 @@ use Rattle.machine_rules.specs.Roots.{rootAt}
 use Rattle.machine_rules.specs.Inputs.{argsOf}
 use Rattle.machine_rules.specs.Plan.{cost, touched, judged}
 use Rattle.machine_rules.specs.Record.{failureBytes}
-use Rattle.machine_rules.specs.Run.{stepped, run}
+use Rattle.machine_rules.specs.Run.{Stepped, stepped, turned, run}
 use Rattle.machine_rules.specs.Commit.{Closed}
 use Rattle.machine_rules.specs.Class.{isKnown, classOf}
 use Rattle.machine_rules.specs.Visit.{Areas, Opening, Agreement, opens, gives, stops, reaches, closes, Ready}
-use Rattle.machine_rules.specs.Trace.{recordOf, sectorsOf, parentIn, pairIn, running, runningSectors}
+use Rattle.machine_rules.specs.Trace.{sectorsOf, parentIn, pairIn, running, runningSectors}
 use Rattle.sia.specs.declared.Instruction.{Instruction}
 use Rattle.host.specs.declared.Host.{Host}
 
@@ -50,11 +50,11 @@ pub record Kept (h : Host) (a : Areas) : Type 0 where
   pub closing : (g : Agreement) → Ready (closes h a g .host)
 
 -- "A failure ends the program and otherwise only writes its record.": its number, cost 0, the starting pair, both counts 0
-pub record Failed (s : Setting) (vol : Volume) (number : ℕ) (t after : Turn) : Type 0 where
+pub record Failed (s : Setting) (vol : Volume) (number : ℕ) (t : Turn) (after : Stepped) : Type 0 where
   pub progress : after .progress ≡ withFailed (withWritten (t .progress) (t .progress .written + 72)) true
   pub stage : after .stage ≡ t .stage
   pub roots : after .roots ≡ t .roots
-  pub output : after .output ≡ put (t .output) (t .progress .written) (failureBytes s vol number)
+  pub bytes : after .bytes ≡ failureBytes s vol number
 
 -- whether an instruction writes to a position
 abbrev pub writesTo : Setting → Instruction → List (List ℕ) → Turn → ℕ → Bool
@@ -63,7 +63,7 @@ writesTo s i l t at = let op = opOf (i .name) in some (eqb at) (touched (s .sect
 -- one instruction
 pub record Instructed (s : Setting) (vol : Volume) (i : Instruction) (l : List (List ℕ)) (t : Turn) : Type 0 where
   -- "each record": from the first free byte of the output area
-  pub writes : stepped s vol i l t .output ≡ put (t .output) (t .progress .written) (recordOf s vol i l t)
+  pub writes : turned t (stepped s vol i l t) .output ≡ put (t .output) (t .progress .written) (stepped s vol i l t .bytes)
   -- its number is one of document 01's table, and so has a class
   pub classed : isKnown (classOf (judged s (rootAt s vol t) (t .progress) i l)) ≡ true
   pub fails : (judged s (rootAt s vol t) (t .progress) i l ≡ 0 → ⊥)

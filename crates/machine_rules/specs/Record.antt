@@ -2,21 +2,20 @@
 use mathlib.Core.Bool.{Bool}
 use mathlib.Core.List.{List, [], _∷_, _++_}
 use Prim.Native.Nat.{ℕ, _/_, _%_}
-use lib.ListN.{length, getD}
+use lib.ListN.{getD}
 use lib.Dec.{eqb}
 use Rattle.lists.specs.Pick.{pick, both}
 use Rattle.area.specs.Area.{same, part}
 use Rattle.area.specs.Little.{le8}
-use Rattle.host.specs.With.{withRunning, withStaged}
 use Rattle.machine_rules.specs.View.{sector, parent, parentSpots, committedSpots, Volume}
 use Rattle.machine_rules.specs.declared.Setting.{Setting}
 use Rattle.machine_rules.specs.Roots.{rootOnDisk, contractRoot, rangeProof}
 use Rattle.machine_rules.specs.declared.Args.{Args}
-use Rattle.machine_rules.specs.Plan.{Source, spots, proofCount, outputCount}
-use Rattle.machine_rules.specs.Effect.{Staging}
+use Rattle.machine_rules.specs.Plan.{outputCount}
 use Rattle.sia.specs.declared.Op.{Op}
 use Rattle.host.specs.declared.Place.{Place}
 use Rattle.host.specs.declared.Progress.{Progress}
+use Rattle.machine_rules.specs.declared.Plan.{Plan}
 use Rattle.machine_rules.specs.declared.Spot.{Spot}
 use Rattle.machine_rules.specs.declared.Pair.{Pair}
 
@@ -57,9 +56,9 @@ unfoldable pub outputOf : ℕ → List ℕ → List ℕ → List Spot → Args �
 outputOf z disk stage [] a = []
 outputOf z disk stage (x ∷ xs) a = part (sector z disk stage (getD (x ∷ xs) (a .first / z) x)) (a .first % z) (a .len)
 
--- of an instruction that ran: n is its cost, g the stage after it, f the roots after it, size the new size, p the progress before it
-unfoldable pub successBytes : Setting → Volume → (Spot → List ℕ) → Progress → Bool → Source → Op → Args → ℕ → ℕ → Staging → List ℕ
-successBytes s vol f p asked from op a n size g =
-    recordBytes 0 n (runningPair s f (withStaged (withRunning p size) (g .staged)))
-    (proofCount (s .sector) asked (length (spots from)) a) (pick asked (rangeProof (s .sector) f (vol .disk) (g .bytes) (spots from) (a .first) (a .len)) [])
-    (outputCount op a) (pick (eqb (outputCount op a) 0) [] (outputOf (s .sector) (vol .disk) (g .bytes) (spots from) a))
+-- of an instruction that ran as planned: p and stage are the progress and the stage after it, f the roots after it, l the sectors that it reads
+unfoldable pub successBytes : Setting → Volume → (Spot → List ℕ) → Plan → Progress → Bool → List Spot → Op → Args → List ℕ → List ℕ
+successBytes s vol f plan p asked l op a stage =
+    recordBytes 0 (plan .cost) (runningPair s f p)
+    (plan .hashes) (pick asked (rangeProof (s .sector) f (vol .disk) stage l (a .first) (a .len)) [])
+    (outputCount op a) (pick (eqb (outputCount op a) 0) [] (outputOf (s .sector) (vol .disk) stage l a))

@@ -13,56 +13,65 @@ use Rattle.machine_rules.specs.declared.Setting.{Setting}
 use Rattle.machine_rules.specs.Inputs.{dataIn, need, inputsOf, argsOf}
 use Rattle.machine_rules.specs.declared.Args.{Args}
 use Rattle.machine_rules.specs.Roots.{rootOf, rootAt}
-use Rattle.machine_rules.specs.Plan.{spots, sourceOf, cost, touched, newSize, recordCount, judged}
+use Rattle.machine_rules.specs.Plan.{spots, sourceOf, touched, planned}
 use Rattle.machine_rules.specs.Effect.{groundOf, effect, rehashed}
 use Rattle.machine_rules.specs.Record.{failureBytes, successBytes}
 use Rattle.sia.specs.declared.Instruction.{Instruction}
 use Rattle.sia.specs.declared.Op.{Op}
 use Rattle.host.specs.declared.Terms.{Terms}
 use Rattle.host.specs.declared.Progress.{Progress}
+use Rattle.machine_rules.specs.declared.Plan.{Plan}
+use Rattle.machine_rules.specs.declared.Spot.{Spot}
 
 -- ---- one instruction
+
+-- what it leaves: the progress of the program, the stage's bytes, the roots kept beside the stage's slots, and its record
+pub record Stepped : Type 0 where
+  pub progress : Progress
+  pub stage : List ℕ
+  pub roots : List ℕ
+  pub bytes : List ℕ
 
 -- "A failure ends the program and otherwise only writes its record."
 unfoldable pub failedProgress : Progress → Progress
 failedProgress p = record { ran = p .ran; tally = p .tally; written = p .written + 72; size = p .size; failed = true; staged = p .staged }
 
--- "Records are written from the first free byte of the output area onward."
-unfoldable pub failing : Setting → Volume → ℕ → Turn → Turn
-failing s vol number t =
-    record {
-      progress = failedProgress (t .progress);
-      stage = t .stage;
-      output = put (t .output) (t .progress .written) (failureBytes s vol number);
-      roots = t .roots;
-    }
+unfoldable pub failing : Setting → Volume → ℕ → Turn → Stepped
+failing s vol number t = record { progress = failedProgress (t .progress); stage = t .stage; roots = t .roots; bytes = failureBytes s vol number }
 
-unfoldable pub ranProgress : Progress → ℕ → ℕ → ℕ → List ℕ → Progress
-ranProgress p cost count size staged =
-    record { ran = p .ran + 1; tally = p .tally + cost; written = p .written + count; size = size; failed = p .failed; staged = staged }
+-- "Cost, fixed before running": what its plan says
+unfoldable pub ranProgress : Progress → Plan → List ℕ → Progress
+ranProgress p plan staged =
+    record { ran = p .ran + 1; tally = p .tally + plan .cost; written = p .written + plan .count; size = plan .size; failed = p .failed; staged = staged }
 
--- it runs: "Cost, fixed before running", its effect, the roots of the sectors that it wrote, its record
-unfoldable pub succeeding : Setting → Volume → Bool → Op → Args → List ℕ → Turn → Turn
-succeeding s vol asked op a d t =
+-- it runs as planned: its effect, the roots of the sectors that it wrote, its record; l are the sectors that it reads
+unfoldable pub succeeding : Setting → Volume → Plan → Bool → List Spot → Op → Args → List ℕ → Turn → Stepped
+succeeding s vol plan asked l op a d t =
     let p = t .progress in
-    let from = sourceOf s (rootAt s vol t) p op (a .key) in
-    let n = cost (s .terms .head .length) (s .terms .prices) op (a .len) in
-    let size = newSize (p .size) op a in
     let g = effect (s .sector) (groundOf s vol) (p .size) op a d (record { staged = p .staged; bytes = t .stage }) in
     let roots = rehashed (s .sector) g (touched (s .sector) (p .size) op a) (t .roots) in
+    let after = ranProgress p plan (g .staged) in
     record {
-      progress = ranProgress p n (recordCount (s .sector) asked (length (spots from)) op a) size (g .staged);
+      progress = after;
       stage = g .bytes;
-      output = put (t .output) (p .written) (successBytes s vol (rootOf s vol (g .bytes) roots) p asked from op a n size g);
       roots = roots;
+      bytes = successBytes s vol (rootOf s vol (g .bytes) roots) plan after asked l op a (g .bytes);
     }
 
 -- one instruction, its inputs given
-unfoldable pub stepped : Setting → Volume → Instruction → List (List ℕ) → Turn → Turn
+unfoldable pub stepped : Setting → Volume → Instruction → List (List ℕ) → Turn → Stepped
 stepped s vol i l t =
-    let n = judged s (rootAt s vol t) (t .progress) i l in
-    let runs = succeeding s vol (i .proof) (opOf (i .name)) (argsOf (opOf (i .name)) l) (dataIn l) t in
-    pick (eqb n 0) runs (failing s vol n t)
+    let op = opOf (i .name) in
+    let a = argsOf op l in
+    let plan = planned s (rootAt s vol t) (t .progress) i l in
+    let from = spots (sourceOf s (rootAt s vol t) (t .progress) op (a .key)) in
+    let runs = succeeding s vol plan (i .proof) from op a (dataIn l) t in
+    pick (eqb (plan .number) 0) runs (failing s vol (plan .number) t)
+
+-- "Records are written from the first free byte of the output area onward."
+unfoldable pub turned : Turn → Stepped → Turn
+turned t r =
+    record { progress = r .progress; stage = r .stage; output = put (t .output) (t .progress .written) (r .bytes); roots = r .roots }
 
 -- ---- in turn
 
@@ -71,7 +80,7 @@ unfoldable pub current : Setting → Turn → Instruction
 current s t = getD (s .terms .head .instructions) (t .progress .ran) noInstruction
 
 unfoldable pub step : Setting → Volume → List ℕ → Turn → Turn
-step s vol input t = stepped s vol (current s t) (inputsOf (current s t) input) t
+step s vol input t = turned t (stepped s vol (current s t) (inputsOf (current s t) input) t)
 
 -- neither ended nor failed; "A program of no instructions has ended at once."
 unfoldable pub going : Terms → Progress → Bool

@@ -4,24 +4,21 @@ use mathlib.Core.Path.{_≡_}
 use mathlib.Core.List.{List, [], _∷_, _++_}
 use Prim.Native.Nat.{ℕ, zero, suc, _+_, min}
 use lib.ListN.{length, take, getD}
-use lib.Dec.{leb, eqb}
+use lib.Dec.{leb}
 use Rattle.lists.specs.Pick.{pick}
 use Rattle.area.specs.Area.{put}
-use Rattle.sia.specs.Names.{opOf}
 use Rattle.sia.specs.Empty.{noInstruction}
 use Rattle.host.specs.Places.{whose}
 use Rattle.machine_rules.specs.View.{Way, kept, Turn, turnOf, withRun, parentSpots, committedSpots, whole, Volume, settingOf, volumeBy, volumeOf}
 use Rattle.machine_rules.specs.declared.Setting.{Setting}
 use Rattle.machine_rules.specs.Roots.{rootOf, rootAt, rootOnDisk}
-use Rattle.machine_rules.specs.Inputs.{dataIn, need, inputsOf, argsOf}
-use Rattle.machine_rules.specs.Plan.{sourceOf, cost, touched, newSize, judged}
-use Rattle.machine_rules.specs.Effect.{groundOf, effect, rehashed}
-use Rattle.machine_rules.specs.Record.{pairOf, startingPair, runningPair, failureBytes, successBytes}
-use Rattle.machine_rules.specs.Run.{current, step, ready, run}
+use Rattle.machine_rules.specs.Inputs.{need, inputsOf}
+use Rattle.machine_rules.specs.Plan.{cost, planned}
+use Rattle.machine_rules.specs.Record.{pairOf, startingPair, runningPair}
+use Rattle.machine_rules.specs.Run.{stepped, current, step, ready, run}
 use Rattle.machine_rules.specs.Calls.{Pieced, pieced, pieceBy, piece}
 use Rattle.machine_rules.specs.Commit.{Closed}
 use Rattle.machine_rules.specs.Visit.{Areas, Opening, Agreement, opens, closes}
-use Rattle.sia.specs.declared.Instruction.{Instruction}
 use Rattle.host.specs.declared.Place.{Place}
 use Rattle.host.specs.declared.Host.{Host}
 use Rattle.machine_rules.specs.declared.Pair.{Pair}
@@ -77,22 +74,9 @@ after h a all k = made h k (run (settingOf h) (volumeOf h (a .disk)) all k (turn
 
 -- ---- records
 
--- the record that an instruction writes
-unfoldable pub recordOf : Setting → Volume → Instruction → List (List ℕ) → Turn → List ℕ
-recordOf s vol i l t =
-    let p = t .progress in
-    let op = opOf (i .name) in
-    let x = argsOf op l in
-    let n = judged s (rootAt s vol t) p i l in
-    let price = cost (s .terms .head .length) (s .terms .prices) op (x .len) in
-    let g = effect (s .sector) (groundOf s vol) (p .size) op x (dataIn l) (record { staged = p .staged; bytes = t .stage }) in
-    let f = rootOf s vol (g .bytes) (rehashed (s .sector) g (touched (s .sector) (p .size) op x) (t .roots)) in
-    let good = successBytes s vol f p (i .proof) (sourceOf s (rootAt s vol t) p op (x .key)) op x price (newSize (p .size) op x) g in
-    pick (eqb n 0) good (failureBytes s vol n)
-
--- that of the instruction whose turn it is
+-- the record of the instruction whose turn it is
 unfoldable pub recorded : Setting → Volume → List ℕ → Turn → List ℕ
-recorded s vol input t = recordOf s vol (current s t) (inputsOf (current s t) input) t
+recorded s vol input t = stepped s vol (current s t) (inputsOf (current s t) input) t .bytes
 
 -- the records that a run writes, up to and including the first failure
 unfoldable pub trail : Setting → Volume → List ℕ → ℕ → ℕ → Turn → List (List ℕ)
@@ -138,14 +122,12 @@ lastOf r (x ∷ xs) = lastOf x xs
 
 -- ---- cost
 
--- what the instructions of a run are charged: each that succeeds its cost, one that fails nothing
+-- what the instructions of a run are charged: each its plan's cost, which is 0 of one that fails
 unfoldable pub charges : Setting → Volume → List ℕ → ℕ → ℕ → Turn → ℕ
 charges s vol input k zero t = 0
 charges s vol input k (suc n) t =
     let i = current s t in
-    let l = inputsOf i input in
-    let price = cost (s .terms .head .length) (s .terms .prices) (opOf (i .name)) (argsOf (opOf (i .name)) l .len) in
-    let own = pick (eqb (judged s (rootAt s vol t) (t .progress) i l) 0) price 0 in
+    let own = planned s (rootAt s vol t) (t .progress) i (inputsOf i input) .cost in
     let more = own + charges s vol input k n (step s vol input t) in
     pick (ready s k t) more 0
 

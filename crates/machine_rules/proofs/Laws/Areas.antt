@@ -9,14 +9,13 @@ use Rattle.machine_rules.specs.View.{Turn, Volume}
 use Rattle.machine_rules.specs.declared.Setting.{Setting}
 use Rattle.machine_rules.specs.Inputs.{dataIn, argsOf, inputsOf}
 use Rattle.machine_rules.specs.declared.Args.{Args}
-use Rattle.machine_rules.specs.Plan.{judged}
 use Rattle.machine_rules.specs.Effect.{Ground, groundOf, Staging, newCopy, copied, laid, spanWritten, resized, effect, rehashed}
-use Rattle.machine_rules.specs.Run.{failing, succeeding, stepped, current, step, ready, runs}
+use Rattle.machine_rules.specs.Run.{failing, succeeding, stepped, current, step, ready, runs, turned}
+use Rattle.machine_rules.proofs.Laws.Passed.{stepped-either}
 use Rattle.machine_rules.proofs.Laws.Steps.{runs-go, runs-stop}
 use Rattle.sia.specs.declared.Op.{Op}
 use Rattle.sia.specs.declared.Op.the-variants.{Read, ReadSector, Write, Copy, Swap, Truncate, Unknown}
 use Rattle.sia.specs.declared.Instruction.{Instruction}
-use Rattle.machine_rules.specs.Roots.{rootAt}
 
 written-length : (z : ℕ) (n : Ground) (at : ℕ) (bs : List ℕ) (g : Staging) → length (spanWritten z n at bs g .bytes) ≡ length (g .bytes)
 unfolding spanWritten laid copied newCopy
@@ -57,18 +56,16 @@ pub record Alike (t u : Turn) : Type 0 where
   pub output : length (t .output) ≡ length (u .output)
   pub roots : length (t .roots) ≡ length (u .roots)
 
-pub stepped-alike : (s : Setting) (vol : Volume) (i : Instruction) (l : List (List ℕ)) (t : Turn) → Alike (stepped s vol i l t) t
-unfolding stepped succeeding failing
+pub stepped-alike : (s : Setting) (vol : Volume) (i : Instruction) (l : List (List ℕ)) (t : Turn) → Alike (turned t (stepped s vol i l t)) t
+unfolding turned succeeding failing
 stepped-alike s vol i l t =
-    by (eqb (judged s (rootAt s vol t) (t .progress) i l) 0)
-    (λ e. subst (λ (x : Turn). Alike x t) (sym (picks (eqb (judged s (rootAt s vol t) (t .progress) i l) 0) _ _ e))
-    (record {
+    stepped-either s vol i l t (λ x. Alike (turned t x) t)
+    (λ _. record {
       stage = effect-bytes (s .sector) (groundOf s vol) (t .progress .size) (opOf (i .name)) (argsOf (opOf (i .name)) l) (dataIn l) _;
       output = length-put (t .output) _ _;
       roots = rehashed-length (s .sector) _ _ (t .roots);
-    }))
-    (λ e. subst (λ (x : Turn). Alike x t) (sym (skips (eqb (judged s (rootAt s vol t) (t .progress) i l) 0) _ _ e))
-    (record { stage = refl; output = length-put (t .output) _ _; roots = refl }))
+    })
+    (λ _. record { stage = refl; output = length-put (t .output) _ _; roots = refl })
 
 pub runs-alike : (s : Setting) (vol : Volume) (a : List ℕ) (k n : ℕ) (t : Turn) → Alike (runs s vol a k n t) t
 unfolding runs step

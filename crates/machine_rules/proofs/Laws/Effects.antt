@@ -3,118 +3,29 @@ use Rattle.lists.proofs.Kit.{_≡_, refl, sym, ap, _∙_, subst, Bool, true, fa
 use Rattle.lists.proofs.Kit.{div-add-mod', div-lt-iff-lt-mul, div-le-of-le-mul, lt-of-mul-lt-mul-right, le-trans, suc-mul, mul-le-mul-right}
 use Rattle.lists.proofs.Kit.{le-of-mul-le-mul-right, arith, length, drop, getD, set, length-set, getD-set-same, getD-set-other, ltb, eqb, not-true}
 use Rattle.lists.proofs.Kit.{not-false, ltb-true, ltb-false, eqb-true, eqb-false, ne-eqb}
-use Rattle.lists.specs.Pick.{pick, both}
+use Rattle.lists.specs.Pick.{pick}
 use Rattle.lists.specs.Tests.{every, those, count, unused}
 use Rattle.lists.specs.Lowest.{lowest}
 use Rattle.lists.proofs.Laws.Pick.{by, picks, skips, never, both-left, either-left, either-right, neither}
 use Rattle.lists.proofs.Laws.Some.{some-set}
 use Rattle.lists.proofs.Laws.Counts.{lowest-is, count-but-one}
 use Rattle.area.specs.Area.{zeros}
-use Rattle.sia.specs.Names.{opOf}
 use Rattle.host.specs.Empty.{none}
-use Rattle.host.specs.Places.{others, freeCopy}
+use Rattle.host.specs.Places.{freeCopy}
 use Rattle.host.specs.Facts.{Staged}
-use Rattle.machine_rules.specs.View.{readOnlyMode, freeCopies, Volume}
+use Rattle.machine_rules.specs.View.{freeCopies, Volume}
 use Rattle.machine_rules.specs.declared.Setting.{Setting}
-use Rattle.machine_rules.specs.Inputs.{argsOf}
 use Rattle.machine_rules.specs.declared.Args.{Args}
-use Rattle.machine_rules.specs.Plan.{proofCount, sourceOf, badSpan, badSize, badSpans, cost, touched, wanted, newSize, recordCount}
+use Rattle.machine_rules.specs.Plan.{badSpan, badSize, badSpans, touched, wanted, newSize}
 use Rattle.machine_rules.specs.Kinds.{changes, kind}
-use Rattle.machine_rules.specs.Plan.{spots, refused, fitted, weighed, plannedInputs, plannedArgs, planned, judged}
 use Rattle.machine_rules.specs.Effect.{Ground, groundOf, Staging, newCopy, copied, laid, spanWritten, resized, effect}
+use Rattle.machine_rules.proofs.Laws.Passed.{Passed}
 use Rattle.machine_rules.proofs.Laws.Staged.{Free, copy-kept, grow-kept, shrink-kept}
 use Rattle.sia.specs.declared.Op.{Op}
 use Rattle.sia.specs.declared.Op.the-variants.{Read, ReadSector, Write, Copy, Swap, Truncate, Unknown}
-use Rattle.sia.specs.declared.Instruction.{Instruction}
 use Rattle.host.specs.declared.Progress.{Progress}
 use Rattle.machine_rules.specs.declared.Spot.{Spot}
 use Rattle.machine_rules.specs.Facts.{Lent, Good}
-use Rattle.machine_rules.specs.declared.Plan.{Plan}
-
--- ---- a check that did not apply
-
-pub passes : (b : Bool) (n : ℕ) (r : Plan) → pick b (refused (suc n)) r .number ≡ 0 → (b ≡ false) × (r .number ≡ 0)
-unfolding pick refused
-passes true n r e = absurd (omega arith)
-passes false n r e = (refl, e)
-
--- what is known of an instruction that runs
-pub record Passed (s : Setting) (f : Spot → List ℕ) (p : Progress) (op : Op) (a : Args) (count : ℕ) : Type 0 where
-  pub allowed : both (changes op) (readOnlyMode (s .terms)) ≡ false
-  pub spans : badSpans (s .sector) (p .size) (length (spots (sourceOf s f p op (a .key)))) op a ≡ false
-  pub paid : p .tally + cost (s .terms .head .length) (s .terms .prices) op (a .len) ≤ s .terms .budget
-  pub free : wanted (s .sector) p op a ≤ freeCopies s p
-  pub fits : newSize (p .size) op a + others (s .terms .head .contract) (s .places) ≤ s .disksectors * s .sector
-  pub room : p .written + count + 72 ≤ s .terms .room
-
-passed-inputs : (s : Setting) (f : Spot → List ℕ) (p : Progress) (i : Instruction) (op : Op) (l : List (List ℕ))
-    → plannedInputs s f p i op l .number ≡ 0
-    → Passed s f p op (argsOf op l) (recordCount (s .sector) (i .proof) (length (spots (sourceOf s f p op (argsOf op l .key)))) op (argsOf op l))
-unfolding plannedInputs plannedArgs weighed fitted
-passed-inputs s f p i op l e =
-    let c23 = passes _ 22 _ e in
-    let c24 = passes _ 23 _ (c23 .1) in
-    let c25 = passes _ 24 _ (c24 .1) in
-    let c26 = passes _ 25 _ (c25 .1) in
-    let c27 = passes _ 26 _ (c26 .1) in
-    let c28 = passes _ 27 _ (c27 .1) in
-    let c40 = passes _ 39 _ (c28 .1) in
-    let c41 = passes _ 40 _ (c40 .1) in
-    let c42 = passes _ 41 _ (c41 .1) in
-    record {
-      allowed = c24 .0;
-      spans = c26 .0;
-      paid = ltb-false _ _ (c28 .0);
-      free = ltb-false _ _ (c40 .0);
-      fits = ltb-false _ _ (c41 .0);
-      room = ltb-false _ _ (c42 .0);
-    }
-
-pub passed : (s : Setting) (f : Spot → List ℕ) (p : Progress) (i : Instruction) (l : List (List ℕ)) → judged s f p i l ≡ 0
-    → Passed s f p (opOf (i .name)) (argsOf (opOf (i .name)) l)
-    (recordCount (s .sector) (i .proof) (length (spots (sourceOf s f p (opOf (i .name)) (argsOf (opOf (i .name)) l .key)))) (opOf (i .name))
-    (argsOf (opOf (i .name)) l))
-unfolding judged planned
-passed s f p i l e = passed-inputs s f p i (opOf (i .name)) l (passes _ 21 _ (passes _ 20 _ e .1) .1)
-
--- and its plan is what it costs and changes
-fine-inputs : (s : Setting) (f : Spot → List ℕ) (p : Progress) (i : Instruction) (op : Op) (l : List (List ℕ))
-    → plannedInputs s f p i op l .number ≡ 0 → let n = length (spots (sourceOf s f p op (argsOf op l .key))) in
-    plannedInputs s f p i op l ≡ record {
-      number = 0;
-      cost = cost (s .terms .head .length) (s .terms .prices) op (argsOf op l .len);
-      size = newSize (p .size) op (argsOf op l);
-      hashes = proofCount (s .sector) (i .proof) n (argsOf op l);
-      count = recordCount (s .sector) (i .proof) n op (argsOf op l);
-    }
-unfolding plannedInputs plannedArgs weighed fitted
-fine-inputs s f p i op l e =
-    let c23 = passes _ 22 _ e in
-    let c24 = passes _ 23 _ (c23 .1) in
-    let c25 = passes _ 24 _ (c24 .1) in
-    let c26 = passes _ 25 _ (c25 .1) in
-    let c27 = passes _ 26 _ (c26 .1) in
-    let c28 = passes _ 27 _ (c27 .1) in
-    let c40 = passes _ 39 _ (c28 .1) in
-    let c41 = passes _ 40 _ (c40 .1) in
-    let c42 = passes _ 41 _ (c41 .1) in
-    skips _ _ _ (c23 .0) ∙ skips _ _ _ (c24 .0) ∙ skips _ _ _ (c25 .0) ∙ skips _ _ _ (c26 .0) ∙ skips _ _ _ (c27 .0) ∙ skips _ _ _ (c28 .0)
-    ∙ skips _ _ _ (c40 .0) ∙ skips _ _ _ (c41 .0) ∙ skips _ _ _ (c42 .0)
-
-pub planned-fine : (s : Setting) (f : Spot → List ℕ) (p : Progress) (i : Instruction) (l : List (List ℕ)) → judged s f p i l ≡ 0
-    → let op = opOf (i .name) in let n = length (spots (sourceOf s f p op (argsOf op l .key))) in
-    planned s f p i l ≡ record {
-      number = 0;
-      cost = cost (s .terms .head .length) (s .terms .prices) op (argsOf op l .len);
-      size = newSize (p .size) op (argsOf op l);
-      hashes = proofCount (s .sector) (i .proof) n (argsOf op l);
-      count = recordCount (s .sector) (i .proof) n op (argsOf op l);
-    }
-unfolding judged planned
-planned-fine s f p i l e =
-    let c21 = passes _ 20 _ e in
-    let c22 = passes _ 21 _ (c21 .1) in
-    skips _ _ _ (c21 .0) ∙ skips _ _ _ (c22 .0) ∙ fine-inputs s f p i (opOf (i .name)) l (c22 .1)
 
 -- ---- positions
 

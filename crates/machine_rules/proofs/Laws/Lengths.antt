@@ -4,7 +4,7 @@ use Rattle.lists.proofs.Kit.{div-lt-iff-lt-mul, mul-le-mul-right, arith, length
 use Rattle.lists.proofs.Kit.{ltb-false, eqb-true, eqb-false, eq-eqb}
 use Rattle.lists.specs.Pick.{pick}
 use Rattle.lists.specs.Tests.{every}
-use Rattle.lists.proofs.Laws.Pick.{by, picks, skips, never, both-left, either-left, neither}
+use Rattle.lists.proofs.Laws.Pick.{by, picks, skips, never, both-left, neither}
 use Rattle.lists.proofs.Laws.Every.{every-at}
 use Rattle.area.proofs.Laws.Parts.{length-part}
 use Rattle.area.proofs.Laws.Little.{length-bytes}
@@ -17,19 +17,20 @@ use Rattle.sia.specs.Encode.{joined}
 use Rattle.machine_rules.specs.View.{Way, kept, worked, Turn, sector, parent, committedSpots, Volume}
 use Rattle.machine_rules.specs.declared.Setting.{Setting}
 use Rattle.machine_rules.specs.Roots.{sectorRoot, keptRoot, rootBy, rootOf, contractRoot, segments, rangeProof, rootAt, rootOnDisk}
+use Rattle.machine_rules.specs.declared.Plan.{Plan}
+use Rattle.machine_rules.proofs.Laws.Passed.{Passed, can, asked-reads, asked-right, stepped-either}
 use Rattle.machine_rules.proofs.Laws.Worked.{proof-counted}
 use Rattle.machine_rules.proofs.Laws.Areas.{rehashed-length, effect-bytes}
-use Rattle.machine_rules.specs.Inputs.{dataIn, argsOf, illFormed, pastEnd, wellFormed}
+use Rattle.machine_rules.specs.Inputs.{dataIn, argsOf}
 use Rattle.machine_rules.specs.declared.Args.{Args}
-use Rattle.machine_rules.specs.Plan.{Source, spots, sourceOf, badSpan, badSpans, badProof, newSize, proofCount, outputCount}
+use Rattle.machine_rules.specs.Plan.{Source, spots, sourceOf, badSpan, badSpans, badProof, proofCount, outputCount}
 use Rattle.machine_rules.specs.Kinds.{reads, kind}
-use Rattle.machine_rules.specs.Plan.{recordCount, fitted, weighed, plannedInputs, plannedArgs, planned, judged}
+use Rattle.machine_rules.specs.Plan.{recordCount}
 use Rattle.machine_rules.specs.Effect.{groundOf, effect}
 use Rattle.machine_rules.specs.Record.{pairOf, startingPair, runningPair, recordBytes, failureBytes, outputOf, successBytes}
 use Rattle.machine_rules.specs.Run.{failedProgress, failing, ranProgress, succeeding, stepped}
-use Rattle.machine_rules.specs.Trace.{recordOf}
 use Rattle.machine_rules.specs.Facts.{Good, Solid, Within, valid}
-use Rattle.machine_rules.proofs.Laws.Effects.{passes, few-sectors, Passed, passed}
+use Rattle.machine_rules.proofs.Laws.Effects.{few-sectors}
 use Rattle.machine_rules.proofs.Laws.Spots.{source-valid, few-spots}
 use Rattle.sia.specs.declared.Op.{Op}
 use Rattle.sia.specs.declared.Op.the-variants.{Read, ReadSector, Write, Copy, Swap, Truncate, Unknown}
@@ -165,33 +166,6 @@ failure-length : (s : Setting) (vol : Volume) (n : ℕ) → length (failureBytes
 unfolding failureBytes startingPair pairOf
 failure-length s vol n = length-record n 0 _ 0 [] 0 [] (length-root (rootOnDisk s vol) (committedSpots (s .sector) (parent s))) refl refl
 
--- a proof is asked of a read
-pub asked-reads : (s : Setting) (f : Spot → List ℕ) (p : Progress) (i : Instruction) (l : List (List ℕ)) → judged s f p i l ≡ 0 → i .proof ≡ true
-    → reads (opOf (i .name)) ≡ true
-unfolding judged planned plannedInputs plannedArgs weighed fitted badProof
-asked-reads s f p i l e h =
-    let inputs = passes _ 21 _ (passes _ 20 _ e .1) .1 in
-    let c = passes _ 26 _ (passes _ 25 _ (passes _ 24 _ (passes _ 23 _ (passes _ 22 _ inputs .1) .1) .1) .1) in
-    not-false _ (either-left _ _ (sym (picks (i .proof) _ false h) ∙ c .0))
-
--- and then 27 did not apply
-pub asked-right : (s : Setting) (f : Spot → List ℕ) (p : Progress) (i : Instruction) (l : List (List ℕ)) → judged s f p i l ≡ 0 → i .proof ≡ true
-    → badProof (opOf (i .name)) (argsOf (opOf (i .name)) l) ≡ false
-unfolding judged planned plannedInputs plannedArgs weighed fitted
-asked-right s f p i l e h =
-    let inputs = passes _ 21 _ (passes _ 20 _ e .1) .1 in
-    let c = passes _ 26 _ (passes _ 25 _ (passes _ 24 _ (passes _ 23 _ (passes _ 22 _ inputs .1) .1) .1) .1) in
-    sym (picks (i .proof) _ false h) ∙ c .0
-
--- 21 to 23 did not apply to an instruction that runs
-pub well-formed : (s : Setting) (f : Spot → List ℕ) (p : Progress) (i : Instruction) (l : List (List ℕ)) → judged s f p i l ≡ 0
-    → (illFormed i ≡ false) × (pastEnd (s .terms .head .length) i ≡ false) × (wellFormed (opOf (i .name)) l ≡ true)
-unfolding judged planned plannedInputs plannedArgs
-well-formed s f p i l e =
-    let c21 = passes _ 20 _ e in
-    let c22 = passes _ 21 _ (c21 .1) in
-    (c21 .0, c22 .0, not-false _ (passes _ 22 _ (c22 .1) .0))
-
 -- ---- a record is as long as its numbers say
 
 -- a proof is asked of whole segments
@@ -202,42 +176,41 @@ proof-right op a e =
     let y = neither (not (eqb (a .first % 64) 0)) _ (x .1) in
     (eqb-true _ _ (not-false _ (y .0)), eqb-true _ _ (not-false _ (y .1)))
 
-success-length : (s : Setting) (vol : Volume) (f : Spot → List ℕ) (p : Progress) (asked : Bool) (op : Op) (a : Args) (n count : ℕ) (d bytes copies : List ℕ)
+success-length : (s : Setting) (vol : Volume) (f : Spot → List ℕ) (p : Progress) (asked : Bool) (op : Op) (a : Args) (n : ℕ) (d bytes copies : List ℕ)
     → Solid s vol → Good s p
-    → length bytes ≡ s .stagesectors * s .sector → length (vol .roots) ≡ 2048 → length copies ≡ 512 → Passed s f p op a count → (asked ≡ true → reads op ≡ true)
+    → length bytes ≡ s .stagesectors * s .sector → length (vol .roots) ≡ 2048 → length copies ≡ 512 → Passed s f p op a n → (asked ≡ true → reads op ≡ true)
     → (asked ≡ true → badProof op a ≡ false)
     → let g = effect (s .sector) (groundOf s vol) (p .size) op a d (record { staged = p .staged; bytes = bytes }) in
-    length (successBytes s vol (rootOf s vol (g .bytes) copies) p asked (sourceOf s f p op (a .key)) op a n (newSize (p .size) op a) g)
-    ≡ recordCount (s .sector) asked (length (spots (sourceOf s f p op (a .key)))) op a
+    let from = spots (sourceOf s f p op (a .key)) in
+    (plan : Plan) (after : Progress) → plan .hashes ≡ proofCount (s .sector) asked (length from) a
+    → length (successBytes s vol (rootOf s vol (g .bytes) copies) plan after asked from op a (g .bytes)) ≡ recordCount (s .sector) asked (length from) op a
 unfolding successBytes recordCount runningPair
-success-length s vol f p asked op a n count d bytes copies solid g e r c q asks right =
+success-length s vol f p asked op a n d bytes copies solid g e r c q asks right plan after fit =
     let from = sourceOf s f p op (a .key) in
     let u = few-sectors s p (solid .lent) g in
     let valid = source-valid s vol p solid (g .orderly .staged) (omega (arith, u, g .entries)) f op (a .key) in
     let stage = effect-bytes (s .sector) (groundOf s vol) (p .size) op a d (record { staged = p .staged; bytes = bytes }) ∙ e in
-    length-record 0 n _ (proofCount (s .sector) asked (length (spots from)) a) _ (outputCount op a) _
+    length-record 0 (plan .cost) _ (plan .hashes) _ (outputCount op a) _
     (length-root _ _)
     (length-proof s vol _ copies from a asked solid stage r c valid (few-spots s f p op (a .key) (solid .small) u)
     (λ h. let w = proof-right op a (right h) in
     span-within (s .sector) (length (spots from)) (a .first) (a .len) (Slots.some (s .sector) (solid .lent .size))
     (read-span (s .sector) (p .size) (length (spots from)) op a (asks h) (q .spans))
-    (w .0) (w .1)))
+    (w .0) (w .1)) ∙ ap (λ (m : ℕ). 32 * m) (sym fit))
     (shown-length s vol (p .size) from _ op a (solid .disk) stage valid (q .spans))
+    ∙ ap (λ (m : ℕ). 72 + 32 * m + outputCount op a) fit
 
 -- written bytes grow by the record's length
-pub stepped-written : (s : Setting) (vol : Volume) (i : Instruction) (l : List (List ℕ)) (t : Turn) → Solid s vol → Good s (t .progress) → length (t .stage)
-    ≡ s .stagesectors * s .sector
-    → length (vol .roots) ≡ 2048 → length (t .roots) ≡ 512 → stepped s vol i l t .progress .written ≡ t .progress .written + length (recordOf s vol i l t)
-unfolding stepped recordOf succeeding failing ranProgress failedProgress
+pub stepped-written : (s : Setting) (vol : Volume) (i : Instruction) (l : List (List ℕ)) (t : Turn) → Solid s vol → Good s (t .progress)
+    → length (t .stage) ≡ s .stagesectors * s .sector → length (vol .roots) ≡ 2048 → length (t .roots) ≡ 512
+    → stepped s vol i l t .progress .written ≡ t .progress .written + length (stepped s vol i l t .bytes)
+unfolding succeeding failing ranProgress failedProgress
 stepped-written s vol i l t solid g e d c =
     let f = rootAt s vol t in
-    by (eqb (judged s (rootAt s vol t) (t .progress) i l) 0)
-    (λ u. ap (λ (x : Turn). x .progress .written) (picks (eqb (judged s (rootAt s vol t) (t .progress) i l) 0) _ _ u)
-    ∙ ap (λ (n : ℕ). t .progress .written + n)
-    (sym (success-length s vol (rootAt s vol t) (t .progress) (i .proof) (opOf (i .name)) (argsOf (opOf (i .name)) l) _ _ (dataIn l) (t .stage) _ solid g e d
-    (rehashed-length (s .sector) _ _ (t .roots) ∙ c) (passed s (rootAt s vol t) (t .progress) i l (eqb-true _ _ u))
-    (asked-reads s (rootAt s vol t) (t .progress) i l (eqb-true _ _ u)) (asked-right s (rootAt s vol t) (t .progress) i l (eqb-true _ _ u))))
-    ∙ ap (λ (x : List ℕ). t .progress .written + length x) (sym (picks (eqb (judged s (rootAt s vol t) (t .progress) i l) 0) _ _ u)))
-    (λ u. ap (λ (x : Turn). x .progress .written) (skips (eqb (judged s (rootAt s vol t) (t .progress) i l) 0) _ _ u)
-    ∙ ap (λ (n : ℕ). t .progress .written + n) (sym (failure-length s vol _))
-    ∙ ap (λ (x : List ℕ). t .progress .written + length x) (sym (skips (eqb (judged s (rootAt s vol t) (t .progress) i l) 0) _ _ u)))
+    let op = opOf (i .name) in
+    stepped-either s vol i l t (λ x. x .progress .written ≡ t .progress .written + length (x .bytes))
+    (λ u. let k = can s (rootAt s vol t) (t .progress) i l u in
+    ap (λ (n : ℕ). t .progress .written + n)
+    (sym (success-length s vol (rootAt s vol t) (t .progress) (i .proof) (opOf (i .name)) (argsOf (opOf (i .name)) l) _ (dataIn l) (t .stage) _ solid g e d
+    (rehashed-length (s .sector) _ _ (t .roots) ∙ c) (k .passed) (asked-reads k) (asked-right k) _ _ refl)))
+    (λ _. ap (λ (n : ℕ). t .progress .written + n) (sym (failure-length s vol _)))

@@ -1,20 +1,18 @@
 -- A step reads the input only below the instruction's need; running with k bytes come and then with m ≥ k is running with m. Assumes nothing.
-use Rattle.lists.proofs.Kit.{_≡_, refl, sym, ap, ap₂, _∙_, subst, Bool, true, false, not, List, [], _∷_, ℕ, zero, suc, _+_, _-_, _≤_, _<_, le-trans, arith}
-use Rattle.lists.proofs.Kit.{take, drop, take-take, eqb, eqb·suc-zero, not-true, leb-true, ltb-true, eqb-true, le-leb}
+use Rattle.lists.proofs.Kit.{_≡_, refl, sym, ap, ap₂, _∙_, subst, true, false, not, List, [], _∷_, ℕ, zero, suc, _+_, _-_, _≤_, _<_, le-trans, arith}
+use Rattle.lists.proofs.Kit.{take, drop, take-take, eqb, not-true, leb-true, ltb-true, eqb-true, le-leb}
 use Rattle.lists.specs.Pick.{pick}
 use Rattle.lists.specs.Tests.{each}
 use Rattle.lists.proofs.Laws.Pick.{by, picks, skips, both-left, both-right, both-join}
 use Rattle.lists.proofs.Laws.Entries.{drop-take}
 use Rattle.area.specs.Area.{part}
-use Rattle.sia.specs.Names.{opOf}
 use Rattle.sia.specs.Encode.{operandsIn}
 use Rattle.machine_rules.specs.View.{Turn, Volume}
 use Rattle.machine_rules.specs.declared.Setting.{Setting}
-use Rattle.machine_rules.specs.Inputs.{dataIn, illFormed, pastEnd, largest, need, inputsOf, argsOf}
-use Rattle.machine_rules.specs.declared.Args.{Args}
+use Rattle.machine_rules.specs.Inputs.{illFormed, pastEnd, largest, need, inputsOf}
 use Rattle.machine_rules.specs.Plan.{refused, planned, judged}
-use Rattle.machine_rules.specs.Run.{failedProgress, failing, ranProgress, succeeding, stepped, current, step, going, ready, runs, run}
-use Rattle.sia.specs.declared.Op.{Op}
+use Rattle.machine_rules.specs.Run.{failedProgress, failing, ranProgress, succeeding, stepped, current, step, going, ready, runs, run, turned}
+use Rattle.machine_rules.proofs.Laws.Passed.{stepped-failed, stepped-either}
 use Rattle.sia.specs.declared.Operand.{Operand}
 use Rattle.sia.specs.declared.Instruction.{Instruction}
 use Rattle.host.specs.declared.Progress.{Progress}
@@ -74,7 +72,7 @@ judged-past s r p i l e f =
 pub stepped-fails : (s : Setting) (vol : Volume) (i : Instruction) (l : List (List ℕ)) (t : Turn) (n : ℕ) → judged s (rootAt s vol t) (t .progress) i l
     ≡ suc n → stepped s vol i l t ≡ failing s vol (suc n) t
 unfolding stepped
-stepped-fails s vol i l t n e = rw e (skips (eqb (suc n) 0) _ _ (eqb·suc-zero n))
+stepped-fails s vol i l t n e = stepped-failed s vol i l t (λ q. absurd (omega (arith, e, q))) ∙ ap (λ (m : ℕ). failing s vol m t) e
 
 pub need-sound : (d : ℕ) (i : Instruction) → illFormed i ≡ false → pastEnd d i ≡ false → need d i ≡ largest (operandsIn i)
 unfolding need
@@ -99,7 +97,7 @@ ready-need s k t h = leb-true _ _ (both-right _ _ h)
 
 pub step-below : (s : Setting) (vol : Volume) (t : Turn) (a b : List ℕ) (k : ℕ) → ready s k t ≡ true → take k a ≡ take k b → step s vol a t ≡ step s vol b t
 unfolding step
-step-below s vol t a b k h e = stepped-below s vol (current s t) t a b k (ready-need s k t h) e
+step-below s vol t a b k h e = ap (turned t) (stepped-below s vol (current s t) t a b k (ready-need s k t h) e)
 
 -- ---- a run
 
@@ -140,41 +138,20 @@ pub left-going : (s : Setting) (t : Turn) → going (s .terms) (t .progress) ≡
 unfolding going left
 left-going s t h = (skips (t .progress .failed) 0 _ (not-true _ (both-left _ _ h)), ltb-true _ _ (both-right (not (t .progress .failed)) _ h))
 
-pub left-failing : (s : Setting) (vol : Volume) (n : ℕ) (t : Turn) → left s (failing s vol n t) ≡ 0
-unfolding left failing failedProgress
-left-failing s vol n t = picks true 0 (s .terms .head .count - t .progress .ran) refl
-
-pub left-succeeding : (s : Setting) (vol : Volume) (asked : Bool) (op : Op) (a : Args) (d : List ℕ) (t : Turn) → t .progress .failed ≡ false
-    → left s (succeeding s vol asked op a d t) ≡ s .terms .head .count - (t .progress .ran + 1)
-unfolding left succeeding ranProgress
-left-succeeding s vol asked op a d t f = skips (t .progress .failed) 0 (s .terms .head .count - (t .progress .ran + 1)) f
-
 pub not-failed : (s : Setting) (t : Turn) → going (s .terms) (t .progress) ≡ true → t .progress .failed ≡ false
 unfolding going
 not-failed s t h = not-true _ (both-left _ _ h)
 
 -- what a step does to them
-pub stepped-left : (s : Setting) (vol : Volume) (i : Instruction) (l : List (List ℕ)) (t : Turn) → going (s .terms) (t .progress) ≡ true
-    → left s (stepped s vol i l t) < left s t
-unfolding stepped
+stepped-left : (s : Setting) (vol : Volume) (i : Instruction) (l : List (List ℕ)) (t : Turn) → going (s .terms) (t .progress) ≡ true
+    → left s (turned t (stepped s vol i l t)) < left s t
+unfolding left turned succeeding failing ranProgress failedProgress
 stepped-left s vol i l t g =
     let q = left-going s t g in
-    by (eqb (judged s (rootAt s vol t) (t .progress) i l) 0)
-    (λ e. rw (picks (eqb (judged s (rootAt s vol t) (t .progress) i l) 0) (succeeding s vol (i .proof) (opOf (i .name)) (argsOf (opOf (i .name)) l) (dataIn l) t)
-    (failing s vol (judged s (rootAt s vol t) (t .progress) i l) t) e) (succeeds q))
-    (λ e. rw (skips (eqb (judged s (rootAt s vol t) (t .progress) i l) 0) (succeeding s vol (i .proof) (opOf (i .name)) (argsOf (opOf (i .name)) l) (dataIn l) t)
-    (failing s vol (judged s (rootAt s vol t) (t .progress) i l) t) e) (fails q))
-  where
-    fails : (left s t ≡ s .terms .head .count - t .progress .ran) × (t .progress .ran < s .terms .head .count)
-        → left s (failing s vol (judged s (rootAt s vol t) (t .progress) i l) t) < left s t
-    fails q = let e : left s (failing s vol (judged s (rootAt s vol t) (t .progress) i l) t) ≡ 0 =
-        left-failing s vol (judged s (rootAt s vol t) (t .progress) i l) t in omega arith
-
-    succeeds : (left s t ≡ s .terms .head .count - t .progress .ran) × (t .progress .ran < s .terms .head .count)
-        → left s (succeeding s vol (i .proof) (opOf (i .name)) (argsOf (opOf (i .name)) l) (dataIn l) t) < left s t
-    succeeds q = let e : left s (succeeding s vol (i .proof) (opOf (i .name)) (argsOf (opOf (i .name)) l) (dataIn l) t)
-        ≡ s .terms .head .count - (t .progress .ran + 1) = left-succeeding s vol (i .proof) (opOf (i .name)) (argsOf (opOf (i .name)) l) (dataIn l) t
-        (not-failed s t g) in omega arith
+    let count = s .terms .head .count in
+    stepped-either s vol i l t (λ x. left s (turned t x) < left s t)
+    (λ _. omega (arith, q .0, q .1, skips (t .progress .failed) 0 (count - (t .progress .ran + 1)) (not-failed s t g)))
+    (λ _. omega (arith, q .0, q .1, picks true 0 (count - t .progress .ran) refl))
 
 pub step-left : (s : Setting) (vol : Volume) (a : List ℕ) (k : ℕ) (t : Turn) → ready s k t ≡ true → left s (step s vol a t) < left s t
 unfolding step

@@ -1,33 +1,20 @@
 -- The records of a run: with k bytes come they are the first m of the whole run's, m counted by the needs. Assumes nothing.
-use Rattle.lists.proofs.Kit.{_≡_, refl, sym, ap, ap₂, _∙_, Bool, true, false, not, List, [], _∷_, _++_, ℕ, zero, suc, _+_, _≤_, min, arith, length, take}
+use Rattle.lists.proofs.Kit.{_≡_, refl, sym, ap, ap₂, _∙_, true, false, not, List, [], _∷_, _++_, ℕ, zero, suc, _+_, _≤_, min, arith, length, take}
 use Rattle.lists.proofs.Kit.{take-append-seam, leb, ltb, eqb, leb-true, ltb-false, le-leb}
 use mathlib.Core.Logic.{_⊎_, inl, inr, ⊎-elim}
 use Rattle.lists.specs.Pick.{pick}
 use Rattle.lists.specs.Tests.{some}
 use Rattle.lists.proofs.Laws.Pick.{by, picks, skips, both-join, both-not-left, both-not-right}
-use Rattle.area.specs.Area.{put}
-use Rattle.sia.specs.Names.{opOf}
 use Rattle.sia.specs.Encode.{operandsIn}
 use Rattle.machine_rules.specs.View.{Turn, Volume}
 use Rattle.machine_rules.specs.declared.Setting.{Setting}
-use Rattle.machine_rules.specs.Inputs.{dataIn, illFormed, pastEnd, largest, need, inputsOf, argsOf}
-use Rattle.machine_rules.specs.Plan.{judged}
-use Rattle.machine_rules.specs.Run.{failedProgress, failing, ranProgress, succeeding, stepped, current, step, going, ready, runs}
-use Rattle.machine_rules.specs.Trace.{recordOf, recorded, trail, ripe}
+use Rattle.machine_rules.specs.Inputs.{illFormed, pastEnd, largest, need, inputsOf}
+use Rattle.machine_rules.specs.Run.{failedProgress, failing, ranProgress, succeeding, stepped, current, step, going, ready, runs, turned}
+use Rattle.machine_rules.specs.Trace.{recorded, trail, ripe}
+use Rattle.machine_rules.proofs.Laws.Passed.{stepped-either}
 use Rattle.machine_rules.proofs.Laws.Steps.{runs-go, runs-stop, left, left-most, step-left, none-left, ready-more}
 use Rattle.sia.specs.declared.Operand.{Operand}
 use Rattle.sia.specs.declared.Instruction.{Instruction}
-use Rattle.machine_rules.specs.Roots.{rootAt}
-
-pub stepped-output : (s : Setting) (vol : Volume) (i : Instruction) (l : List (List ℕ)) (t : Turn) → stepped s vol i l t .output
-    ≡ put (t .output) (t .progress .written) (recordOf s vol i l t)
-unfolding stepped recordOf succeeding failing pick
-stepped-output s vol i l t = under (eqb (judged s (rootAt s vol t) (t .progress) i l) 0) _ _ _ _ refl refl
-  where
-    under : (b : Bool) (x y : Turn) (u v : List ℕ) → x .output ≡ put (t .output) (t .progress .written) u → y .output ≡ put (t .output) (t .progress .written) v
-        → pick b x y .output ≡ put (t .output) (t .progress .written) (pick b u v)
-    under true x y u v p q = p
-    under false x y u v p q = q
 
 module _ (s : Setting) (vol : Volume) (a : List ℕ) where
   pub trail-zero : (k : ℕ) (t : Turn) → trail s vol a k 0 t ≡ []
@@ -109,15 +96,14 @@ need-within d i =
 
 stepped-next : (s : Setting) (vol : Volume) (i : Instruction) (l : List (List ℕ)) (t : Turn) → (stepped s vol i l t .progress .ran ≡ t .progress .ran + 1) ⊎
     (stepped s vol i l t .progress .failed ≡ true)
-unfolding stepped succeeding failing ranProgress failedProgress pick
-stepped-next s vol i l t = under (eqb (judged s (rootAt s vol t) (t .progress) i l) 0)
-  where
-    under : (b : Bool) → (pick b (succeeding s vol (i .proof) (opOf (i .name)) (argsOf (opOf (i .name)) l) (dataIn l) t)
-        (failing s vol (judged s (rootAt s vol t) (t .progress) i l) t) .progress .ran ≡ t .progress .ran + 1)
-        ⊎ (pick b (succeeding s vol (i .proof) (opOf (i .name)) (argsOf (opOf (i .name)) l) (dataIn l) t)
-        (failing s vol (judged s (rootAt s vol t) (t .progress) i l) t) .progress .failed ≡ true)
-    under true = inl refl
-    under false = inr refl
+unfolding succeeding failing ranProgress failedProgress
+stepped-next s vol i l t =
+    stepped-either s vol i l t (λ x. (x .progress .ran ≡ t .progress .ran + 1) ⊎ (x .progress .failed ≡ true)) (λ _. inl refl) (λ _. inr refl)
+
+step-next : (s : Setting) (vol : Volume) (a : List ℕ) (t : Turn)
+    → (step s vol a t .progress .ran ≡ t .progress .ran + 1) ⊎ (step s vol a t .progress .failed ≡ true)
+unfolding step turned
+step-next s vol a t = stepped-next s vol (current s t) (inputsOf (current s t) a) t
 
 pub failed-stops : (s : Setting) (k : ℕ) (t : Turn) → t .progress .failed ≡ true → ready s k t ≡ false
 unfolding ready going
@@ -150,7 +136,7 @@ module _ (s : Setting) (vol : Volume) (a : List ℕ) where
       ⊎-elim (λ r. counted k n (step s vol a t) ∙ ap (λ (x : ℕ). min (ripe s k x n) (length (trail s vol a d n (step s vol a t)))) r)
       (λ f. ap length (trail-stop s vol a k n (step s vol a t) (failed-stops s k (step s vol a t) f))
       ∙ omega (arith, ap length (trail-stop s vol a d n (step s vol a t) (failed-stops s d (step s vol a t) f))))
-      (stepped-next s vol (current s t) (inputsOf (current s t) a) t) in
+      (step-next s vol a t) in
       omega (
         arith,
         ih,

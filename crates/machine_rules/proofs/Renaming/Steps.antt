@@ -3,17 +3,16 @@ use Rattle.lists.proofs.Kit.{_≡_, refl, ap, _∙_, Bool, List, ℕ, zero, suc
 use Rattle.lists.specs.Pick.{pick}
 use Rattle.sia.specs.Names.{opOf}
 use Rattle.sia.specs.Empty.{noInstruction}
-use Rattle.host.specs.With.{withRunning, withStaged}
 use Rattle.machine_rules.specs.View.{Turn, readOnlyMode, freeCopies, Volume}
 use Rattle.machine_rules.specs.declared.Setting.{Setting}
 use Rattle.machine_rules.specs.Inputs.{dataIn, inputsOf, argsOf}
 use Rattle.machine_rules.specs.declared.Args.{Args}
 use Rattle.machine_rules.specs.Roots.{rootOf, rootAt}
-use Rattle.machine_rules.specs.Plan.{Source, spots, sourceOf, badSpans, badProof, touched, wanted, cost}
+use Rattle.machine_rules.specs.Plan.{spots, sourceOf, badSpans, badProof, touched, wanted}
 use Rattle.machine_rules.specs.Plan.{newSize, proofCount, outputCount, recordCount, fitted, weighed, plannedInputs, plannedArgs, planned, judged}
 use Rattle.machine_rules.specs.Effect.{groundOf, Staging, effect, rehashed}
 use Rattle.machine_rules.specs.Record.{failureBytes, successBytes}
-use Rattle.machine_rules.specs.Run.{failing, succeeding, stepped, current, step, going, ready, runs, run}
+use Rattle.machine_rules.specs.Run.{failing, succeeding, stepped, current, step, going, ready, runs, run, ranProgress}
 use Rattle.host.specs.Renaming.{Renaming}
 use Rattle.machine_rules.specs.Renaming.{inputsAs, AsksAs}
 use Rattle.host.proofs.Renaming.Places.{word-as, others-as}
@@ -24,7 +23,7 @@ use Rattle.host.specs.declared.Progress.{Progress}
 use Rattle.machine_rules.specs.declared.Plan.{Plan}
 use Rattle.machine_rules.specs.declared.Spot.{Spot}
 use Rattle.machine_rules.proofs.Renaming.Sight.{settingAs, parent-as, starting-as, running-as}
-use Rattle.machine_rules.proofs.Renaming.Inputs.{withKey, new-key, touched-key, effect-key, output-key, keyAs, source-as, well-as, args-as, data-as}
+use Rattle.machine_rules.proofs.Renaming.Inputs.{withKey, touched-key, effect-key, output-key, keyAs, source-as, well-as, args-as, data-as}
 
 module _ (r : List ℕ → List ℕ) (new : Renaming r) where
   -- ---- one instruction
@@ -70,30 +69,25 @@ module _ (r : List ℕ → List ℕ) (new : Renaming r) where
   unfolding failing failureBytes
   failing-as s vol n t = rw (starting-as r new s vol)
 
-  success-as : (s : Setting) (vol : Volume) (f : Spot → List ℕ) (p : Progress) (asked : Bool) (from : Source) (op : Op) (a : Args) (k : List ℕ)
-      (n size : ℕ) (g : Staging)
-      → successBytes (settingAs r new s) vol f p asked from op (withKey a k) n size g ≡ successBytes s vol f p asked from op a n size g
-  unfolding successBytes proofCount outputCount
-  success-as s vol f p asked from op a k n size g =
-      rw (running-as r new s f (withStaged (withRunning p size) (g .staged)), output-key (s .sector) (vol .disk) (g .bytes) (spots from) a k)
+  success-as : (s : Setting) (vol : Volume) (f : Spot → List ℕ) (w : Plan) (p : Progress) (asked : Bool) (l : List Spot) (op : Op) (a : Args) (k stage : List ℕ)
+      → successBytes (settingAs r new s) vol f w p asked l op (withKey a k) stage ≡ successBytes s vol f w p asked l op a stage
+  unfolding successBytes outputCount
+  success-as s vol f w p asked l op a k stage = rw (running-as r new s f p, output-key (s .sector) (vol .disk) stage l a k)
 
-  succeeding-as : (s : Setting) (vol : Volume) (asked : Bool) (op : Op) (a : Args) (d : List ℕ) (t : Turn)
-      → succeeding (settingAs r new s) vol asked op (withKey a (keyAs r new op (a .key))) d t ≡ succeeding s vol asked op a d t
-  unfolding succeeding recordCount proofCount outputCount rootOf
-  succeeding-as s vol asked op a d t =
+  succeeding-as : (s : Setting) (vol : Volume) (w : Plan) (asked : Bool) (l : List Spot) (op : Op) (a : Args) (d : List ℕ) (t : Turn)
+      → succeeding (settingAs r new s) vol w asked l op (withKey a (keyAs r new op (a .key))) d t ≡ succeeding s vol w asked l op a d t
+  unfolding succeeding rootOf
+  succeeding-as s vol w asked l op a d t =
       let p = t .progress in
       let k = keyAs r new op (a .key) in
       let g : Staging = record { staged = p .staged; bytes = t .stage } in
       let after = effect (s .sector) (groundOf s vol) (p .size) op a d g in
-      let price = cost (s .terms .head .length) (s .terms .prices) op (a .len) in
       rw (
-        source-as r new s (rootAt s vol t) p op (a .key),
         parent-as r new s,
-        new-key (p .size) op a k,
         touched-key (s .sector) (p .size) op a k,
         effect-key (s .sector) (groundOf s vol) (p .size) op a k d g,
-        success-as s vol (rootOf s vol (after .bytes) (rehashed (s .sector) after (touched (s .sector) (p .size) op a) (t .roots))) p asked
-            (sourceOf s (rootAt s vol t) p op (a .key)) op a k price (newSize (p .size) op a) after,
+        success-as s vol (rootOf s vol (after .bytes) (rehashed (s .sector) after (touched (s .sector) (p .size) op a) (t .roots))) w
+            (ranProgress p w (after .staged)) asked l op a k (after .bytes),
       )
 
   pub stepped-as : (s : Setting) (vol : Volume) (i : Instruction) (l : List (List ℕ)) (t : Turn)
@@ -102,13 +96,14 @@ module _ (r : List ℕ → List ℕ) (new : Renaming r) where
   stepped-as s vol i l t =
       let op = opOf (i .name) in
       let f = rootAt s vol t in
-      let n = judged s f (t .progress) i l in
+      let w = planned s f (t .progress) i l in
       rw (
-        judged-as s f (t .progress) i l,
+        planned-as s f (t .progress) i l,
         args-as r new op l,
         data-as r new op l,
-        succeeding-as s vol (i .proof) op (argsOf op l) (dataIn l) t,
-        failing-as s vol n t,
+        source-as r new s f (t .progress) op (argsOf op l .key),
+        succeeding-as s vol w (i .proof) (spots (sourceOf s f (t .progress) op (argsOf op l .key))) op (argsOf op l) (dataIn l) t,
+        failing-as s vol (w .number) t,
       )
 
   -- ---- instructions in turn

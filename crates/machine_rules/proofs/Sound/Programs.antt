@@ -12,7 +12,7 @@ use Rattle.host.specs.Places.{taken}
 use Rattle.machine_rules.specs.View.{kept, worked, Turn, turnOf, withRun, areasRight, parent, sector, parentSpots, committedSpots, settingOf, volumeBy, volumeOf}
 use Rattle.machine_rules.specs.Roots.{sectorRoot, keptRoot, rootBy, rootOf, rootOnDisk}
 use Rattle.machine_rules.specs.Record.{pairing, samePair, pairOf, startingPair, runningPair}
-use Rattle.machine_rules.specs.Run.{failedProgress, failing, run}
+use Rattle.machine_rules.specs.Run.{failedProgress, failing, run, Stepped, turned}
 use Rattle.machine_rules.specs.Calls.{Pieced, pieced, acceptedBy, pieceBy, piece, Interrupted, interrupted, stoppedBy, interruptBy}
 use Rattle.machine_rules.specs.Calls.{interrupt, reachedAt, reachedPairBy, reachedBy}
 use Rattle.machine_rules.specs.Commit.{Closed, closed, givenUp, commit, agreedBy, closeBy, close}
@@ -133,7 +133,8 @@ module _ (disk : List ℕ) (h : Host) (stage : List ℕ) (shape : Declared h) (f
   unfolding interruptBy stoppedBy volumeBy withWay
   interrupt-alike output =
       behind (not (inOrder h)) _ _ _ (λ _. behind _ _ _ _ (λ _. behind _ _ _ _ (λ _. behind _ _ _ _ (λ _. ahead _ _ _ _ (λ _.
-      ap (λ (t : Turn). record { number = 0; tally = t .progress .tally; host = withRun h (h .program .came) (t .progress) (t .roots); output = t .output })
+      ap (λ (r : Stepped). let t = turned (turnOf h [] output) r in
+      interrupted 0 (t .progress .tally) (withRun h (h .program .came) (t .progress) (t .roots)) (t .output))
       (failing-alike (settingOf h) (volumeOf h disk) 20 (turnOf h [] output) (sound-disk disk h stage fine)))))))
 
   -- ---- the running pair
@@ -215,7 +216,7 @@ module _ (disk : List ℕ) (h : Host) (stage : List ℕ) (shape : Declared h) (f
   break-refused output b n rest f = either-way Breaks b (interrupted n 0 h output) rest (λ _. fine) f
 
   stopped-sound : (output : List ℕ) → h .program .active ≡ true → inOrder (stoppedBy kept disk h output .host) ≡ true → Breaks (stoppedBy kept disk h output)
-  unfolding stoppedBy failing failedProgress withRun withStageRoots withProgram withProgress withCame turnOf
+  unfolding stoppedBy failing turned failedProgress withRun withStageRoots withProgram withProgress withCame turnOf
   stopped-sound output live order = is-sound disk _ stage order (sound-disk disk h stage fine) (λ _. sound-stage disk h stage fine live)
 
   pub interrupt-sound : (output : List ℕ) → sound disk (interrupt disk h output .host) stage ≡ true

@@ -1,30 +1,30 @@
 -- An instruction and a run with roots that are right: the kept ones give what document 01 says, and stay right. Assumes nothing.
 use Rattle.lists.proofs.Kit.{_≡_, refl, sym, ap, ap₂, _∙_, subst, Bool, true, List, [], _∷_, ℕ, zero, suc, _*_, _≤_, mul-le-mul-right, le-trans, arith}
-use Rattle.lists.proofs.Kit.{length, length-drop, eqb, eqb-true}
+use Rattle.lists.proofs.Kit.{length, length-drop, eqb}
 use Rattle.lists.specs.Pick.{pick}
 use Rattle.lists.specs.Tests.{every}
-use Rattle.lists.proofs.Laws.Pick.{by, picks, skips}
+use Rattle.lists.proofs.Laws.Pick.{by}
 use Rattle.lists.proofs.Laws.Every.{every-none}
-use Rattle.area.specs.Area.{put}
 use Rattle.area.proofs.Laws.Slots as Slots
 use Rattle.sia.specs.Names.{opOf}
-use Rattle.host.specs.With.{withRunning, withStaged}
 use Rattle.host.specs.Places.{taken}
-use Rattle.machine_rules.specs.View.{Way, kept, worked, Turn, readOnlyMode, parent, parentSpots, committedSpots, Volume}
+use Rattle.machine_rules.specs.View.{kept, worked, Turn, readOnlyMode, parent, parentSpots, committedSpots, Volume}
 use Rattle.machine_rules.specs.declared.Setting.{Setting}
 use Rattle.machine_rules.specs.Seats.{seatsOf}
 use Rattle.machine_rules.specs.Roots.{rootOf, rootAt, rootOnDisk}
 use Rattle.machine_rules.specs.Inputs.{dataIn, nth, argsOf, inputsOf}
 use Rattle.machine_rules.specs.declared.Args.{Args}
-use Rattle.machine_rules.specs.Plan.{Source, spots, sourceOf, cost, touched, newSize, proofCount, outputCount, recordCount, judged}
+use Rattle.machine_rules.specs.Plan.{Source, spots, sourceOf, cost, touched, newSize, outputCount, recordCount}
 use Rattle.machine_rules.specs.Effect.{groundOf, Staging, effect, rehashed}
 use Rattle.machine_rules.specs.Record.{pairOf, startingPair, runningPair, recordBytes, failureBytes, outputOf, successBytes}
-use Rattle.machine_rules.specs.Run.{failedProgress, failing, ranProgress, succeeding, stepped, current, step, going, ready, runs, run}
+use Rattle.machine_rules.specs.Run.{failedProgress, failing, ranProgress, succeeding, stepped, current, step, going, ready, runs, run, turned, Stepped}
 use Rattle.machine_rules.specs.Facts.{Good, Solid}
 use Rattle.machine_rules.specs.Sound.{right, stagedRight}
-use Rattle.machine_rules.specs.Trace.{recordOf, recorded, trail}
+use Rattle.machine_rules.specs.Trace.{recorded, trail}
+use Rattle.machine_rules.specs.declared.Plan.{Plan}
+use Rattle.machine_rules.proofs.Laws.Passed.{planFine, Passed, can, stepped-ran, stepped-failed, stepped-either}
 use Rattle.machine_rules.proofs.Laws.Steps.{not-failed, left-going, ready-going, runs-go, runs-stop}
-use Rattle.machine_rules.proofs.Laws.Effects.{Passed, passed, few-sectors}
+use Rattle.machine_rules.proofs.Laws.Effects.{few-sectors}
 use Rattle.machine_rules.proofs.Laws.Kept.{ran-good, stepped-good}
 use Rattle.machine_rules.proofs.Laws.Trails.{trail-zero, trail-go, trail-stop}
 use Rattle.machine_rules.proofs.Laws.Wrote.{Wrote, wrote-effect}
@@ -58,25 +58,18 @@ pub failing-alike : (s : Setting) (vol : Volume) (n : ℕ) (t : Turn) → every 
     → failing s (withWay kept vol) n t ≡ failing s (withWay worked vol) n t
 unfolding failing
 failing-alike s vol n t h =
-    ap (λ (b : List ℕ). record {
-      progress = failedProgress (t .progress);
-      stage = t .stage;
-      output = put (t .output) (t .progress .written) b;
-      roots = t .roots;
-    }) (failure-alike s vol n h)
+    ap (λ (b : List ℕ). record { progress = failedProgress (t .progress); stage = t .stage; roots = t .roots; bytes = b }) (failure-alike s vol n h)
 
 -- ---- an instruction that runs
 
-success-alike : (s : Setting) (vol : Volume) (f r : Spot → List ℕ) (p : Progress) (asked : Bool) (from : Source) (op : Op) (a : Args) (n size : ℕ) (g : Staging)
-    → every (agree f r) (parentSpots s (withStaged (withRunning p size) (g .staged))) ≡ true → every (agree f r) (spots from) ≡ true
-    → successBytes s (withWay kept vol) f p asked from op a n size g ≡ successBytes s (withWay worked vol) r p asked from op a n size g
-unfolding successBytes runningPair parentSpots parent withWay
-success-alike s vol f r p asked from op a n size g u v =
-    ap₂ (λ (x y : List ℕ). recordBytes 0 n (record { size = withStaged (withRunning p size) (g .staged) .size; root = x })
-    (proofCount (s .sector) asked (length (spots from)) a)
-    (pick asked y [])
-    (outputCount op a) (pick (eqb (outputCount op a) 0) [] (outputOf (s .sector) (vol .disk) (g .bytes) (spots from) a)))
-    (root-agree f r _ u) (proof-agree (s .sector) f r (vol .disk) (g .bytes) (spots from) (a .first) (a .len) v)
+success-alike : (s : Setting) (vol : Volume) (f r : Spot → List ℕ) (w : Plan) (p : Progress) (asked : Bool) (l : List Spot) (op : Op) (a : Args)
+    (stage : List ℕ) → every (agree f r) (parentSpots s p) ≡ true → every (agree f r) l ≡ true
+    → successBytes s (withWay kept vol) f w p asked l op a stage ≡ successBytes s (withWay worked vol) r w p asked l op a stage
+unfolding successBytes runningPair withWay
+success-alike s vol f r w p asked l op a stage u v =
+    ap₂ (λ (x y : List ℕ). recordBytes 0 (w .cost) (record { size = p .size; root = x }) (w .hashes) (pick asked y [])
+    (outputCount op a) (pick (eqb (outputCount op a) 0) [] (outputOf (s .sector) (vol .disk) stage l a)))
+    (root-agree f r _ u) (proof-agree (s .sector) f r (vol .disk) stage l (a .first) (a .len) v)
 
 module _ (s : Setting) (vol : Volume) (t : Turn) (solid : Solid s (withWay kept vol)) (good : Good s (t .progress))
     (known : Known s (withWay kept vol) t) where
@@ -120,13 +113,15 @@ module _ (s : Setting) (vol : Volume) (t : Turn) (solid : Solid s (withWay kept 
   source-after Truncate a d r key = every-none _
   source-after Unknown a d r key = every-none _
 
-  module _ (op : Op) (a : Args) (d : List ℕ) (n : ℕ) {r : Spot → List ℕ} (passes : Passed s r (t .progress) op a n)
-      (full : op ≡ Write → length d ≡ a .len)
+  module _ (op : Op) (a : Args) (d : List ℕ) (asked : Bool) (n : ℕ) {r : Spot → List ℕ}
+      (passes : Passed s r (t .progress) op a (recordCount (s .sector) asked n op a)) (full : op ≡ Write → length d ≡ a .len)
       (run : going (s .terms) (t .progress) ≡ true) where
-    ran : Good s (ranProgress (t .progress) (cost (s .terms .head .length) (s .terms .prices) op (a .len)) n
-        (newSize (t .progress .size) op a) (after op a d .staged))
+    abbrev plan : Plan
+    plan = planFine s (t .progress) asked n op a
+
+    ran-well : Good s (ranProgress (t .progress) plan (after op a d .staged))
     unfolding after withWay
-    ran = ran-good s (withWay kept vol) (t .progress) op a n d (t .stage) (solid .lent) (not-failed s t run)
+    ran-well = ran-good s (withWay kept vol) (t .progress) asked n op a d (t .stage) (solid .lent) (not-failed s t run)
         (left-going s t run .1) passes good
 
     few-new : newSize (t .progress .size) op a ≤ length (t .progress .staged) * s .sector
@@ -143,108 +138,64 @@ module _ (s : Setting) (vol : Volume) (t : Turn) (solid : Solid s (withWay kept 
     -- the roots beside the stage's slots are right again
     staged-right : stagedRight (s .sector) (after op a d .bytes) (copies op a d) (after op a d .staged) ≡ true
     unfolding copies ranProgress
-    staged-right = rehashed-right (s .sector) _ (t .roots) _ (after op a d) (s .stagesectors) _ _ wrote (solid .lent .few) (ran .orderly .staged)
+    staged-right = rehashed-right (s .sector) _ (t .roots) _ (after op a d) (s .stagesectors) _ _ wrote (solid .lent .few) (ran-well .orderly .staged)
         (known .kept) (known .stage)
 
     parent-agree : every (agree (rootOf s (withWay kept vol) (after op a d .bytes) (copies op a d))
         (rootOf s (withWay worked vol) (after op a d .bytes) (copies op a d)))
-        (parentSpots s (withStaged (withRunning (t .progress) (newSize (t .progress .size) op a)) (after op a d .staged))) ≡ true
-    unfolding parentSpots parent withWay withStaged withRunning ranProgress
+        (parentSpots s (ranProgress (t .progress) plan (after op a d .staged))) ≡ true
+    unfolding parentSpots parent withWay ranProgress
     parent-agree =
-        all-parent s (withWay kept vol) (ranProgress (t .progress) (cost (s .terms .head .length) (s .terms .prices) op (a .len)) n
-        (newSize (t .progress .size) op a) (after op a d .staged)) solid (ran .orderly .staged)
-        (few-sectors s _ (solid .lent) ran) (ran .entries) (known .shaped) _ (known-disk s vol (after op a d .bytes) (copies op a d) disk-known)
+        all-parent s (withWay kept vol) (ranProgress (t .progress) plan (after op a d .staged)) solid (ran-well .orderly .staged)
+        (few-sectors s _ (solid .lent) ran-well) (ran-well .entries) (known .shaped) _ (known-disk s vol (after op a d .bytes) (copies op a d) disk-known)
         (known-stage s vol (after op a d .bytes) (copies op a d) (after op a d .staged) staged-right)
 
-    succeeding-alike : (asked : Bool) → succeeding s (withWay kept vol) asked op a d t ≡ succeeding s (withWay worked vol) asked op a d t
+    succeeding-alike : (l : List Spot)
+        → every (agree (rootOf s (withWay kept vol) (after op a d .bytes) (copies op a d))
+        (rootOf s (withWay worked vol) (after op a d .bytes) (copies op a d))) l ≡ true
+        → succeeding s (withWay kept vol) plan asked l op a d t ≡ succeeding s (withWay worked vol) plan asked l op a d t
     unfolding succeeding after copies parent withWay
-    succeeding-alike asked =
-        let made : Source → List ℕ → Turn = λ from b. record {
-          progress = ranProgress (t .progress) (cost (s .terms .head .length) (s .terms .prices) op (a .len)) (recordCount (s .sector) asked (length (spots from)) op a)
-              (newSize (t .progress .size) op a) (after op a d .staged);
+    succeeding-alike l u =
+        ap (λ (b : List ℕ). record {
+          progress = ranProgress (t .progress) plan (after op a d .staged);
           stage = after op a d .bytes;
-          output = put (t .output) (t .progress .written) b;
           roots = copies op a d;
-        } in
-        let bytes : Way → Source → List ℕ = λ way from. successBytes s (withWay way vol) (rootOf s (withWay way vol) (after op a d .bytes) (copies op a d))
-        (t .progress) asked from op a
-        (cost (s .terms .head .length) (s .terms .prices) op (a .len)) (newSize (t .progress .size) op a) (after op a d) in
-        let from : Source = sourceOf s (rootAt s (withWay kept vol) t) (t .progress) op (a .key) in
-        ap (made from) (success-alike s vol _ _ (t .progress) asked from op a _ _ (after op a d) parent-agree
-        (source-after op a d (rootAt s (withWay kept vol) t) (a .key)))
-        ∙ ap (λ (x : Source). made x (bytes worked x)) (source-same op (a .key))
+          bytes = b;
+        }) (success-alike s vol _ _ plan _ asked l op a (after op a d .bytes) parent-agree u)
 
-    known-ran : (asked : Bool) → Known s (withWay kept vol) (succeeding s (withWay kept vol) asked op a d t)
-    unfolding succeeding ranProgress after copies
-    known-ran asked = record { disk = known .disk; stage = staged-right; kept = rehashed-length (s .sector) _ _ (t .roots) ∙ known .kept; shaped = known .shaped }
+    known-ran : (l : List Spot) → Known s (withWay kept vol) (turned t (succeeding s (withWay kept vol) plan asked l op a d t))
+    unfolding turned succeeding ranProgress after copies
+    known-ran l = record { disk = known .disk; stage = staged-right; kept = rehashed-length (s .sector) _ _ (t .roots) ∙ known .kept; shaped = known .shaped }
 
-  known-failing : (n : ℕ) → Known s (withWay kept vol) (failing s (withWay kept vol) n t)
-  unfolding failing failedProgress
+  known-failing : (n : ℕ) → Known s (withWay kept vol) (turned t (failing s (withWay kept vol) n t))
+  unfolding turned failing failedProgress
   known-failing n = record { disk = known .disk; stage = known .stage; kept = known .kept; shaped = known .shaped }
 
   -- one instruction, whichever it is: the kept roots give what document 01 says
   pub stepped-alike : (i : Instruction) (l : List (List ℕ)) → going (s .terms) (t .progress) ≡ true → stepped s (withWay kept vol) i l t
       ≡ stepped s (withWay worked vol) i l t
-  unfolding stepped
   stepped-alike i l run =
-      let n = judged s (rootAt s (withWay kept vol) t) (t .progress) i l in
-      let m = judged s (rootAt s (withWay worked vol) t) (t .progress) i l in
-      let e : judged s (rootAt s (withWay kept vol) t) (t .progress) i l
-      ≡ judged s (rootAt s (withWay worked vol) t) (t .progress) i l =
-      judged-alike s _ _ (t .progress) i l now-agree in
-      by (eqb (judged s (rootAt s (withWay kept vol) t) (t .progress) i l) 0)
-      (λ u. picks (eqb (judged s (rootAt s (withWay kept vol) t) (t .progress) i l) 0) _ _ u
-      ∙ succeeding-alike (opOf (i .name)) (argsOf (opOf (i .name)) l) (dataIn l) _ (passed s _ (t .progress) i l (eqb-true _ _ u))
-      (args-full (opOf (i .name)) l) run (i .proof)
-      ∙ sym (picks (eqb (judged s (rootAt s (withWay worked vol) t) (t .progress) i l) 0) _ _ (ap (λ (x : ℕ). eqb x 0) (sym e) ∙ u)))
-      (λ u. skips (eqb (judged s (rootAt s (withWay kept vol) t) (t .progress) i l) 0) _ _ u
-      ∙ failing-alike s vol _ t disk-known
-      ∙ ap (λ (x : ℕ). failing s (withWay worked vol) x t) e
-      ∙ sym (skips (eqb (judged s (rootAt s (withWay worked vol) t) (t .progress) i l) 0) _ _ (ap (λ (x : ℕ). eqb x 0) (sym e) ∙ u)))
-
-  -- and its record is document 01's
-  pub record-alike : (i : Instruction) (l : List (List ℕ)) → going (s .terms) (t .progress) ≡ true → recordOf s (withWay kept vol) i l t
-      ≡ recordOf s (withWay worked vol) i l t
-  unfolding recordOf after copies parent withWay
-  record-alike i l run =
-      let op : Op = opOf (i .name) in
-      let a : Args = argsOf (opOf (i .name)) l in
-      let e : judged s (rootAt s (withWay kept vol) t) (t .progress) i l
-      ≡ judged s (rootAt s (withWay worked vol) t) (t .progress) i l =
-      judged-alike s _ _ (t .progress) i l now-agree in
-      let bytes : Way → Source → List ℕ = λ way from. successBytes s (withWay way vol)
-      (rootOf s (withWay way vol) (after (opOf (i .name)) (argsOf (opOf (i .name)) l) (dataIn l) .bytes)
-      (copies (opOf (i .name)) (argsOf (opOf (i .name)) l) (dataIn l)))
-      (t .progress) (i .proof) from
-      (opOf (i .name)) (argsOf (opOf (i .name)) l) (cost (s .terms .head .length) (s .terms .prices) (opOf (i .name))
-      (argsOf (opOf (i .name)) l .len)) (newSize (t .progress .size) (opOf (i .name)) (argsOf (opOf (i .name)) l))
-      (after (opOf (i .name)) (argsOf (opOf (i .name)) l) (dataIn l)) in
-      by (eqb (judged s (rootAt s (withWay kept vol) t) (t .progress) i l) 0)
-      (λ u. picks (eqb (judged s (rootAt s (withWay kept vol) t) (t .progress) i l) 0) _ _ u
-      ∙ success-alike s vol _ _ (t .progress) (i .proof) _ (opOf (i .name)) (argsOf (opOf (i .name)) l) _ _
-      (after (opOf (i .name)) (argsOf (opOf (i .name)) l) (dataIn l))
-      (parent-agree (opOf (i .name)) (argsOf (opOf (i .name)) l) (dataIn l) _ (passed s _ (t .progress) i l (eqb-true _ _ u))
-      (args-full (opOf (i .name)) l) run)
-      (source-after (opOf (i .name)) (argsOf (opOf (i .name)) l) (dataIn l) (rootAt s (withWay kept vol) t) (argsOf (opOf (i .name)) l .key))
-      ∙ ap (bytes worked) (source-same (opOf (i .name)) (argsOf (opOf (i .name)) l .key))
-      ∙ sym (picks (eqb (judged s (rootAt s (withWay worked vol) t) (t .progress) i l) 0) _ _ (ap (λ (x : ℕ). eqb x 0) (sym e) ∙ u)))
-      (λ u. skips (eqb (judged s (rootAt s (withWay kept vol) t) (t .progress) i l) 0) _ _ u
-      ∙ failure-alike s vol _ disk-known
-      ∙ ap (failureBytes s (withWay worked vol)) e
-      ∙ sym (skips (eqb (judged s (rootAt s (withWay worked vol) t) (t .progress) i l) 0) _ _ (ap (λ (x : ℕ). eqb x 0) (sym e) ∙ u)))
+      let op = opOf (i .name) in
+      let a = argsOf (opOf (i .name)) l in
+      let e = judged-alike s _ _ (t .progress) i l now-agree in
+      stepped-either s (withWay kept vol) i l t (λ x. x ≡ stepped s (withWay worked vol) i l t)
+      (λ u. succeeding-alike op a (dataIn l) (i .proof) _ (can s (rootAt s (withWay kept vol) t) (t .progress) i l u .passed) (args-full op l) run _
+      (source-after op a (dataIn l) (rootAt s (withWay kept vol) t) (a .key))
+      ∙ ap (λ (x : Source). succeeding s (withWay worked vol) (planFine s (t .progress) (i .proof) (length (spots x)) op a) (i .proof) (spots x) op a (dataIn l) t)
+      (source-same op (a .key))
+      ∙ sym (stepped-ran s (withWay worked vol) i l t (sym e ∙ u)))
+      (λ u. failing-alike s vol _ t disk-known
+      ∙ ap (λ (n : ℕ). failing s (withWay worked vol) n t) e
+      ∙ sym (stepped-failed s (withWay worked vol) i l t (λ q. u (e ∙ q))))
 
   -- and it leaves roots that are right
   pub stepped-known : (i : Instruction) (l : List (List ℕ)) → going (s .terms) (t .progress) ≡ true
-      → Known s (withWay kept vol) (stepped s (withWay kept vol) i l t)
-  unfolding stepped
+      → Known s (withWay kept vol) (turned t (stepped s (withWay kept vol) i l t))
   stepped-known i l run =
-      by (eqb (judged s (rootAt s (withWay kept vol) t) (t .progress) i l) 0)
-      (λ u. subst (λ (x : Turn). Known s (withWay kept vol) x)
-      (sym (picks (eqb (judged s (rootAt s (withWay kept vol) t) (t .progress) i l) 0) _ _ u))
-      (known-ran (opOf (i .name)) (argsOf (opOf (i .name)) l) (dataIn l) _ (passed s _ (t .progress) i l (eqb-true _ _ u))
-      (args-full (opOf (i .name)) l) run (i .proof)))
-      (λ u. subst (λ (x : Turn). Known s (withWay kept vol) x)
-      (sym (skips (eqb (judged s (rootAt s (withWay kept vol) t) (t .progress) i l) 0) _ _ u)) (known-failing _))
+      stepped-either s (withWay kept vol) i l t (λ x. Known s (withWay kept vol) (turned t x))
+      (λ u. known-ran (opOf (i .name)) (argsOf (opOf (i .name)) l) (dataIn l) (i .proof) _
+      (can s (rootAt s (withWay kept vol) t) (t .progress) i l u .passed) (args-full (opOf (i .name)) l) run _)
+      (λ _. known-failing _)
 
 -- ---- a run
 
@@ -252,7 +203,7 @@ module _ (s : Setting) (vol : Volume) (solid : Solid s (withWay kept vol)) (a : 
   step-alike : (t : Turn) → Good s (t .progress) → Known s (withWay kept vol) t → going (s .terms) (t .progress) ≡ true
       → step s (withWay kept vol) a t ≡ step s (withWay worked vol) a t
   unfolding step current withWay
-  step-alike t g q h = stepped-alike s vol t solid g q (current s t) (inputsOf (current s t) a) h
+  step-alike t g q h = ap (turned t) (stepped-alike s vol t solid g q (current s t) (inputsOf (current s t) a) h)
 
   step-known : (t : Turn) → Good s (t .progress) → Known s (withWay kept vol) t → going (s .terms) (t .progress) ≡ true
       → Known s (withWay kept vol) (step s (withWay kept vol) a t)
@@ -261,7 +212,7 @@ module _ (s : Setting) (vol : Volume) (solid : Solid s (withWay kept vol)) (a : 
 
   step-good : (t : Turn) → Good s (t .progress) → going (s .terms) (t .progress) ≡ true
       → Good s (step s (withWay kept vol) a t .progress)
-  unfolding step withWay
+  unfolding step turned withWay
   step-good t g h = stepped-good s (withWay kept vol) _ _ t (solid .lent) h g
 
   pub runs-alike : (n : ℕ) (t : Turn) → Good s (t .progress) → Known s (withWay kept vol) t → runs s (withWay kept vol) a k n t
@@ -280,7 +231,7 @@ module _ (s : Setting) (vol : Volume) (solid : Solid s (withWay kept vol)) (a : 
   recorded-alike : (t : Turn) → Good s (t .progress) → Known s (withWay kept vol) t → going (s .terms) (t .progress) ≡ true
       → recorded s (withWay kept vol) a t ≡ recorded s (withWay worked vol) a t
   unfolding recorded current withWay
-  recorded-alike t g q h = record-alike s vol t solid g q (current s t) (inputsOf (current s t) a) h
+  recorded-alike t g q h = ap (λ (x : Stepped). x .bytes) (stepped-alike s vol t solid g q (current s t) (inputsOf (current s t) a) h)
 
   pub trail-alike : (n : ℕ) (t : Turn) → Good s (t .progress) → Known s (withWay kept vol) t → trail s (withWay kept vol) a k n t
       ≡ trail s (withWay worked vol) a k n t

@@ -6,7 +6,6 @@ use Rattle.machine_rules.specs.Plan.{fitted, weighed, badSpans, badProof, cost}
 use Rattle.machine_plan.proofs.Laws.Numbers.{charged}
 use Rattle.machine_plan.proofs.Laws.Weighed.{provable}
 use Rattle.machine_plan.proofs.judge.weighed.Statement.{statement}
-
 use Rattle.machine_plan.proofs.judge.weighed.Tie as tie
 
 -- ---- what the calls gave, in the definitions' words
