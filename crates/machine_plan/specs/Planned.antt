@@ -24,7 +24,7 @@ use Rattle.machine_plan.specs.declared.Task.{Task}
 -- what a plan asks: the numbers of a host in order, and what its look-up asks
 pub record Plans (s : Setting) (p : Progress) (diskroots stageroots : List ℕ) : Type 0 where
   pub lent : Lent s
-  pub sources : Sources (s .sector) diskroots stageroots (s .places) (s .terms .head .contract) p
+  pub sources : Sources s diskroots stageroots p
 
 -- a plan and what goes with it: of what is read, the sectors
 pub record Said : Type 0 where

@@ -4,9 +4,7 @@ use crate::judge::refused;
 use crate::judge::weighed;
 use crate::lookup::no_sectors;
 use crate::lookup::source_of;
-use host::Place;
 use host::Progress;
-use host::Terms;
 use machine_inputs::decoded;
 use machine_inputs::ill_formed;
 use machine_inputs::kind;
@@ -14,15 +12,14 @@ use machine_inputs::no_args;
 use machine_inputs::past_end;
 use machine_rules::Args;
 use machine_rules::Plan;
+use machine_rules::Setting;
 use sia::Instruction;
 use sia::Op;
 ghost use mathlib.Core.Path.{_≡_};
-ghost use mathlib.Core.List.{[]};
 ghost use lib.ListN.{length};
 ghost use Rattle.lists.specs.Pick.{both};
 ghost use Rattle.area.specs.Area.{same};
 ghost use Rattle.sia.specs.Names.{readOnly};
-ghost use Rattle.machine_rules.specs.View.{setting};
 ghost use Rattle.machine_rules.specs.Roots.{keptRoot};
 ghost use Rattle.machine_rules.specs.Kinds.{changes};
 ghost use Rattle.machine_rules.specs.Facts.{Good};
@@ -58,11 +55,7 @@ fn changes_nothing(op: Op, id: [u8; 32]) -> bool
 
 // 24 to 42, of arguments that are told.
 fn argued<'a>(
-    z: u64,
-    sectors: u64,
-    copies: u64,
-    places: [Place; 8],
-    terms: Terms,
+    setting: Setting,
     p: Progress,
     asked: bool,
     op: Op,
@@ -71,24 +64,25 @@ fn argued<'a>(
     diskroots: &'a [u8],
     stageroots: &'a [u8],
 ) -> Task
-    requires { ⌜ Plans z (setting sectors copies places terms [] []) p (now diskroots) (now stageroots) ⌝ }
-    requires { ⌜ Good z (setting sectors copies places terms [] []) p ⌝ }
-    ensures { λ r. ⌜ said r ≡ argued z (setting sectors copies places terms [] []) (keptRoot (now (diskroots .entry)) (now (stageroots .entry))) p
+    requires { ⌜ Plans setting p (now diskroots) (now stageroots) ⌝ }
+    requires { ⌜ Good setting p ⌝ }
+    ensures { λ r. ⌜ said r ≡ argued setting (keptRoot (now (diskroots .entry)) (now (stageroots .entry))) p
         asked op args from ⌝ }
 {
+    let terms = setting.terms;
     let head = terms.head;
     let id = head.contract;
     if changes_nothing(op, id) {
         return Task::failed(op, refused(24));
     }
     let key = args.key;
-    let source = source_of(z, diskroots, stageroots, places, id, p, op, key);
+    let source = source_of(setting, diskroots, stageroots, p, op, key);
     if !source.there {
         return Task::failed(op, refused(25));
     }
     let seen = source.seen;
     let count = seen.count as u64;
-    let plan = weighed(z, sectors, copies, places, terms, p, asked, op, args, count);
+    let plan = weighed(setting, p, asked, op, args, count);
     if plan.number != 0 {
         return Task::failed(op, plan);
     }
@@ -103,28 +97,25 @@ fn argued<'a>(
 
 // Whether an instruction can run, and what it costs and changes then. `input` is the input area, of the declared length.
 pub fn planned<'a>(
-    z: u64,
-    sectors: u64,
-    copies: u64,
-    places: [Place; 8],
-    terms: Terms,
+    setting: Setting,
     p: Progress,
     i: Instruction,
     diskroots: &'a [u8],
     stageroots: &'a [u8],
     input: &[u8],
 ) -> Task
-    requires { ⌜ Plans z (setting sectors copies places terms [] []) p (now diskroots) (now stageroots) ⌝ }
-    requires { ⌜ Good z (setting sectors copies places terms [] []) p ⌝ }
-    requires { ⌜ length (now input) ≡ terms .head .length ⌝ }
+    requires { ⌜ Plans setting p (now diskroots) (now stageroots) ⌝ }
+    requires { ⌜ Good setting p ⌝ }
+    requires { ⌜ length (now input) ≡ setting .terms .head .length ⌝ }
     ensures { λ r. ⌜ said r ≡
-        planOf z (setting sectors copies places terms [] []) (keptRoot (now (diskroots .entry)) (now (stageroots .entry))) p i (now (input .entry)) ⌝ }
+        planOf setting (keptRoot (now (diskroots .entry)) (now (stageroots .entry))) p i (now (input .entry)) ⌝ }
 {
     let name = i.name;
     let op = sia::op_of(name);
     if ill_formed(i) {
         return Task::failed(op, refused(21));
     }
+    let terms = setting.terms;
     let head = terms.head;
     if past_end(head.length, i) {
         return Task::failed(op, refused(22));
@@ -135,11 +126,7 @@ pub fn planned<'a>(
     }
     let args = given.args;
     argued(
-        z,
-        sectors,
-        copies,
-        places,
-        terms,
+        setting,
         p,
         i.proof,
         op,

@@ -7,20 +7,17 @@ use crate::room::too_few;
 use crate::spans::bad_proof;
 use crate::spans::bad_spans;
 use crate::sums::record_above;
-use host::Place;
 use host::Progress;
-use host::Terms;
 use machine_inputs::above;
 use machine_rules::Args;
 use machine_rules::Plan;
+use machine_rules::Setting;
 use sia::Op;
 ghost use mathlib.Core.Path.{_≡_};
 ghost use mathlib.Core.Bool.{true};
-ghost use mathlib.Core.List.{[]};
 ghost use Prim.Native.Nat.{_≤_};
 ghost use Rattle.lists.specs.Pick.{both};
-ghost use Rattle.area.specs.Slots.{Size};
-ghost use Rattle.machine_rules.specs.View.{setting};
+ghost use Rattle.machine_rules.specs.Facts.{Lent};
 ghost use Rattle.machine_rules.specs.Plan.{badProof};
 ghost use Rattle.machine_sight.specs.Seen.{Ranged};
 ghost use Rattle.machine_rules.specs.Plan as Says;
@@ -50,11 +47,7 @@ fn asked_badly(asked: bool, op: Op, args: Args) -> bool
 
 // 40 to 42 of an instruction that costs so much; where it can run, its cost, the new size, its hashes and the record's length.
 fn fitted(
-    z: u64,
-    sectors: u64,
-    copies: u64,
-    places: [Place; 8],
-    terms: Terms,
+    setting: Setting,
     p: Progress,
     asked: bool,
     op: Op,
@@ -62,19 +55,22 @@ fn fitted(
     seen: u64,
     cost: u64,
 ) -> Plan
-    requires { ⌜ Size z ⌝ }
-    requires { ⌜ sectors ≤ 64 ⌝ }
+    requires { ⌜ Lent setting ⌝ }
     requires { ⌜ seen ≤ 64 ⌝ }
-    requires { ⌜ terms .room ≤ 65536 ⌝ }
-    requires { ⌜ (asked ≡ true → Ranged z seen (args .first) (args .len)) ⌝ }
-    ensures { λ r. ⌜ r ≡ Says.fitted z (setting sectors copies places terms [] []) p asked seen op args cost ⌝ }
+    requires { ⌜ setting .terms .room ≤ 65536 ⌝ }
+    requires { ⌜ (asked ≡ true → Ranged (setting .sector) seen (args .first) (args .len)) ⌝ }
+    ensures { λ r. ⌜ r ≡ Says.fitted setting p asked seen op args cost ⌝ }
 {
-    if too_few(z, copies, p, op, args) {
+    let z = setting.sector;
+    if too_few(z, setting.stagesectors, p, op, args) {
         return refused(40);
     }
+    let terms = setting.terms;
     let head = terms.head;
     let id = head.contract;
     let size = new_size(p.size, op, args);
+    let places = setting.places;
+    let sectors = setting.disksectors;
     if !host::sizes_fit(places, id, size, sectors * z) {
         return refused(41);
     }
@@ -94,48 +90,25 @@ fn fitted(
 }
 
 // 26 to 42. `seen` is the number of the sectors that are read.
-pub fn weighed(
-    z: u64,
-    sectors: u64,
-    copies: u64,
-    places: [Place; 8],
-    terms: Terms,
-    p: Progress,
-    asked: bool,
-    op: Op,
-    args: Args,
-    seen: u64,
-) -> Plan
-    requires { ⌜ Size z ⌝ }
-    requires { ⌜ sectors ≤ 64 ⌝ }
+pub fn weighed(setting: Setting, p: Progress, asked: bool, op: Op, args: Args, seen: u64) -> Plan
+    requires { ⌜ Lent setting ⌝ }
     requires { ⌜ seen ≤ 64 ⌝ }
-    requires { ⌜ terms .head .length ≤ 65536 ⌝ }
-    requires { ⌜ terms .room ≤ 65536 ⌝ }
-    ensures { λ r. ⌜ r ≡ Says.weighed z (setting sectors copies places terms [] []) p asked seen op args ⌝ }
+    requires { ⌜ setting .terms .head .length ≤ 65536 ⌝ }
+    requires { ⌜ setting .terms .room ≤ 65536 ⌝ }
+    ensures { λ r. ⌜ r ≡ Says.weighed setting p asked seen op args ⌝ }
 {
-    if bad_spans(z, p.size, seen, op, args) {
+    if bad_spans(setting.sector, p.size, seen, op, args) {
         return refused(26);
     }
     if asked_badly(asked, op, args) {
         return refused(27);
     }
+    let terms = setting.terms;
     let head = terms.head;
     let prices = terms.prices;
     let cost = cost(head.length, prices, op, args.len);
     if above(terms.budget, p.tally, cost) {
         return refused(28);
     }
-    fitted(
-        z,
-        sectors,
-        copies,
-        places,
-        terms,
-        p,
-        asked,
-        op,
-        args,
-        seen,
-        cost,
-    )
+    fitted(setting, p, asked, op, args, seen, cost)
 }

@@ -1,7 +1,7 @@
 // Check 25: what is read.
 use crate::Source;
-use host::Place;
 use host::Progress;
+use machine_rules::Setting;
 use machine_rules::Sought;
 use machine_sight::Seen;
 use sia::Op;
@@ -15,7 +15,7 @@ ghost use Rattle.machine_rules.specs.Roots.{keptRoot};
 ghost use Rattle.machine_rules.specs.Plan.{contractSource, sectorSource, sourceOf, missing};
 ghost use Rattle.machine_rules.specs.Plan as Says;
 ghost use Rattle.machine_sight.specs.Seen.{spotsOf};
-ghost use Rattle.machine_plan.specs.Source.{looking, Sources, Shows};
+ghost use Rattle.machine_plan.specs.Source.{Sources, Shows};
 
 // No sectors.
 pub fn no_sectors() -> Seen
@@ -49,15 +49,20 @@ impl Source {
 }
 
 // Read: the parent as it is now, another contract as committed.
-fn contract_source(z: u64, places: [Place; 8], id: [u8; 32], p: Progress, key: [u8; 32]) -> Source
-    requires { ⌜ Size z ⌝ }
-    requires { ⌜ every (placeInOrder z) places ≡ true ⌝ }
-    ensures { λ r. ⌜ Shows r (contractSource z (looking places id) p key) ⌝ }
+fn contract_source(setting: Setting, p: Progress, key: [u8; 32]) -> Source
+    requires { ⌜ Size (setting .sector) ⌝ }
+    requires { ⌜ every (placeInOrder (setting .sector)) (setting .places) ≡ true ⌝ }
+    ensures { λ r. ⌜ Shows r (contractSource setting p key) ⌝ }
 {
+    let z = setting.sector;
+    let places = setting.places;
     let other = host::place_of(places, key);
     if !other.held {
         return Source::missing();
     }
+    let terms = setting.terms;
+    let head = terms.head;
+    let id = head.contract;
     if sia::same_id(key, id) {
         let staged = p.staged;
         let seen = machine_sight::parent_seen(z, other, staged, p.size);
@@ -69,17 +74,20 @@ fn contract_source(z: u64, places: [Place; 8], id: [u8; 32], p: Progress, key: [
 
 // ReadSector: the sector that has that root, of the parent as it is now, or else of another contract.
 fn sector_source<'a>(
-    z: u64,
+    setting: Setting,
     diskroots: &'a [u8],
     stageroots: &'a [u8],
-    places: [Place; 8],
-    id: [u8; 32],
     p: Progress,
     key: [u8; 32],
 ) -> Source
-    requires { ⌜ Sources z (now diskroots) (now stageroots) places id p ⌝ }
-    ensures { λ r. ⌜ Shows r (sectorSource z (looking places id) (keptRoot (now (diskroots .entry)) (now (stageroots .entry))) p key) ⌝ }
+    requires { ⌜ Sources setting (now diskroots) (now stageroots) p ⌝ }
+    ensures { λ r. ⌜ Shows r (sectorSource setting (keptRoot (now (diskroots .entry)) (now (stageroots .entry))) p key) ⌝ }
 {
+    let z = setting.sector;
+    let places = setting.places;
+    let terms = setting.terms;
+    let head = terms.head;
+    let id = head.contract;
     let staged = p.staged;
     let found = machine_sight::find_for(z, diskroots, stageroots, places, id, staged, p.size, key);
     let Sought::At(seat) = found else {
@@ -90,23 +98,21 @@ fn sector_source<'a>(
     Source { there: true, seen }
 }
 
-// What an instruction reads; `id` is the program's own contract. Where nothing is found it is not there.
+// What an instruction reads. Where nothing is found it is not there.
 pub fn source_of<'a>(
-    z: u64,
+    setting: Setting,
     diskroots: &'a [u8],
     stageroots: &'a [u8],
-    places: [Place; 8],
-    id: [u8; 32],
     p: Progress,
     op: Op,
     key: [u8; 32],
 ) -> Source
-    requires { ⌜ Sources z (now diskroots) (now stageroots) places id p ⌝ }
-    ensures { λ r. ⌜ Shows r (sourceOf z (looking places id) (keptRoot (now (diskroots .entry)) (now (stageroots .entry))) p op key) ⌝ }
+    requires { ⌜ Sources setting (now diskroots) (now stageroots) p ⌝ }
+    ensures { λ r. ⌜ Shows r (sourceOf setting (keptRoot (now (diskroots .entry)) (now (stageroots .entry))) p op key) ⌝ }
 {
     match op {
-        Op::Read => contract_source(z, places, id, p, key),
-        Op::ReadSector => sector_source(z, diskroots, stageroots, places, id, p, key),
+        Op::Read => contract_source(setting, p, key),
+        Op::ReadSector => sector_source(setting, diskroots, stageroots, p, key),
         Op::Write => Source::nothing(),
         Op::Copy => Source::nothing(),
         Op::Swap => Source::nothing(),

@@ -37,13 +37,13 @@ unfolding every
 slots-hold z area m [] e h = refl
 slots-hold z area m (x ∷ xs) e h = both-join _ _ (below z area m x e (both-left _ _ h)) (slots-hold z area m xs e (both-right _ _ h))
 
-module _ (s : Setting) (disk stage : List ℕ) (d : s .disksectors * s .sector ≤ length disk) (e : s .stagesectors * s .sector ≤ length stage) where
-  pub valid-lies : (x : Spot) → valid s x ≡ true → lies (s .sector) disk stage x ≡ true
+module _ (z : ℕ) (s : Setting) (disk stage : List ℕ) (d : s .disksectors * z ≤ length disk) (e : s .stagesectors * z ≤ length stage) where
+  pub valid-lies : (x : Spot) → valid s x ≡ true → lies z disk stage x ≡ true
   unfolding valid lies
-  valid-lies (OnDisk n) h = below (s .sector) disk (s .disksectors) n d h
-  valid-lies (InStage n) h = below (s .sector) stage (s .stagesectors) n e h
+  valid-lies (OnDisk n) h = below z disk (s .disksectors) n d h
+  valid-lies (InStage n) h = below z stage (s .stagesectors) n e h
 
-  pub every-lies : (l : List Spot) → every (valid s) l ≡ true → every (lies (s .sector) disk stage) l ≡ true
+  pub every-lies : (l : List Spot) → every (valid s) l ≡ true → every (lies z disk stage) l ≡ true
   unfolding every
   every-lies [] h = refl
   every-lies (x ∷ xs) h = both-join _ _ (valid-lies x (both-left _ _ h)) (every-lies xs (both-right _ _ h))
@@ -52,7 +52,7 @@ module _ (s : Setting) (v : Seen) (l : List Spot) (q : spotsOf v ≡ l) (few : l
   seen-few : v .count ≤ 64
   seen-few = omega (arith, seen-count v, ap length q)
 
-  pub seen-valid : (z : ℕ) (disk stage : List ℕ) → Size z → s .sectors * z ≤ length disk → s .copies * z ≤ length stage
+  pub seen-valid : (z : ℕ) (disk stage : List ℕ) → Size z → s .disksectors * z ≤ length disk → s .stagesectors * z ≤ length stage
       → Lies z disk stage v
   seen-valid z disk stage size d e = record {
     size = size;
@@ -60,7 +60,7 @@ module _ (s : Setting) (v : Seen) (l : List Spot) (q : spotsOf v ≡ l) (few : l
     spots = ap (every (lies z disk stage)) q ∙ every-lies z s disk stage d e l h;
   }
 
-  pub seen-known : (diskroots stageroots : List ℕ) → s .sectors * 32 ≤ length diskroots → s .copies * 32 ≤ length stageroots
+  pub seen-known : (diskroots stageroots : List ℕ) → s .disksectors * 32 ≤ length diskroots → s .stagesectors * 32 ≤ length stageroots
       → Known diskroots stageroots v
   seen-known diskroots stageroots d e = record {
     few = seen-few;

@@ -5,7 +5,6 @@ use Rattle.lists.specs.Tests.{every}
 use Rattle.lists.proofs.Laws.Pick.{yes, no, both-left}
 use Rattle.area.specs.Area.{same}
 use Rattle.area.proofs.Laws.Same.{same-eq}
-use Rattle.sia.specs.Names.{readOnly}
 use Rattle.host.specs.Places.{hasId, whose}
 use Rattle.machine_rules.specs.View.{readOnlyMode, parent, parentSpots, committedSpots}
 use Rattle.machine_rules.specs.declared.Setting.{Setting}
@@ -15,8 +14,7 @@ use Rattle.machine_rules.specs.Plan.{missing, seen, spots, isThere, contractSou
 use Rattle.machine_rules.proofs.Laws.Spots.{program-every, sought-every}
 use Rattle.machine_rules.specs.Plan as Says
 use Rattle.machine_sight.specs.Seen.{spotsOf, holds, lies}
-use Rattle.machine_sight.specs.Lookup.{Narrow, ownSpots}
-use Rattle.host.specs.declared.Place.{Place}
+use Rattle.machine_sight.specs.Lookup.{Narrow}
 use Rattle.host.specs.declared.Progress.{Progress}
 use Rattle.machine_rules.specs.declared.Spot.{Spot}
 use Rattle.machine_rules.specs.declared.Spot.the-variants.{OnDisk, InStage}
@@ -24,7 +22,7 @@ use Rattle.machine_rules.specs.declared.Seat.{Seat}
 use Rattle.machine_rules.specs.declared.Sought.{Sought}
 use Rattle.machine_rules.specs.declared.Sought.the-variants.{At, Nowhere}
 use Rattle.machine_sight.specs.declared.Seen.{Seen}
-use Rattle.machine_plan.specs.Source.{looking, Sources, Shows}
+use Rattle.machine_plan.specs.Source.{Sources, Shows}
 use Rattle.machine_plan.specs.declared.Source.{Source}
 
 pub shows-as : (r : Source) (x y : Says.Source) → x ≡ y → Shows r x → Shows r y
@@ -68,37 +66,31 @@ unfolding lies holds
 narrow diskroots stageroots (OnDisk n) d e h = omega (arith, d, leb-true (n * 32 + 32) (length diskroots) h)
 narrow diskroots stageroots (InStage n) d e h = omega (arith, e, leb-true (n * 32 + 32) (length stageroots) h)
 
-module _ (z : ℕ) (diskroots stageroots : List ℕ) (ps : List Place) (id : List ℕ) (p : Progress) (a : Sources z diskroots stageroots ps id p)
-    (key : List ℕ) where
-  abbrev bare : Setting
-  bare = looking ps id
-
+module _ (s : Setting) (diskroots stageroots : List ℕ) (p : Progress) (a : Sources s diskroots stageroots p) (key : List ℕ) where
   abbrev f : Spot → List ℕ
   f = keptRoot diskroots stageroots
 
-  abbrev own : List Spot
-  own = ownSpots z ps id (p .staged) (p .size)
-
   -- what the look-up comes to is the source
-  module _ {r : Sought} (e : r ≡ firstSeat f key (pick (same id readOnly) (allSeats z ps) (seats z (hasId id) own ps))) where
-    pub source-is : soughtSource r ≡ sectorSource z bare f p key
-    unfolding sectorSource seatsOf readOnlyMode parentSpots parent
+  module _ {r : Sought} (e : r ≡ firstSeat f key (pick (readOnlyMode (s .terms)) (allSeats (s .sector) (s .places))
+      (seats (s .sector) (hasId (s .terms .head .contract)) (parentSpots s p) (s .places)))) where
+    source-is : soughtSource r ≡ sectorSource s f p key
+    unfolding sectorSource seatsOf
     source-is = ap soughtSource e
 
     -- and the sector that is found is in a slot that a byte names
     pub sought-narrow : (x : Seat) → r ≡ At x → Narrow (x .spot)
-    unfolding soughtSource spots every lies seatsOf readOnlyMode parentSpots parent
+    unfolding soughtSource spots every lies seatsOf parentSpots parent
     sought-narrow x q =
-        let all = program-every (lies 32 diskroots stageroots) z bare p (a .seeks .own) (a .seeks .stand .slots) in
+        let all = program-every (lies 32 diskroots stageroots) s p (a .seeks .own) (a .seeks .stand .slots) in
         let one = sought-every (lies 32 diskroots stageroots) f key _ all in
         narrow diskroots stageroots (x .spot) (a .disk) (a .stage)
         (both-left _ _ (sym (ap (λ (s : Sought). every (lies 32 diskroots stageroots) (spots (soughtSource s))) (sym e ∙ q)) ∙ one))
 
     pub shows-sought : (v : Seen) (x : Seat) → r ≡ At x → spotsOf v ≡ x .spot ∷ []
-        → Shows (record { there = true; seen = v }) (sectorSource z bare f p key)
+        → Shows (record { there = true; seen = v }) (sectorSource s f p key)
     unfolding soughtSource
-    shows-sought v x q s = shows-as _ _ _ (sym (ap soughtSource q) ∙ source-is) (shows-seen v _ s)
+    shows-sought v x q one = shows-as _ _ _ (sym (ap soughtSource q) ∙ source-is) (shows-seen v _ one)
 
-    pub not-sought : (v : Source) → r ≡ Nowhere → Shows v missing → Shows v (sectorSource z bare f p key)
+    pub not-sought : (v : Source) → r ≡ Nowhere → Shows v missing → Shows v (sectorSource s f p key)
     unfolding soughtSource
-    not-sought v q s = shows-as v _ _ (sym (ap soughtSource q) ∙ source-is) s
+    not-sought v q none = shows-as v _ _ (sym (ap soughtSource q) ∙ source-is) none

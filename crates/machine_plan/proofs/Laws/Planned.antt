@@ -1,55 +1,22 @@
 -- Walking down checks 21 to 25, and on to the plan. Assumes nothing.
-use Rattle.lists.specs.Pick.{pick, both}
 use Rattle.lists.proofs.Laws.Pick.{yes, no}
 use Rattle.machine_rules.specs.declared.Args.{Args}
-use Rattle.lists.proofs.Kit.{_≡_, refl, sym, ap, _∙_, true, false, not, List, [], length, suc, ℕ, _≤_, arith, eq-eqb, ne-eqb}
+use Rattle.lists.proofs.Kit.{_≡_, refl, sym, ap, _∙_, true, false, not, List, length, suc, ℕ, _≤_, arith, eq-eqb, ne-eqb}
 use Rattle.sia.specs.Names.{opOf}
 use Rattle.sia.proofs.Laws.Limits.{within-is}
 use Rattle.host.proofs.Laws.Order.{terms-facts}
-use Rattle.machine_rules.specs.View.{readOnlyMode, freeCopies, parent, parentSpots}
 use Rattle.machine_rules.specs.declared.Setting.{Setting}
-use Rattle.machine_rules.specs.Seats.{seatsOf}
 use Rattle.machine_rules.specs.Inputs.{illFormed, pastEnd, inputsOf, wellFormed, argsOf}
-use Rattle.machine_rules.specs.Plan.{fitted, weighed, plannedArgs, plannedInputs, planned, refused, Source, isThere, spots, contractSource}
-use Rattle.machine_rules.specs.Plan.{sectorSource, sourceOf}
-use Rattle.machine_rules.specs.Kinds.{changes}
+use Rattle.machine_rules.specs.Plan.{plannedInputs, planned, refused, spots}
+use Rattle.machine_rules.specs.Plan.{sourceOf}
 use Rattle.machine_rules.specs.Facts.{Good}
 use Rattle.sia.specs.declared.Instruction.{Instruction}
 use Rattle.sia.specs.declared.Op.{Op}
-use Rattle.sia.specs.declared.Op.the-variants.{Read, ReadSector, Write, Copy, Swap, Truncate, Unknown}
 use Rattle.host.specs.declared.Progress.{Progress}
 use Rattle.machine_rules.specs.declared.Spot.{Spot}
 use Rattle.machine_inputs.specs.Given.{fromOf}
-use Rattle.machine_plan.specs.Source.{looking}
 use Rattle.machine_plan.specs.Planned.{says, failed, argued, planOf}
 use Rattle.machine_rules.specs.declared.Plan.{Plan}
-
--- ---- what is read looks at contracts and the program's id alone, and at roots by their reader
-
-pub source-same : (s : Setting) (f : Spot → List ℕ) (p : Progress) (op : Op) (key : List ℕ)
-    → sourceOf (s .sector) (looking (s .places) (s .terms .head .contract)) f p op key ≡ sourceOf s f p op key
-unfolding sourceOf contractSource parentSpots parent sectorSource seatsOf readOnlyMode
-source-same s f p Read key = refl
-source-same s f p ReadSector key = refl
-source-same s f p Write key = refl
-source-same s f p Copy key = refl
-source-same s f p Swap key = refl
-source-same s f p Truncate key = refl
-source-same s f p Unknown key = refl
-
--- neither does a plan: the setting's bytes and roots are not looked at
-pub plan-same : (s : Setting) (f : Spot → List ℕ) (p : Progress) (i : Instruction) (area : List ℕ)
-    → planOf (s .sector) (setting (s .disksectors) (s .stagesectors) (s .places) (s .terms) [] []) f p i area ≡ planOf s f p i area
-unfolding planOf planned plannedInputs plannedArgs weighed fitted freeCopies readOnlyMode
-plan-same s f p i area =
-    let op = opOf (i .name) in
-    let l = inputsOf i area in
-    let a = argsOf op l in
-    ap (λ (from : Source). says
-    (pick (illFormed i) (refused 21) (pick (pastEnd (s .terms .head .length) i) (refused 22) (pick (not (wellFormed op l)) (refused 23)
-    (pick (both (changes op) (readOnlyMode (s .terms))) (refused 24) (pick (not (isThere from)) (refused 25)
-    (weighed s p (i .proof) (length (spots from)) op a)))))) op a (fromOf op i) (spots from))
-    (sym (source-same (s .sector) (setting (s .disksectors) (s .stagesectors) (s .places) (s .terms) [] []) f p op (a .key)) ∙ source-same s f p op (a .key))
 
 -- ---- limits, from the facts of a machine in order
 

@@ -1,9 +1,8 @@
 -- `machine_plan::chain::argued` meets its contract: a walk down the definition. Assumes nothing.
-use Rattle.lists.proofs.Kit.{ap₂, _≡_, sym, ap, _∙_, refl, false, not, List, [], ℕ, arith, length, not-true, not-false, needs}
+use Rattle.lists.proofs.Kit.{ap₂, _≡_, sym, ap, _∙_, refl, false, not, List, ℕ, arith, length, not-true, not-false, needs}
 use Rattle.lists.specs.Pick.{both}
 use Rattle.lists.proofs.Laws.Pick.{yes, no}
 use Rattle.machine_rules.specs.View.{readOnlyMode}
-use Rattle.machine_rules.specs.declared.Setting.{Setting}
 use Rattle.machine_rules.specs.Roots.{keptRoot}
 use Rattle.machine_rules.specs.Plan.{plannedArgs, weighed, Source, isThere, spots, sourceOf}
 use Rattle.machine_rules.specs.Kinds.{changes}
@@ -12,35 +11,29 @@ use Rattle.machine_sight.proofs.Laws.Roots.{seen-count}
 use Rattle.machine_rules.specs.declared.Spot.{Spot}
 use Rattle.machine_plan.specs.Source.{Shows}
 use Rattle.machine_plan.specs.Planned.{says, failed, argued}
-use Rattle.machine_plan.proofs.Laws.Planned.{fails, says-can, says-failed, source-same, length-most, room-most}
+use Rattle.machine_plan.proofs.Laws.Planned.{fails, says-can, says-failed, length-most, room-most}
 use Rattle.machine_rules.proofs.Laws.Effects.{few-sectors}
-use Rattle.machine_plan.proofs.Laws.Lookup.{shows-as}
 use Rattle.machine_plan.proofs.chain.argued.Statement.{statement}
 use Rattle.machine_rules.specs.declared.Plan.{Plan}
 use Rattle.machine_plan.proofs.chain.argued.Tie as tie
 
 -- ---- what the calls gave, in the definitions' words
 
-abbrev the-set : tie.Start → Setting
-the-set s = setting (s .args .sectors) (s .args .copies) (s .args .places) (s .args .terms) [] []
-
 abbrev the-roots : tie.Start → Spot → List ℕ
 the-roots s = keptRoot (s .args .diskroots .now) (s .args .stageroots .now)
 
 abbrev the-source : tie.Start → Source
-the-source s = sourceOf (s .args .z) (the-set s) (the-roots s) (s .args .p) (s .args .op) (s .args .args .key)
+the-source s = sourceOf (s .args .setting) (the-roots s) (s .args .p) (s .args .op) (s .args .args .key)
 
 -- 24
 abbrev start-1 : tie.After-changes-nothing → tie.Start
-start-1 c =
-    let at-head = c .before .before in let start = at-head .before .before .before in
-    start
+start-1 c = let at-terms = c .before .before .before in at-terms .before .before .before
 
-mode : (c : tie.After-changes-nothing) → both (changes (start-1 c .args .op)) (readOnlyMode (start-1 c .args .terms)) ≡ c .changes-nothing .result
+mode : (c : tie.After-changes-nothing) → both (changes (start-1 c .args .op)) (readOnlyMode (start-1 c .args .setting .terms)) ≡ c .changes-nothing .result
 unfolding readOnlyMode
 mode c = sym (c .changes-nothing .ensures)
 
-may : (c : tie.Else1) → both (changes (start-1 (c .before) .args .op)) (readOnlyMode (start-1 (c .before) .args .terms)) ≡ false
+may : (c : tie.Else1) → both (changes (start-1 (c .before) .args .op)) (readOnlyMode (start-1 (c .before) .args .setting .terms)) ≡ false
 may c = mode (c .before) ∙ c .if1 .left
 
 -- 25
@@ -48,9 +41,7 @@ abbrev start-2 : tie.After-source-of → tie.Start
 start-2 c = start-1 (c .before .before .before)
 
 shown : (c : tie.After-source-of) → Shows (c .source-of .result) (the-source (start-2 c))
-shown c =
-    let s = start-2 c in
-    shows-as _ _ _ (source-same (s .args .z) (the-set s) (the-roots s) (s .args .p) (s .args .op) (s .args .args .key)) (c .source-of .ensures)
+shown c = c .source-of .ensures
 
 there : (c : tie.Else2) → not (isThere (the-source (start-2 (c .before .before)))) ≡ false
 there c = ap not (sym (shown (c .before .before) .there) ∙ not-false _ (c .if2 .left))
@@ -65,16 +56,16 @@ many : (c : tie.After-source-of) → length (spots (the-source (start-2 c))) ≡
 many c = sym (ap (λ (l : List Spot). length l) (shown c .sectors)) ∙ seen-count (c .source-of .result .seen)
 
 valued : (c : tie.After-weighed) → let s = start-3 c in
-    c .weighed .result ≡ weighed (s .args .z) (the-set s) (s .args .p) (s .args .asked) (length (spots (the-source s))) (s .args .op) (s .args .args)
+    c .weighed .result ≡ weighed (s .args .setting) (s .args .p) (s .args .asked) (length (spots (the-source s))) (s .args .op) (s .args .args)
 valued c =
     let else2 = c .before .before in let at-source-of = else2 .before .before in
     let s = start-3 c in
     c .weighed .ensures
-    ∙ ap (λ (n : ℕ). weighed (s .args .z) (the-set s) (s .args .p) (s .args .asked) n (s .args .op) (s .args .args)) (sym (many at-source-of))
+    ∙ ap (λ (n : ℕ). weighed (s .args .setting) (s .args .p) (s .args .asked) n (s .args .op) (s .args .args)) (sym (many at-source-of))
 
 -- the plan, where 24 and 25 do not apply
 planned-as : (c : tie.After-weighed) → let s = start-3 c in
-    c .weighed .result ≡ plannedArgs (s .args .z) (the-set s) (the-roots s) (s .args .p) (s .args .asked) (s .args .op) (s .args .args)
+    c .weighed .result ≡ plannedArgs (s .args .setting) (the-roots s) (s .args .p) (s .args .asked) (s .args .op) (s .args .args)
 unfolding plannedArgs
 planned-as c =
     let at-if2 = c .before .before in let at-key = at-if2 .before .before .before in
@@ -83,9 +74,7 @@ planned-as c =
 -- ---- the needs
 
 source-of-requires : tie.Need-source-of-requires
-source-of-requires c κs =
-    let else1 = c .before in let at-head = else1 .before .before .before in let s = at-head .before .before .before in
-    s .pre .0 .sources
+source-of-requires c κs = start-1 (c .before .before) .pre .0 .sources
 
 returns-2 : tie.Need-returns-2
 unfolding argued plannedArgs
@@ -101,15 +90,10 @@ weighed-requires c κs =
     let s = start-2 at-source-of in
     let plans = s .pre .0 in
     let good = s .pre .1 in
-    let few = few-spots (s .args .z) (the-set s) (the-roots s) (s .args .p) (s .args .op) (s .args .args .key) (plans .sources .seeks .stand .order)
-    (few-sectors (s .args .z) (the-set s) (s .args .p) (plans .lent) good) in
-    let many = sym (ap (λ (l : List Spot). length l) (shown at-source-of .sectors)) ∙ seen-count (at-source-of .source-of .result .seen) in (
-      plans .lent .size,
-      (
-        plans .lent .most,
-        (omega (arith, few, many), (length-most (s .args .z) (the-set s) (s .args .p) good, room-most (s .args .z) (the-set s) (s .args .p) good)),
-      ),
-    )
+    let few = few-spots (s .args .setting) (the-roots s) (s .args .p) (s .args .op) (s .args .args .key) (plans .sources .seeks .stand .order)
+    (few-sectors (s .args .setting) (s .args .p) (plans .lent) good) in
+    let many = sym (ap (λ (l : List Spot). length l) (shown at-source-of .sectors)) ∙ seen-count (at-source-of .source-of .result .seen) in
+    (plans .lent, (omega (arith, few, many), (length-most (s .args .setting) (s .args .p) good, room-most (s .args .setting) (s .args .p) good)))
 
 returns-3 : tie.Need-returns-3
 unfolding argued

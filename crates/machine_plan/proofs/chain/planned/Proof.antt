@@ -1,8 +1,7 @@
 -- `machine_plan::chain::planned` meets its contract: a walk down the definition. Assumes nothing.
-use Rattle.lists.proofs.Kit.{_≡_, sym, ap, _∙_, refl, not, true, false, List, [], suc, ℕ, not-true, not-false, needs}
+use Rattle.lists.proofs.Kit.{_≡_, sym, ap, _∙_, refl, not, true, false, List, suc, ℕ, not-true, not-false, needs}
 use Rattle.lists.proofs.Laws.Pick.{yes, no}
 use Rattle.sia.specs.Names.{opOf}
-use Rattle.machine_rules.specs.declared.Setting.{Setting}
 use Rattle.machine_rules.specs.Roots.{keptRoot}
 use Rattle.machine_rules.specs.Inputs.{illFormed, pastEnd, inputsOf, wellFormed, argsOf}
 use Rattle.sia.specs.declared.Op.{Op}
@@ -18,10 +17,7 @@ use Rattle.machine_plan.proofs.chain.planned.Tie as tie
 
 -- ---- what the calls gave, in the definitions' words
 
--- the setting, the operation and the inputs
-abbrev the-set : tie.Start → Setting
-the-set s = setting (s .args .sectors) (s .args .copies) (s .args .places) (s .args .terms) [] []
-
+-- the operation and the inputs
 abbrev the-roots : tie.Start → Spot → List ℕ
 the-roots s = keptRoot (s .args .diskroots .now) (s .args .stageroots .now)
 
@@ -31,97 +27,97 @@ the-op s = opOf (s .args .i .name)
 abbrev the-inputs : tie.Start → List (List ℕ)
 the-inputs s = inputsOf (s .args .i) (s .args .input .now)
 
--- the way back to the start
-abbrev start-0 : tie.After-ill-formed → tie.Start
-start-0 c = let at-name = c .before .before in let at-shared = at-name .before .before .before in at-shared .before
+-- the way back
+abbrev start-1 : tie.After-op-of → tie.Start
+start-1 c = let at-known = c .before .before .before in at-known .before .before
+
+abbrev at-op : tie.Else1 → tie.After-op-of
+at-op c = c .before .before
 
 abbrev start-2 : tie.Else1 → tie.Start
-start-2 c = start-0 (c .before)
+start-2 c = start-1 (at-op c)
+
+abbrev else-1 : tie.After-past-end → tie.Else1
+else-1 c = c .before .before .before
 
 abbrev start-3 : tie.Else2 → tie.Start
-start-3 c = start-2 (c .before .before .before)
+start-3 c = start-2 (else-1 (c .before))
 
-abbrev start-1 : tie.After-decoded → tie.Start
-start-1 c = start-3 (c .before)
-
--- what the decoder told
-heard : (c : tie.After-decoded) → c .decoded .result ≡ given (the-op (start-1 c)) (the-inputs (start-1 c)) (fromOf (the-op (start-1 c)) (start-1 c .args .i))
-heard c =
-    let else2 = c .before in let else1 = else2 .before .before .before in let at-op-of-2 = else1 .before .before in
-    c .decoded .ensures ∙ ap (λ (o : Op). given o (the-inputs (start-1 c)) (fromOf o (start-1 c .args .i)))
-    (at-op-of-2 .op-of .ensures)
-
-well-told : (c : tie.After-decoded) → c .decoded .result .told ≡ wellFormed (the-op (start-1 c)) (the-inputs (start-1 c))
-well-told c = told-is _ _ _ _ (heard c)
+abbrev else-2 : tie.Else3 → tie.Else2
+else-2 c = c .before .before .before
 
 -- ---- the checks that did not apply
 
 formed : (c : tie.Else1) → illFormed (start-2 c .args .i) ≡ false
 formed c = sym (c .before .ill-formed .ensures) ∙ c .if1 .left
 
-within : (c : tie.Else2) → pastEnd (start-3 c .args .terms .head .length) (start-3 c .args .i) ≡ false
+within : (c : tie.Else2) → pastEnd (start-3 c .args .setting .terms .head .length) (start-3 c .args .i) ≡ false
 within c = sym (c .before .past-end .ensures) ∙ c .if2 .left
 
-abbrev start-4 : tie.Else3 → tie.Start
-start-4 c = start-1 (c .before .before)
+-- what the decoder told
+heard : (c : tie.After-decoded) → let s = start-3 (c .before) in
+    c .decoded .result ≡ given (the-op s) (the-inputs s) (fromOf (the-op s) (s .args .i))
+heard c =
+    let s = start-3 (c .before) in
+    c .decoded .ensures ∙ ap (λ (o : Op). given o (the-inputs s) (fromOf o (s .args .i))) (at-op (else-1 (c .before .before)) .op-of .ensures)
 
-told : (c : tie.Else3) → wellFormed (the-op (start-4 c)) (the-inputs (start-4 c)) ≡ true
+well-told : (c : tie.After-decoded) → let s = start-3 (c .before) in c .decoded .result .told ≡ wellFormed (the-op s) (the-inputs s)
+well-told c = told-is _ _ _ _ (heard c)
+
+told : (c : tie.Else3) → let s = start-3 (else-2 c) in wellFormed (the-op s) (the-inputs s) ≡ true
 told c = sym (well-told (c .before .before)) ∙ not-false _ (c .if3 .left)
 
-heard-args : (c : tie.Else3) → c .before .before .decoded .result .args ≡ argsOf (the-op (start-4 c)) (the-inputs (start-4 c))
+heard-args : (c : tie.Else3) → let s = start-3 (else-2 c) in c .before .before .decoded .result .args ≡ argsOf (the-op s) (the-inputs s)
 heard-args c = args-are _ _ _ _ (heard (c .before .before)) (told c)
 
-heard-from : (c : tie.Else3) → c .before .before .decoded .result .from ≡ fromOf (the-op (start-4 c)) (start-4 c .args .i)
+heard-from : (c : tie.Else3) → let s = start-3 (else-2 c) in c .before .before .decoded .result .from ≡ fromOf (the-op s) (s .args .i)
 heard-from c = from-is _ _ _ _ (heard (c .before .before)) (told c)
 
 -- ---- the needs
 
 -- a check that applies
 refuses : (s : tie.Start) (o : Op) (w : Plan) (n : ℕ) → o ≡ the-op s → w ≡ refused (suc n)
-    → refused (suc n) ≡ planned (s .args .z) (the-set s) (the-roots s) (s .args .p) (s .args .i) (the-inputs s)
-    → failed o w ≡ planOf (s .args .z) (the-set s) (the-roots s) (s .args .p) (s .args .i) (s .args .input .now)
+    → refused (suc n) ≡ planned (s .args .setting) (the-roots s) (s .args .p) (s .args .i) (the-inputs s)
+    → failed o w ≡ planOf (s .args .setting) (the-roots s) (s .args .p) (s .args .i) (s .args .input .now)
 unfolding planOf
 refuses s o w n e f g = ap (λ (x : Op). failed x w) e ∙ fails w _ (the-op s) _ _ _ n f g
 
 returns : tie.Need-returns
 unfolding planned
 returns c =
-    let at-ill-formed = c .before .before .before in
-    c .failed .ensures ∙ refuses (start-0 at-ill-formed) _ _ 20 (at-ill-formed .before .op-of .ensures) (c .before .refused .ensures)
+    let at-ill-formed = c .before .before .before in let at-op-of = at-ill-formed .before in
+    c .failed .ensures ∙ refuses (start-1 at-op-of) _ _ 20 (at-op-of .op-of .ensures) (c .before .refused .ensures)
     (yes _ _ _ (sym (at-ill-formed .ill-formed .ensures) ∙ c .before .before .if1 .taken) refl)
 
 returns-2 : tie.Need-returns-2
 unfolding planned
 returns-2 c =
-    let at-past-end = c .before .before .before in let at-if1 = at-past-end .before .before in
-    c .failed2 .ensures ∙ refuses (start-2 at-if1) _ _ 21 (at-if1 .before .before .op-of .ensures) (c .before .refused2 .ensures)
+    let at-past-end = c .before .before .before in let at-if1 = else-1 at-past-end in
+    c .failed2 .ensures ∙ refuses (start-2 at-if1) _ _ 21 (at-op at-if1 .op-of .ensures) (c .before .refused2 .ensures)
     (no _ _ _ (formed at-if1) (yes _ _ _ (sym (at-past-end .past-end .ensures) ∙ c .before .before .if2 .taken) refl))
 
 decoded-requires : tie.Need-decoded-requires
 decoded-requires c κs =
-    let at-if1 = c .before .before .before in
-    let s = start-2 at-if1 in
-    (at-if1 .before .before .op-of .ensures, (formed at-if1, ap (λ (n : ℕ). pastEnd n (s .args .i)) (s .pre .1 .1) ∙ within c))
+    let at-if1 = else-1 (c .before) in let s = start-2 at-if1 in
+    (at-op at-if1 .op-of .ensures, (formed at-if1, ap (λ (n : ℕ). pastEnd n (s .args .i)) (s .pre .1 .1) ∙ within c))
 
 returns-3 : tie.Need-returns-3
 unfolding planned plannedInputs
 returns-3 c =
-    let then3 = c .before .before in let at-decoded = then3 .before .before in let at-if2 = at-decoded .before in
-    let at-if1 = at-if2 .before .before .before in
-    c .failed3 .ensures ∙ refuses (start-2 at-if1) _ _ 22 (at-if1 .before .before .op-of .ensures) (c .before .refused3 .ensures)
+    let then3 = c .before .before in let at-decoded = then3 .before .before in let at-if2 = at-decoded .before in let at-if1 = else-1 (at-if2 .before) in
+    c .failed3 .ensures ∙ refuses (start-2 at-if1) _ _ 22 (at-op at-if1 .op-of .ensures) (c .before .refused3 .ensures)
     (no _ _ _ (formed at-if1) (no _ _ _ (within at-if2) (yes _ _ _ (ap not (sym (well-told at-decoded) ∙ not-true _ (then3 .if3 .taken))) refl)))
 
 argued-requires : tie.Need-argued-requires
-argued-requires c κs = let s = start-4 (c .before) in (s .pre .0, s .pre .1 .0)
+argued-requires c κs = let s = start-3 (else-2 (c .before)) in (s .pre .0, s .pre .1 .0)
 
 returns-4 : tie.Need-returns-4
 returns-4 c =
-    let at-if3 = c .before .before in let at-if2 = at-if3 .before .before .before in let at-if1 = at-if2 .before .before .before in
-    let s = start-2 at-if1 in
+    let at-if3 = c .before .before in let at-if2 = else-2 at-if3 in let at-if1 = else-1 (at-if2 .before) in let s = start-2 at-if1 in
     c .argued .ensures
-    ∙ (λ k. argued (s .args .z) (the-set s) (the-roots s) (s .args .p) (s .args .i .proof) (at-if1 .before .before .op-of .ensures k)
+    ∙ (λ k. argued (s .args .setting) (the-roots s) (s .args .p) (s .args .i .proof) (at-op at-if1 .op-of .ensures k)
     (heard-args at-if3 k) (heard-from at-if3 k))
-    ∙ argued-is (s .args .z) (the-set s) (the-roots s) (s .args .p) (s .args .i) (s .args .input .now) (formed at-if1) (within at-if2) (told at-if3)
+    ∙ argued-is (s .args .setting) (the-roots s) (s .args .p) (s .args .i) (s .args .input .now) (formed at-if1) (within at-if2) (told at-if3)
 
 pub planned-spec : {M : Type 1} → statement M
 planned-spec =

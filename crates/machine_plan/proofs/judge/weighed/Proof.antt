@@ -1,5 +1,5 @@
 -- `machine_plan::judge::weighed` meets its contract: a walk down the definition. Assumes nothing.
-use Rattle.lists.proofs.Kit.{[], _≡_, sym, ap, _∙_, false, ℕ, _+_, ltb, needs}
+use Rattle.lists.proofs.Kit.{_≡_, sym, ap, _∙_, false, ℕ, _+_, ltb, needs}
 use Rattle.lists.specs.Pick.{both}
 use Rattle.lists.proofs.Laws.Pick.{yes, no}
 use Rattle.machine_rules.specs.Plan.{fitted, weighed, badSpans, badProof, cost}
@@ -8,25 +8,32 @@ use Rattle.machine_plan.proofs.Laws.Weighed.{provable}
 use Rattle.machine_plan.proofs.judge.weighed.Statement.{statement}
 use Rattle.machine_plan.proofs.judge.weighed.Tie as tie
 
--- ---- what the calls gave, in the definitions' words
+-- ---- the checks that did not apply, and the cost, in the definitions' words
+
+abbrev start-1 : tie.Else1 → tie.Start
+start-1 c = c .before .before
 
 -- 26
-right-spans : (c : tie.Else1) → let a = c .before .before .args in badSpans (a .z) (a .p .size) (a .seen) (a .op) (a .args) ≡ false
+right-spans : (c : tie.Else1) → let a = start-1 c .args in badSpans (a .setting .sector) (a .p .size) (a .seen) (a .op) (a .args) ≡ false
 right-spans c = sym (c .before .bad-spans .ensures) ∙ c .if1 .left
 
+abbrev else-1 : tie.Else2 → tie.Else1
+else-1 c = c .before .before
+
 -- 27
-asked-well : (c : tie.Else2) → let a-3 = c .before .before .before in let a = a-3 .before .args in both (a .asked) (badProof (a .op) (a .args)) ≡ false
+asked-well : (c : tie.Else2) → let a = start-1 (else-1 c) .args in both (a .asked) (badProof (a .op) (a .args)) ≡ false
 asked-well c = sym (c .before .asked-badly .ensures) ∙ c .if2 .left
 
--- 28
-abbrev start-1 : tie.After-above → tie.Start
-start-1 c =
-    let at-head = c .before .before .before in let else1 = at-head .before .before .before in let start = else1 .before .before in
-    start
+abbrev else-2 : tie.After-above → tie.Else2
+else-2 c = let at-head = c .before .before .before in at-head .before .before
 
-budget : (c : tie.After-above) → let a = start-1 c .args in
-    ltb (a .terms .budget) (a .p .tally + cost (a .terms .head .length) (a .terms .prices) (a .op) (a .args .len)) ≡ c .above .result
-budget c = let a = start-1 c .args in ap (λ (k : ℕ). ltb (a .terms .budget) (a .p .tally + k)) (sym (c .before .cost .ensures)) ∙ sym (c .above .ensures)
+-- 28
+budget : (c : tie.After-above) → let a = start-1 (else-1 (else-2 c)) .args in
+    ltb (a .setting .terms .budget) (a .p .tally + cost (a .setting .terms .head .length) (a .setting .terms .prices) (a .op) (a .args .len))
+    ≡ c .above .result
+budget c =
+    let a = start-1 (else-1 (else-2 c)) .args in
+    ap (λ (k : ℕ). ltb (a .setting .terms .budget) (a .p .tally + k)) (sym (c .before .cost .ensures)) ∙ sym (c .above .ensures)
 
 -- ---- the needs
 
@@ -38,33 +45,29 @@ returns-2 c =
 
 cost-requires : tie.Need-cost-requires
 cost-requires c κs =
-    let else2 = c .before .before in let at-if1 = else2 .before .before in let s = at-if1 .before .before in
-    (s .pre .1 .1 .1 .0, charged _ (s .pre .0) _ (s .args .seen) (s .args .op) (s .args .args) (right-spans at-if1))
+    let at-if2 = c .before .before .before in let at-if1 = else-1 at-if2 in let s = start-1 at-if1 in
+    (s .pre .1 .1 .0, charged _ (s .pre .0 .size) _ (s .args .seen) (s .args .op) (s .args .args) (right-spans at-if1))
 
 returns-3 : tie.Need-returns-3
 unfolding weighed
 returns-3 c =
-    let at-above = c .before .before in let at-head = at-above .before .before .before in let at-if2 = at-head .before in
-    no _ _ _ (right-spans (at-if2 .before .before)) (no _ _ _ (asked-well at-if2)
-    (yes _ _ _ (budget at-above ∙ c .before .if3 .taken) (c .refused3 .ensures)))
+    let at-above = c .before .before in let at-if2 = else-2 at-above in
+    no _ _ _ (right-spans (else-1 at-if2)) (no _ _ _ (asked-well at-if2) (yes _ _ _ (budget at-above ∙ c .before .if3 .taken) (c .refused3 .ensures)))
 
 fitted-requires : tie.Need-fitted-requires
 fitted-requires c κs =
-    let at-prices = c .before .before .before in let at-if2 = at-prices .before .before in let else1 = at-if2 .before .before in
-    let s = else1 .before .before in
+    let at-if2 = else-2 (c .before) in let at-if1 = else-1 at-if2 in let s = start-1 at-if1 in
     let a = s .args in
-    let ranged = provable (a .z) (s .pre .0) (a .p .size) (a .seen) (a .op) (a .args) (a .asked) (right-spans (else1)) (asked-well at-if2) in
-    (s .pre .0, (s .pre .1 .0, (s .pre .1 .1 .0, (s .pre .1 .1 .1 .1, ranged))))
+    let ranged = provable _ (s .pre .0 .size) (a .p .size) (a .seen) (a .op) (a .args) (a .asked) (right-spans at-if1) (asked-well at-if2) in
+    (s .pre .0, (s .pre .1 .0, (s .pre .1 .1 .1, ranged)))
 
 returns-4 : tie.Need-returns-4
 unfolding weighed
 returns-4 c =
-    let at-above = c .before .before in let at-head = at-above .before .before .before in let at-if2 = at-head .before in
-    let a = start-1 at-above .args in
-    no _ _ _ (right-spans (at-if2 .before .before)) (no _ _ _ (asked-well at-if2) (no _ _ _ (budget at-above ∙ c .before .if3 .left)
-    (c .fitted .ensures
-    ∙ ap (fitted (a .z) (setting (a .sectors) (a .copies) (a .places) (a .terms) [] []) (a .p) (a .asked) (a .seen) (a .op) (a .args))
-    (at-above .before .cost .ensures))))
+    let at-above = c .before .before in let at-if2 = else-2 at-above in
+    let a = start-1 (else-1 at-if2) .args in
+    no _ _ _ (right-spans (else-1 at-if2)) (no _ _ _ (asked-well at-if2) (no _ _ _ (budget at-above ∙ c .before .if3 .left)
+    (c .fitted .ensures ∙ ap (fitted (a .setting) (a .p) (a .asked) (a .seen) (a .op) (a .args)) (at-above .before .cost .ensures))))
 
 pub weighed-spec : {M : Type 1} → statement M
 unfolding weighed
