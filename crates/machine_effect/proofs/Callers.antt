@@ -10,12 +10,11 @@ use Rattle.host.specs.Empty.{none}
 use Rattle.host.specs.Order.{slotInOrder}
 use Rattle.machine_rules.specs.declared.Args.{Args}
 use Rattle.machine_rules.specs.Plan.{touched}
-use Rattle.machine_rules.specs.Effect.{Ground, Staging, newCopy, copied, laid, spanWritten, resized, effect, rehashed}
+use Rattle.machine_rules.specs.Effect.{Ground, Staging, newCopy, copied, laid, spanWritten, resized, effect}
 use Rattle.machine_rules.proofs.Laws.Staged.{slot-none}
 use Rattle.machine_rules.proofs.Laws.Effects.{written-map, length-copied}
 use Rattle.sia.specs.declared.Op.{Op}
 use Rattle.sia.specs.declared.Op.the-variants.{Read, ReadSector, Write, Copy, Swap, Truncate, Unknown}
-use Rattle.machine_effect.specs.Parts.{args}
 use Rattle.machine_effect.specs.Asks.{bare, Lent, Room, Over, Two, Sized, Stands}
 use Rattle.machine_effect.proofs.Laws.Copies.{reads-stage}
 use Rattle.machine_effect.proofs.Laws.Kept.{has, lent-new, own-copy, own-read, lent-copied, still, has-copied}
@@ -143,29 +142,13 @@ module _ (z : ℕ) (e : Ground) (g : Staging) (roots : List ℕ) (size : ℕ) (a
       subst (λ (x : Op). let h = effect z e size x a d g in part (h .bytes) (getD (h .staged) (size / z) none * z) z ≡ zeros z) (sym o)
       (new-zeros (s .truncate o) more)
 
--- the two offsets tell the positions
-pub touched-args : (z size : ℕ) (op : Op) (a : Args) → touched z size op (args (a .first) (a .second) 0) ≡ touched z size op a
-unfolding touched
-touched-args z size Read a = refl
-touched-args z size ReadSector a = refl
-touched-args z size Write a = refl
-touched-args z size Copy a = refl
-touched-args z size Swap a = refl
-touched-args z size Truncate a = refl
-touched-args z size Unknown a = refl
-
 -- what `rehash` asks, with what the effect left
 pub rehashes : (z : ℕ) (e : Ground) (size : ℕ) (op : Op) (a : Args) (d : List ℕ) (g h : Staging) (roots : List ℕ) → length (g .staged) ≡ 64
     → length roots ≡ 512 → Stands z e size op a g → h ≡ effect z e size op a d g
-    → Rehashes z size op (args (a .first) (a .second) 0) h roots
+    → Rehashes z size op a h roots
 rehashes z e size op a d g h roots entries long s q =
-    subst (λ (x : Staging). Rehashes z size op (args (a .first) (a .second) 0) x roots) (sym q) (record {
+    subst (λ (x : Staging). Rehashes z size op a x roots) (sym q) (record {
       whole = s .lent .size;
-      each = subst (Each _) (sym (touched-args z size op a)) (each z e g roots size a (s .lent) entries long op d s);
+      each = each z e g roots size a (s .lent) entries long op d s;
       new = grows z e g roots size a (s .lent) entries long op d s;
     })
-
--- what it leaves is what the definition says
-pub rehashed-with : {after : List ℕ} (z size : ℕ) (op : Op) (a : Args) (h : Staging) (roots : List ℕ)
-    → after ≡ rehashed z h (touched z size op (args (a .first) (a .second) 0)) roots → after ≡ rehashed z h (touched z size op a) roots
-rehashed-with z size op a h roots q = q ∙ ap (λ (l : List ℕ). rehashed z h l roots) (touched-args z size op a)

@@ -4,7 +4,6 @@ use Prim.Native.Nat.{ℕ, _+_, _*_, _/_, _%_}
 use lib.ListN.{getD}
 use Rattle.area.specs.Area.{zeros}
 use Rattle.host.specs.Empty.{none}
-use Rattle.machine_rules.specs.declared.Args.{Args}
 use Rattle.machine_rules.specs.Effect.{Ground, Staging, newCopy, spanRead, spanWritten}
 
 abbrev pub ground : ℕ → List ℕ → List ℕ → Ground
@@ -16,10 +15,6 @@ alone copies = ground copies [] []
 
 abbrev pub staging : List ℕ → List ℕ → Staging
 staging staged bytes = record { staged = staged; bytes = bytes }
-
--- no effect looks at a key
-abbrev pub args : ℕ → ℕ → ℕ → Args
-args first second len = record { key = []; first = first; second = second; len = len }
 
 -- "Growth stages zeros": position `at` in the lowest free slot, with zeros
 unfoldable pub grown : ℕ → Ground → ℕ → Staging → Staging

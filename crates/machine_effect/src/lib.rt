@@ -9,7 +9,7 @@ ghost use lib.ListN.{length};
 ghost use Rattle.area.specs.Area.{part};
 ghost use Rattle.machine_rules.specs.Effect as Says;
 ghost use Rattle.sia.specs.declared.Op.the-variants.{Write};
-ghost use Rattle.machine_effect.specs.Parts.{ground, staging, args};
+ghost use Rattle.machine_effect.specs.Parts.{ground, staging};
 ghost use Rattle.machine_effect.specs.Asks.{Stands};
 
 mod rehashing; // rehashing.rt: the roots kept after an instruction
@@ -17,11 +17,11 @@ mod resizing; // resizing.rt: Truncate
 mod spans; // spans.rt: Write, Copy and Swap
 mod staging; // staging.rt: what effects share: copies, and where a byte lies
 
+use machine_rules::Args;
 pub use rehashing::rehash;
 use sia::Op;
 
-// What an instruction does. Of what its inputs say: two offsets, the first also Truncate's new size, and a length; Write's data lie in
-// the input from `from` on.
+// What an instruction does; Write's data lie in the input from `from` on.
 pub fn effect(
     z: usize,
     op: Op,
@@ -31,18 +31,19 @@ pub fn effect(
     staged: [u8; 64],
     stage: &mut [u8],
     size: usize,
-    first: usize,
-    second: usize,
-    len: usize,
+    args: Args,
     input: &[u8],
     from: usize,
 ) -> [u8; 64]
-    requires { ⌜ Stands z (ground copies slots (now disk)) size op (args first second len) (staging staged (now stage)) ⌝ }
-    requires { ⌜ (op ≡ Write → from + len ≤ length (now input)) ⌝ }
+    requires { ⌜ Stands z (ground copies slots (now disk)) size op args (staging staged (now stage)) ⌝ }
+    requires { ⌜ (op ≡ Write → from + args .len ≤ length (now input)) ⌝ }
     ensures { λ r. ⌜ staging r (now (stage .exit)) ≡
-        Says.effect z (ground copies slots (now (disk .entry))) size op (args first second len) (part (now (input .entry)) from len)
+        Says.effect z (ground copies slots (now (disk .entry))) size op args (part (now (input .entry)) from (args .len))
         (staging staged (now (stage .entry))) ⌝ }
 {
+    let first = args.first as usize;
+    let second = args.second as usize;
+    let len = args.len as usize;
     match op {
         Op::Read => staged,
         Op::ReadSector => staged,

@@ -14,8 +14,9 @@ ghost use Rattle.tree.specs.Tree.{root};
 ghost use Rattle.host.specs.Empty.{none};
 ghost use Rattle.machine_rules.specs.Plan.{touched};
 ghost use Rattle.machine_rules.specs.Effect.{rehashed};
-ghost use Rattle.machine_effect.specs.Parts.{staging, args};
+ghost use Rattle.machine_effect.specs.Parts.{staging};
 ghost use Rattle.machine_effect.specs.Rehashes.{Near, Beside, Rehashes};
+use machine_rules::Args;
 use sia::Op;
 
 // The stage slot of a position.
@@ -76,21 +77,22 @@ fn rehash_new(z: usize, staged: [u8; 64], size: usize, new: usize, stageroots: &
     area::copy_between(&zeros, 0, stageroots, slot * 32, 32);
 }
 
-// What an instruction leaves. Of what its inputs say: two offsets, the first also Truncate's new size; `size` is the size before it.
+// What an instruction leaves; `size` is the size before it.
 pub fn rehash(
     z: usize,
     op: Op,
     staged: [u8; 64],
     stage: &[u8],
     size: usize,
-    first: usize,
-    second: usize,
+    args: Args,
     stageroots: &mut [u8],
 )
-    requires { ⌜ Rehashes z size op (args first second 0) (staging staged (now stage)) (now stageroots) ⌝ }
+    requires { ⌜ Rehashes z size op args (staging staged (now stage)) (now stageroots) ⌝ }
     ensures { λ _. ⌜ now (stageroots .exit) ≡
-        rehashed z (staging staged (now (stage .entry))) (touched z size op (args first second 0)) (now (stageroots .entry)) ⌝ }
+        rehashed z (staging staged (now (stage .entry))) (touched z size op args) (now (stageroots .entry)) ⌝ }
 {
+    let first = args.first as usize;
+    let second = args.second as usize;
     match op {
         Op::Read => {}
         Op::ReadSector => {}

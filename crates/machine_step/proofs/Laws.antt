@@ -2,9 +2,10 @@
 pub mod Parts
 pub mod Known
 pub mod Sights
-pub mod Running
 pub mod Readers
-pub mod Planned
+pub mod Task
+pub mod After
+pub mod Ran
 pub mod Taking
 pub mod Hosts
 pub mod Turns

@@ -5,18 +5,20 @@
 ghost use mathlib.Core.Path.{_≡_};
 ghost use Rattle.machine_rules.specs.Run as Says;
 
-mod pairs; // pairs.rt: the parent, the starting pair and the running pair
+mod pairs; // pairs.rt: the starting pair and the running pair
 mod records; // records.rt: the bytes that an instruction leaves in the output area
 mod roots; // roots.rt: the roots of the parent, and failures
 mod running; // running.rt: an instruction that can run
+mod settings; // settings.rt: the setting of an open program, and its parent
 mod taking; // taking.rt: checks, then failure or success
 mod turns; // turns.rt: instructions in turn
 
 use host::Program;
-pub use pairs::parent;
 pub use pairs::running_pair;
 pub use pairs::starting_pair;
 pub use roots::fail;
+pub use settings::parent;
+pub use settings::setting_of;
 pub use turns::run;
 
 // Whether a program has neither ended nor failed.

@@ -5,15 +5,17 @@ ghost use Prim.Native.Nat.{_+_, _/_, _≤_};
 ghost use lib.ListN.{length};
 ghost use Rattle.lists.specs.Tab.{tab};
 ghost use Rattle.area.specs.Area.{put};
-ghost use Rattle.machine_rules.specs.View.{spotOf, committedSpots};
+ghost use Rattle.machine_rules.specs.View.{volume, parent, spotOf, committedSpots};
 ghost use Rattle.machine_rules.specs.Roots.{keptRoot, contractRoot};
-ghost use Rattle.machine_rules.specs.Record.{pairOf, recordBytes};
+ghost use Rattle.machine_rules.specs.Record.{failureBytes};
 ghost use Rattle.machine_rules.specs.Run.{failedProgress};
 ghost use Rattle.machine_sight.specs.Lookup.{Stands};
 ghost use Rattle.machine_step.specs.Asks.{Reads};
 use crate::records;
+use crate::settings;
 use host::Place;
 use host::Progress;
+use machine_rules::Setting;
 
 // The root of a contract's committed sectors, from the roots kept beside them; zeros where there is none.
 pub fn committed_root(z: u64, diskroots: &[u8], parent: Place) -> [u8; 32]
@@ -43,19 +45,19 @@ pub fn running_root<'a>(
 
 // A failure: it ends the program, and otherwise only writes its record.
 pub fn fail(
-    z: u64,
+    setting: Setting,
     number: u64,
     diskroots: &[u8],
-    parent: Place,
     progress: Progress,
     output: &mut [u8],
 ) -> Progress
-    requires { ⌜ Stands z (now diskroots) parent ⌝ }
+    requires { ⌜ Stands (setting .sector) (now diskroots) (parent setting) ⌝ }
     requires { ⌜ progress .written + 72 ≤ length (now output) ⌝ }
     ensures { λ r. ⌜ (r ≡ failedProgress progress) × (now (output .exit) ≡
-        put (now (output .entry)) (progress .written) (recordBytes number 0 (pairOf z (keptRoot (now (diskroots .entry)) []) parent) 0 [] 0 [])) ⌝ }
+        put (now (output .entry)) (progress .written) (failureBytes setting (volume [] (now (diskroots .entry))) number)) ⌝ }
 {
-    let root = committed_root(z, diskroots, parent);
+    let parent = settings::parent(setting);
+    let root = committed_root(setting.sector, diskroots, parent);
     let at = progress.written as usize;
     records::put_failure(number, parent.size, root, &mut output[at..]);
     let mut after = progress;

@@ -1,23 +1,16 @@
 // Taking an instruction: checks 21 to 42 and its cost, then either its failure, or its effect and its record.
 ghost use mathlib.Core.Path.{_≡_};
-ghost use Rattle.machine_rules.specs.View.{setting, turn};
-ghost use Rattle.machine_rules.specs.Inputs.{inputsOf};
-ghost use Rattle.machine_rules.specs.Run.{stepped};
-ghost use Rattle.machine_step.specs.Asks.{Steps};
+ghost use Rattle.machine_rules.specs.View.{volume, turn};
+ghost use Rattle.machine_step.specs.Asks.{Steps, steppedTurn};
 use crate::roots;
 use crate::running;
-use host::Place;
 use host::Progress;
-use host::Terms;
+use machine_rules::Setting;
 use sia::Instruction;
 
 // One instruction.
 pub fn step<'a>(
-    z: u64,
-    sectors: u64,
-    copies: u64,
-    places: [Place; 8],
-    terms: Terms,
+    setting: Setting,
     diskroots: &'a [u8],
     disk: &'a [u8],
     input: &[u8],
@@ -27,40 +20,23 @@ pub fn step<'a>(
     stage: &mut [u8],
     output: &mut [u8],
 ) -> Progress
-    requires { ⌜ Steps z (setting sectors copies places terms (now disk) (now diskroots)) (turn progress (now stage) (now output) (now stageroots))
-        (now input) ⌝ }
+    requires { ⌜ Steps setting (volume (now disk) (now diskroots)) (turn progress (now stage) (now output) (now stageroots)) (now input) ⌝ }
     ensures { λ r. ⌜ turn r (now (stage .exit)) (now (output .exit)) (now (stageroots .exit)) ≡
-        stepped z (setting sectors copies places terms (now (disk .entry)) (now (diskroots .entry))) i (inputsOf i (now (input .entry)))
+        steppedTurn setting (volume (now (disk .entry)) (now (diskroots .entry))) i (now (input .entry))
         (turn progress (now (stage .entry)) (now (output .entry)) (now (stageroots .entry))) ⌝ }
 {
-    let task = machine_plan::planned(
-        z,
-        sectors,
-        copies,
-        places,
-        terms,
-        progress,
-        i,
-        diskroots,
-        &*stageroots,
-        input,
-    );
-    let head = terms.head;
-    let id = head.contract;
-    let parent = host::place_of(places, id);
+    let task = machine_plan::planned(setting, progress, i, diskroots, &*stageroots, input);
     let plan = task.plan;
     if plan.number != 0 {
-        return roots::fail(z, plan.number, diskroots, parent, progress, output);
+        return roots::fail(setting, plan.number, diskroots, progress, output);
     }
     running::succeed(
-        z,
-        copies,
-        parent,
+        setting,
         diskroots,
         disk,
         input,
+        i,
         task,
-        i.proof,
         progress,
         stageroots,
         stage,

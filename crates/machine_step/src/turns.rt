@@ -3,14 +3,13 @@ ghost use mathlib.Core.Path.{_≡_};
 ghost use mathlib.Core.Bool.{not};
 ghost use lib.Dec.{leb, ltb};
 ghost use Rattle.lists.specs.Pick.{both};
-ghost use Rattle.machine_rules.specs.View.{setting, turn};
+ghost use Rattle.machine_rules.specs.View.{volume, turn};
 ghost use Rattle.machine_rules.specs.Inputs.{need};
 ghost use Rattle.machine_rules.specs.Run as Says;
 ghost use Rattle.machine_step.specs.Turns.{Runs};
 use crate::taking;
-use host::Place;
 use host::Progress;
-use host::Terms;
+use machine_rules::Setting;
 use sia::Instruction;
 
 // Whether a program of so many instructions has neither ended nor failed.
@@ -32,11 +31,7 @@ fn ready(declared: u64, i: Instruction, k: u64) -> bool
 
 // At most as many as the head has.
 pub fn run<'a>(
-    z: u64,
-    sectors: u64,
-    copies: u64,
-    places: [Place; 8],
-    terms: Terms,
+    setting: Setting,
     diskroots: &'a [u8],
     disk: &'a [u8],
     input: &[u8],
@@ -46,11 +41,12 @@ pub fn run<'a>(
     stage: &mut [u8],
     output: &mut [u8],
 ) -> Progress
-    requires { ⌜ Runs z (setting sectors copies places terms (now disk) (now diskroots)) (turn start (now stage) (now output) (now stageroots)) (now input) ⌝ }
+    requires { ⌜ Runs setting (volume (now disk) (now diskroots)) (turn start (now stage) (now output) (now stageroots)) (now input) ⌝ }
     ensures { λ r. ⌜ turn r (now (stage .exit)) (now (output .exit)) (now (stageroots .exit)) ≡
-        Says.run z (setting sectors copies places terms (now (disk .entry)) (now (diskroots .entry))) (now (input .entry)) k
+        Says.run setting (volume (now (disk .entry)) (now (diskroots .entry))) (now (input .entry)) k
         (turn start (now (stage .entry)) (now (output .entry)) (now (stageroots .entry))) ⌝ }
 {
+    let terms = setting.terms;
     let head = terms.head;
     let mut progress = start;
     while goes_on(head.count, progress) {
@@ -59,11 +55,7 @@ pub fn run<'a>(
             return progress;
         }
         progress = taking::step(
-            z,
-            sectors,
-            copies,
-            places,
-            terms,
+            setting,
             diskroots,
             disk,
             input,

@@ -4,7 +4,7 @@ use Rattle.machine_rules.specs.declared.Args.{Args}
 use Rattle.machine_rules.specs.Effect.{Ground, Staging, newCopy, resized, effect}
 use Rattle.sia.specs.declared.Op.{Op}
 use Rattle.sia.specs.declared.Op.the-variants.{Read, ReadSector, Write, Copy, Swap, Truncate, Unknown}
-use Rattle.machine_effect.specs.Parts.{alone, args}
+use Rattle.machine_effect.specs.Parts.{alone}
 use Rattle.machine_effect.specs.Asks.{Lent, Sized}
 
 -- the code's arm
@@ -25,20 +25,7 @@ pub resized-alone : {x : Staging} (z : ℕ) (e : Ground) (g : Staging) (size new
 unfolding resized newCopy
 resized-alone z e g size new q = q
 
--- ---- an effect looks at no key
-
-pub effect-args : (z : ℕ) (e : Ground) (size : ℕ) (op : Op) (a : Args) (d : List ℕ) (g : Staging)
-    → effect z e size op (args (a .first) (a .second) (a .len)) d g ≡ effect z e size op a d g
-unfolding effect
-effect-args z e size Read a d g = refl
-effect-args z e size ReadSector a d g = refl
-effect-args z e size Write a d g = refl
-effect-args z e size Copy a d g = refl
-effect-args z e size Swap a d g = refl
-effect-args z e size Truncate a d g = refl
-effect-args z e size Unknown a d g = refl
-
--- and only Write's at data
+-- ---- only Write's effect looks at data
 pub effect-data : (z : ℕ) (e : Ground) (size : ℕ) (op : Op) (a : Args) (d l : List ℕ) (g : Staging) → (op ≡ Write → d ≡ l)
     → effect z e size op a d g ≡ effect z e size op a l g
 unfolding effect

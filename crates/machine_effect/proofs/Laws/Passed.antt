@@ -1,5 +1,5 @@
 -- What effects ask, from an instruction that passed its checks on a host in order. z is the sector size. Assumes nothing.
-use Rattle.lists.proofs.Kit.{_≡_, sym, ap, _∙_, subst, true, false, List, [], _∷_, ℕ, _+_, _*_, _/_, _≤_, _<_, div-lt-iff-lt-mul, mul-le-mul-right, arith}
+use Rattle.lists.proofs.Kit.{_≡_, sym, ap, subst, true, false, List, [], _∷_, ℕ, _+_, _*_, _/_, _≤_, _<_, div-lt-iff-lt-mul, mul-le-mul-right, arith}
 use Rattle.lists.proofs.Kit.{length, getD, ltb, eqb, ltb-true, lt-ltb}
 use Rattle.lists.specs.Pick.{pick}
 use Rattle.lists.specs.Tests.{those, count, unused}
@@ -12,7 +12,7 @@ use Rattle.machine_rules.specs.declared.Setting.{Setting}
 use Rattle.machine_rules.specs.declared.Args.{Args}
 use Rattle.machine_rules.specs.Plan.{badSpan, badSpans, touched, wanted, newSize}
 use Rattle.machine_rules.specs.Facts.{Good, Solid}
-use Rattle.machine_rules.specs.Effect.{groundOf, Staging, copied, effect}
+use Rattle.machine_rules.specs.Effect.{groundOf, Staging, copied}
 use Rattle.machine_rules.proofs.Laws.Effects.{sector-below, asks, asks-some, asks-two, copied-map, wanted-one, few-sectors}
 use Rattle.machine_rules.proofs.Laws.Effects.{swap-asks, span-in, past-first}
 use Rattle.machine_rules.proofs.Laws.Passed.{Passed}
@@ -22,10 +22,9 @@ use Rattle.sia.specs.declared.Op.{Op}
 use Rattle.sia.specs.declared.Op.the-variants.{Write, Copy, Swap, Truncate}
 use Rattle.host.specs.declared.Progress.{Progress}
 use Rattle.machine_rules.specs.declared.Spot.{Spot}
-use Rattle.machine_effect.specs.Parts.{ground, staging, args}
+use Rattle.machine_effect.specs.Parts.{ground, staging}
 use Rattle.machine_effect.specs.Asks.{bare, Lent, Lies, From, Over, Two, Sized, Stands}
 use Rattle.machine_effect.proofs.Laws.Kept.{lies-copied}
-use Rattle.machine_effect.proofs.Laws.Cases.{effect-args, effect-data}
 
 -- a position that asks for a slot and gets one
 asked : (copies : ℕ) (g : Staging) (p : ℕ) → asks (g .staged) p ≤ count (unused (g .staged)) 0 copies → bare p g ≡ true
@@ -144,7 +143,7 @@ module _ (s : Setting) (vol : Volume) (p : Progress) (bytes : List ℕ) (good : 
 
   -- an instruction that can run has what its effect asks
   pub stands : {f : Spot → List ℕ} (op : Op) (a : Args) (n : ℕ) → Passed s f p op a n
-      → Stands (s .sector) (groundOf s vol) (p .size) op (args (a .first) (a .second) (a .len)) (staging (p .staged) bytes)
+      → Stands (s .sector) (groundOf s vol) (p .size) op a (staging (p .staged) bytes)
   stands {f} op a n q =
       record {
         lent = lent;
@@ -158,15 +157,7 @@ module _ (s : Setting) (vol : Volume) (p : Progress) (bytes : List ℕ) (good : 
   -- the same where the code has the parent's disk slots
   pub stands-with : {f : Spot → List ℕ} (slots : List ℕ) → slots ≡ parent s .slots → (op : Op) (a : Args) (n : ℕ)
       → Passed s f p op a n
-      → Stands (s .sector) (ground (s .stagesectors) slots (vol .disk)) (p .size) op (args (a .first) (a .second) (a .len)) (staging (p .staged) bytes)
+      → Stands (s .sector) (ground (s .stagesectors) slots (vol .disk)) (p .size) op a (staging (p .staged) bytes)
   stands-with slots own op a n q =
-      subst (λ (l : List ℕ). Stands (s .sector) (ground (s .stagesectors) l (vol .disk)) (p .size) op (args (a .first) (a .second) (a .len)) (staging (p .staged) bytes))
+      subst (λ (l : List ℕ). Stands (s .sector) (ground (s .stagesectors) l (vol .disk)) (p .size) op a (staging (p .staged) bytes))
       (sym own) (stands op a n q)
-
--- and what the code's answer is then
-pub effect-with : {x : Staging} (s : Setting) (vol : Volume) (slots : List ℕ) → slots ≡ parent s .slots → (size : ℕ) (op : Op) (a : Args) (d l : List ℕ)
-    (g : Staging) → (op ≡ Write → d ≡ l) → x ≡ effect (s .sector) (ground (s .stagesectors) slots (vol .disk)) size op (args (a .first) (a .second) (a .len)) d g
-    → x ≡ effect (s .sector) (groundOf s vol) size op a l g
-effect-with s vol slots own size op a d l g h q =
-    q ∙ ap (λ (y : List ℕ). effect (s .sector) (ground (s .stagesectors) y (vol .disk)) size op (args (a .first) (a .second) (a .len)) d g) own
-    ∙ effect-args (s .sector) (groundOf s vol) size op a d g ∙ effect-data (s .sector) (groundOf s vol) size op a d l g h

@@ -16,7 +16,7 @@ use Rattle.machine_sight.specs.Seen.{holds}
 use Rattle.machine_sight.proofs.Callers.{slots-hold}
 use Rattle.machine_sight.specs.Lookup.{Stands}
 use Rattle.machine_step.specs.Asks.{Reads}
-use Rattle.machine_step.proofs.Laws.Planned.{reads-good}
+use Rattle.machine_step.proofs.Laws.After.{reads-good}
 use Rattle.machine_step.specs.Turns.{Ready, Runs}
 use Rattle.host.specs.declared.Place.{Place}
 use Rattle.host.specs.declared.Host.{Host}
@@ -75,8 +75,7 @@ pub starting-any : (h : Host) (disk : List ℕ) → startingPair (settingOf h) (
 unfolding startingPair parent volumeBy rootOf rootBy
 starting-any h disk = refl
 
-pub running-any : (h : Host) (disk stage : List ℕ) → let s = settingOf h disk in
-    runningPair (settingOf h) (keptRoot (h .diskroots) (h .stageroots)) (h .program .progress)
-    ≡ runningPair (h .sector) s (rootOf (h .sector) s stage (h .stageroots)) (h .program .progress)
+pub running-any : (h : Host) (disk stage : List ℕ) → runningPair (settingOf h) (keptRoot (h .diskroots) (h .stageroots)) (h .program .progress)
+    ≡ runningPair (settingOf h) (rootOf (settingOf h) (volumeOf h disk) stage (h .stageroots)) (h .program .progress)
 unfolding runningPair parentSpots parent volumeBy rootOf rootBy
 running-any h disk stage = refl

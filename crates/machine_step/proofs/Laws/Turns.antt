@@ -8,11 +8,11 @@ use Rattle.host.specs.Order.{termsInOrder}
 use Rattle.machine_rules.specs.View.{Turn, Volume}
 use Rattle.machine_rules.specs.declared.Setting.{Setting}
 use Rattle.machine_rules.specs.Inputs.{need, inputsOf}
-use Rattle.machine_rules.specs.Run.{stepped, current, step, going, ready, runs, run}
+use Rattle.machine_rules.specs.Run.{current, step, going, ready, runs, run, turned}
 use Rattle.machine_rules.proofs.Laws.Areas.{stepped-alike}
 use Rattle.machine_rules.proofs.Laws.Kept.{stepped-good}
 use Rattle.machine_rules.proofs.Laws.Steps.{runs-go, runs-stop, left, ready-going, step-left, none-left, runs-enough, left-most}
-use Rattle.machine_step.specs.Asks.{Steps}
+use Rattle.machine_step.specs.Asks.{Steps, steppedTurn}
 use Rattle.machine_step.specs.Turns.{Runs}
 use Rattle.sia.specs.declared.Instruction.{Instruction}
 
@@ -24,9 +24,9 @@ turn-is s t d h = any-default (s .terms .head .instructions) (t .progress .ran) 
 
 -- and one step of the run
 pub steps-turn : (s : Setting) (vol : Volume) (a : List ℕ) (t : Turn) {i : Instruction} {u : Turn} → i ≡ current s t
-    → u ≡ stepped s vol i (inputsOf i a) t → u ≡ step s vol a t
+    → u ≡ steppedTurn s vol i a t → u ≡ step s vol a t
 unfolding step
-steps-turn s vol a t e h = h ∙ ap (λ (j : Instruction). stepped s vol j (inputsOf j a) t) e
+steps-turn s vol a t e h = h ∙ ap (λ (j : Instruction). steppedTurn s vol j a t) e
 
 -- whether it is ready: the program goes on, and its need has come
 module _ (s : Setting) (k : ℕ) (t : Turn) where
@@ -80,7 +80,7 @@ module _ (s : Setting) (vol : Volume) (a : List ℕ) (k : ℕ) where
   }
 
   pub further : (t₀ t : Turn) {u : Turn} → Reached t₀ t → ready s k t ≡ true → u ≡ step s vol a t → Reached t₀ u
-  unfolding run step
+  unfolding run step turned
   further t₀ t x h e =
       let r = x .kept in
       let same = stepped-alike s vol (current s t) (inputsOf (current s t) a) t in
