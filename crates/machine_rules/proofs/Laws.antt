@@ -24,3 +24,4 @@ pub mod Search
 pub mod Homes
 pub mod Pieces
 pub mod Worked
+pub mod Refusals

@@ -6,7 +6,7 @@ use mathlib.Core.List.{List, []}
 use Prim.Native.Nat.{ℕ, _+_}
 use lib.ListN.{length}
 use lib.Dec.{leb, ltb, eqb}
-use Rattle.lists.specs.Pick.{pick, both}
+use Rattle.lists.specs.Pick.{pick, both, either}
 use Rattle.area.specs.Area.{same, put, zeros}
 use Rattle.sia.specs.Names.{readOnly}
 use Rattle.sia.specs.Decode.{decode}
@@ -59,6 +59,27 @@ openedHead h fault head budget prices room =
 unfoldable pub opened : Host → List ℕ → ℕ → Prices → ℕ → Answer
 opened h bytes budget prices room = openedHead h (decode bytes .number) (decode bytes .head) budget prices room
 
+-- ---- calls on the open program
+
+-- "Pieces lend an input area of exactly the declared data length; pieces and interrupts lend an output area of the output length."
+unfoldable pub inputRight : Host → List ℕ → Bool
+inputRight h input = eqb (length input) (h .program .terms .head .length)
+
+unfoldable pub outputRight : Host → List ℕ → Bool
+outputRight h output = eqb (length output) (h .program .terms .room)
+
+-- "2 tests input and output areas only if a program is open"
+unfoldable pub pieceLent : Host → List ℕ → List ℕ → List ℕ → List ℕ → Bool
+pieceLent h disk stage input output =
+    both (areasRight h disk stage) (either (not (h .program .active)) (both (inputRight h input) (outputRight h output)))
+
+unfoldable pub interruptLent : Host → List ℕ → List ℕ → Bool
+interruptLent h disk output = both (diskRight h disk) (either (not (h .program .active)) (outputRight h output))
+
+-- 1, 2, 4: why a call on the open program is refused, 0 if it is not; `lent` says whether what it lends is as long as stated
+unfoldable pub refusal : Host → Bool → ℕ
+refusal h lent = pick (not (inOrder h)) 1 (pick (not lent) 2 (pick (not (h .program .active)) 4 0))
+
 -- ---- pieces
 
 -- the number, the tally, the host, and the areas as they are left
@@ -84,23 +105,14 @@ acceptedBy way disk h stage input output bytes =
 abbrev pub accepted : List ℕ → Host → List ℕ → List ℕ → List ℕ → List ℕ → Pieced
 accepted disk h stage input output bytes = acceptedBy kept disk h stage input output bytes
 
--- "Pieces lend an input area of exactly the declared data length; pieces and interrupts lend an output area of the output length."
-unfoldable pub inputRight : Host → List ℕ → Bool
-inputRight h input = eqb (length input) (h .program .terms .head .length)
-
-unfoldable pub outputRight : Host → List ℕ → Bool
-outputRight h output = eqb (length output) (h .program .terms .room)
-
--- 1, 2 ("2 tests input and output areas only if a program is open"), 4, 12
+-- 1, 2, 4, 12
 unfoldable pub pieceBy : Way → List ℕ → Host → List ℕ → List ℕ → List ℕ → List ℕ → Pieced
 pieceBy way disk h stage input output bytes =
     let done = acceptedBy way disk h stage input output bytes in
-    pick (not (inOrder h)) (pieced 1 0 h stage input output)
-    (pick (not (areasRight h disk stage)) (pieced 2 0 h stage input output)
-    (pick (both (h .program .active) (not (both (inputRight h input) (outputRight h output)))) (pieced 2 0 h stage input output)
-    (pick (not (h .program .active)) (pieced 4 0 h stage input output)
+    let n = refusal h (pieceLent h disk stage input output) in
+    pick (not (eqb n 0)) (pieced n 0 h stage input output)
     (pick (ltb (h .program .terms .head .length) (h .program .came + length bytes)) (pieced 12 0 h stage input output)
-    done))))
+    done)
 
 -- the call
 abbrev pub piece : List ℕ → Host → List ℕ → List ℕ → List ℕ → List ℕ → Pieced
@@ -130,11 +142,9 @@ stopped disk h output = stoppedBy kept disk h output
 unfoldable pub interruptBy : Way → List ℕ → Host → List ℕ → Interrupted
 interruptBy way disk h output =
     let done = stoppedBy way disk h output in
-    pick (not (inOrder h)) (interrupted 1 0 h output)
-    (pick (not (diskRight h disk)) (interrupted 2 0 h output)
-    (pick (both (h .program .active) (not (outputRight h output))) (interrupted 2 0 h output)
-    (pick (not (h .program .active)) (interrupted 4 0 h output)
-    (pick (going (h .program .terms) (h .program .progress)) done (interrupted 0 (h .program .progress .tally) h output)))))
+    let n = refusal h (interruptLent h disk output) in
+    pick (not (eqb n 0)) (interrupted n 0 h output)
+    (pick (going (h .program .terms) (h .program .progress)) done (interrupted 0 (h .program .progress .tally) h output))
 
 -- the call
 abbrev pub interrupt : List ℕ → Host → List ℕ → Interrupted
@@ -160,14 +170,12 @@ reachedAt n pair = record { number = n; size = pair .size; root = pair .root }
 unfoldable pub noPair : Pair
 noPair = record { size = 0; root = zeros 32 }
 
--- 1, 2, 4, as a piece
+-- 1, 2, 4; it lends disk and stage
 unfoldable pub reachedBy : Way → List ℕ → Host → List ℕ → Reached
 reachedBy way disk h stage =
     let pair = reachedPairBy way disk h stage in
-    pick (not (inOrder h)) (reachedAt 1 noPair)
-    (pick (not (areasRight h disk stage)) (reachedAt 2 noPair)
-    (pick (not (h .program .active)) (reachedAt 4 noPair)
-    (reachedAt 0 pair)))
+    let n = refusal h (areasRight h disk stage) in
+    pick (not (eqb n 0)) (reachedAt n noPair) (reachedAt 0 pair)
 
 -- the call
 abbrev pub reached : List ℕ → Host → List ℕ → Reached

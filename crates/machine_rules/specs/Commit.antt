@@ -12,12 +12,12 @@ use Rattle.area.specs.Area.{part, put, zeros}
 use Rattle.host.specs.Empty.{none, noProgram}
 use Rattle.host.specs.With.{withPlaces, withProgram, withDiskRoots, withSize, withSlots}
 use Rattle.host.specs.Places.{committed, taken}
-use Rattle.host.specs.Order.{inOrder}
 use Rattle.host.specs.Calls.{replaced}
 use Rattle.machine_rules.specs.View.{Way, kept, settingBy, settingOf, parent, areasRight}
 use Rattle.machine_rules.specs.Roots.{rootOf}
 use Rattle.machine_rules.specs.Record.{pairing, samePair, startingPair, runningPair}
 use Rattle.machine_rules.specs.Run.{going}
+use Rattle.machine_rules.specs.Calls.{refusal}
 use Rattle.host.specs.declared.Place.{Place}
 use Rattle.host.specs.declared.Program.{Program}
 use Rattle.host.specs.declared.Host.{Host}
@@ -102,12 +102,11 @@ unfinished g = either (g .progress .failed) (going (g .terms) (g .progress))
 unfoldable pub closeBy : Way → List ℕ → Host → List ℕ → Bool → ℕ → List ℕ → Closed
 closeBy way disk h stage agree size root =
     let done = agreedBy way disk h stage (pairing size root) in
-    pick (not (inOrder h)) (closed 1 0 (pos 0) h disk)
-    (pick (not (areasRight h disk stage)) (closed 2 0 (pos 0) h disk)
-    (pick (not (h .program .active)) (closed 4 0 (pos 0) h disk)
+    let n = refusal h (areasRight h disk stage) in
+    pick (not (eqb n 0)) (closed n 0 (pos 0) h disk)
     (pick (not agree) (givenUp 0 disk h)
     (pick (unfinished (h .program)) (closed 13 0 (pos 0) h disk)
-    done))))
+    done))
 
 -- the call
 abbrev pub close : List ℕ → Host → List ℕ → Bool → ℕ → List ℕ → Closed

@@ -40,14 +40,14 @@ size c = order-facts (host c) (start c .pre .order) .size
 final-slots-requires : tie.Need-final-slots-requires
 final-slots-requires c κs =
     let r = start c .pre in
-    (size c, (few-slots _ (host c) _ (declared c) (r .order) (r .areas) (r .live), few-sectors _ (host c) _ (declared c) (r .order) (r .areas) (r .live)))
+    (size c, (few-slots _ (host c) _ (declared c) r, few-sectors _ (host c) _ (declared c) r))
 
 growth-requires : tie.Need-growth-requires
 growth-requires c κs =
     let at = c .before .before .before in
     let r = start at .pre in (
-      last-size _ (host at) _ (declared at) (r .order) (r .areas) (r .live),
-      first-size _ (host at) _ (declared at) (r .order) (r .areas) (r .live) (at .place-of .ensures),
+      last-size _ (host at) _ (declared at) r,
+      first-size _ (host at) _ (declared at) r (at .place-of .ensures),
     )
 
 div-count : tie.Need-div-count
@@ -59,7 +59,7 @@ copy-back-requires : tie.Need-copy-back-requires
 copy-back-requires c κs =
     let at-final-place = c .before .before .before in let slots = at-final-place .before in let at = slots .before in
     let r = start at .pre in
-    backs _ (host at) _ (declared at) (r .order) (r .areas) (r .live) (at .place-of .ensures) (slots .final-slots .ensures)
+    backs _ (host at) _ (declared at) r (at .place-of .ensures) (slots .final-slots .ensures)
 
 slice-aggregate-copy-back : tie.Need-slice-aggregate-copy-back
 slice-aggregate-copy-back c =
@@ -78,7 +78,7 @@ copy-back-requires-2 c κs =
     let at-stageroots = c .before .before .before in let at-copy-back = at-stageroots .before .before .before in
     let at-replaced-in = at-copy-back .before .before .before in let slots = at-replaced-in .before .before in let at = slots .before in
     let r = start at .pre in
-    roots-back _ (host at) _ (declared at) (r .order) (r .areas) (r .live) (at .place-of .ensures) (slots .final-slots .ensures)
+    roots-back _ (host at) _ (declared at) r (at .place-of .ensures) (slots .final-slots .ensures)
 
 returns : tie.Need-returns
 unfolding withProgram withPlaces withDiskRoots

@@ -1,8 +1,7 @@
 -- `sound` meets its contract: a walk down the definition. Assumes nothing.
-use Rattle.lists.proofs.Kit.{_≡_, refl, sym, ap, _∙_, true, not, arith, not-false}
+use Rattle.lists.proofs.Kit.{_≡_, refl, sym, ap, _∙_, true, not, not-false, needs}
 use Rattle.lists.proofs.Laws.Pick.{yes, no}
 use Rattle.host.specs.Order.{inOrder}
-use Rattle.host.proofs.Laws.Order.{order-facts}
 use Rattle.machine_rules.specs.View.{diskRight, areasRight}
 use Rattle.machine_rules.specs.Sound.{soundedAt, sounded}
 use Rattle.machine.proofs.sounding.sound.Statement.{statement}
@@ -25,9 +24,6 @@ areas c = sym (c .areas-right .ensures)
 
 -- ---- the needs
 
-areas-right-requires : tie.Need-areas-right-requires
-areas-right-requires c κs = let o = order-facts _ (in-order c) in (o .size, (o .diskMost, omega (arith, o .stageMost)))
-
 returns-2 : tie.Need-returns-2
 unfolding sounded
 returns-2 c = no _ _ _ (ap not (in-order (c .before .before))) (yes _ _ _ (ap not (areas (c .before)) ∙ c .if2 .taken) refl)
@@ -44,6 +40,6 @@ unfolding sounded
 sound-spec =
     tie.close (tie.spec (λ c κs. tt)
     (λ c. yes _ _ _ (ap not (sym (c .before .in-order .ensures)) ∙ c .if1 .taken) refl)
-    areas-right-requires returns-2
+    (λ c κs. search needs) returns-2
     (λ c κs. (in-order (c .before .before), areas (c .before) ∙ not-false _ (c .if2 .left)))
     returns-3)
