@@ -30,8 +30,8 @@ host c = start c .args .host
 abbrev slots : tie.After-growth → tie.After-final-slots
 slots c = c .before .before .before
 
-abbrev back : tie.After-stageroots2 → tie.After-copy-back
-back c = let left = c .before .before .before in left .before .before
+abbrev back : tie.After-diskroots → tie.After-copy-back
+back c = let left = c .before .before in left .before .before
 
 abbrev after : tie.After-copy-back → tie.After-final-slots
 after c = slots (c .before .before)
@@ -60,7 +60,7 @@ copy-back-requires c κs =
 
 copy-back-requires-2 : tie.Need-copy-back-requires-2
 copy-back-requires-2 c κs =
-    let made = after (back (c .before)) in
+    let made = after (back (c .before .before)) in
     let at = made .before in
     roots-back _ _ _ (declared at) (start at .pre) (at .place-of .ensures) (made .final-slots .ensures)
 
@@ -68,7 +68,7 @@ returns : tie.Need-returns
 unfolding withProgram withPlaces withDiskRoots
 returns c =
     let rooted = c .before .before in
-    let copied = back (rooted .before .before) in
+    let copied = back (rooted .before .before .before) in
     let grown = copied .before .before in
     let replaced = grown .before in
     let at = slots grown .before in
@@ -90,6 +90,6 @@ commit-spec =
     (λ c κs. search needs) (λ c κs. search needs) growth-requires
     (λ c. some _ (size (slots c .before)))
     copy-back-requires
-    (λ c. let at = after (back c) .before in sym (stage-rooted (host at) _ (start at .good .0)))
-    (λ c. let at = after (back (c .before)) .before in sym (disk-rooted (host at) _ (start at .good .0)))
+    (λ c. let at = after (back (c .before)) .before in sym (stage-rooted (host at) _ (start at .good .0)))
+    (λ c. let at = after (back (c .before .before)) .before in sym (disk-rooted (host at) _ (start at .good .0)))
     copy-back-requires-2 (λ c κs. search needs) (λ c. search needs) returns)

@@ -25,10 +25,10 @@ first c = start (c .before .before)
 abbrev one : tie.Else2 → tie.Else1
 one c = c .before .before .before
 
-abbrev live : tie.After-stageroots2 → tie.Else2
-live c = let staged = c .before .before in staged .before .before
+abbrev live : tie.After-stageroots → tie.Else2
+live c = c .before .before .before
 
-abbrev beside : tie.After-stageroots2 → tie.Start
+abbrev beside : tie.After-stageroots → tie.Start
 beside c = first (one (live c) .before)
 
 -- ---- what the calls gave
@@ -62,9 +62,10 @@ listed-right-requires c κs =
 
 all-right-requires : tie.Need-all-right-requires
 all-right-requires c κs =
-    let s = beside (c .before) in
+    let at = c .before .before in
+    let s = beside at in
     let h = s .args .host in
-    stage-beside h _ _ (s .pre .0) (s .pre .1) (stage-rooted h _ (s .good .0)) (not-false _ (live (c .before) .if2 .left))
+    stage-beside h _ _ (s .pre .0) (s .pre .1) (stage-rooted h _ (s .good .0)) (not-false _ (live at .if2 .left))
 
 pub roots-right-spec : {M : Type 1} → statement M
 unfolding rootsRight
@@ -75,7 +76,7 @@ roots-right-spec =
     listed-right-requires
     (λ c. no _ _ _ (disk-told (c .before) ∙ not-true _ (c .if1 .taken)) refl)
     (λ c. past-1 (c .before .before .before) _ (yes _ _ _ (c .if2 .taken) refl))
-    (λ c. let s = beside c in sym (stage-rooted (s .args .host) _ (s .good .0)))
-    (λ c. let s = beside (c .before) in sym (hosted (s .args .host) _ (s .good .0)))
+    (λ c. let s = beside (c .before) in sym (stage-rooted (s .args .host) _ (s .good .0)))
+    (λ c. let s = beside (c .before .before) in sym (hosted (s .args .host) _ (s .good .0)))
     all-right-requires
-    (λ c. let at = live (c .before .before) in past-1 (one at) _ (no _ _ _ (at .if2 .left) (c .all-right .ensures))))
+    (λ c. let at = live (c .before .before .before) in past-1 (one at) _ (no _ _ _ (at .if2 .left) (c .all-right .ensures))))
