@@ -12,7 +12,7 @@ use Rattle.machine_rules.specs.Visit.{Areas}
 use Rattle.machine_rules.specs.Trace.{together, lentTo, fed, AllAccepted, made, after, fedBy}
 use Rattle.machine_rules.proofs.Laws.Steps.{run-below, run-on}
 use Rattle.machine_rules.proofs.Laws.Taking.{Taking, all-accepted}
-use Rattle.machine_rules.proofs.Laws.Refusals.{some}
+use Rattle.machine_rules.proofs.Laws.Refusals.{numbered}
 use Rattle.host.specs.declared.Host.{Host}
 
 -- a piece is accepted, or refused with a number and everything as it was
@@ -29,7 +29,7 @@ refused-if w a n false r p q = q
 pub piece-answers : (disk : List ℕ) (w : Pieced) (b : List ℕ)
     → Answered w (accepted disk (w .host) (w .stage) (w .input) (w .output) b) (piece disk (w .host) (w .stage) (w .input) (w .output) b)
 unfolding pieceBy
-piece-answers disk w b = refused-if w _ _ _ _ (some _ _) (refused-if w _ 12 _ _ (λ _. omega arith) (ok refl))
+piece-answers disk w b = refused-if w _ _ _ _ (numbered _ _) (refused-if w _ 12 _ _ (λ _. omega arith) (ok refl))
 
 pub answered-zero : (w a r : Pieced) → Answered w a r → r .number ≡ 0 → r ≡ a
 answered-zero w a r (ok e) h = e

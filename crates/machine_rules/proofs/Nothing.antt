@@ -19,7 +19,7 @@ use Rattle.machine_rules.specs.Trace.{running, Unchanged}
 use Rattle.machine_rules.specs.Outcome.{Standing, Untouched, stageTaken, Shut, Dropped}
 use Rattle.machine_rules.specs.Demand1.{Nothing, Closing}
 use Rattle.machine_rules.proofs.Laws.Pairs.{same-pairs, pairs-differ}
-use Rattle.machine_rules.proofs.Laws.Refusals.{past, goes, some, few}
+use Rattle.machine_rules.proofs.Laws.Refusals.{past, goes, numbered, low}
 use Rattle.host.specs.declared.Program.{Program}
 use Rattle.host.specs.declared.Host.{Host}
 use Rattle.machine_rules.specs.declared.Answer.{Answer}
@@ -84,8 +84,8 @@ module _ (h : Host) (a : Areas) where
     pub close-ways : K (closes h a g)
     unfolding closeBy agreedBy unfinished
     close-ways =
-        let small = few h (areasRight h (a .disk) (a .stage)) in
-        either-way K _ _ _ (λ t. refused _ (some h _ t) (omega (arith, small)) (λ n. absurd (omega (arith, small)))) (λ past-4.
+        let small = low h (areasRight h (a .disk) (a .stage)) in
+        either-way K _ _ _ (λ t. refused _ (numbered h _ t) (omega (arith, small)) (λ n. absurd (omega (arith, small)))) (λ past-4.
         either-way K _ _ _ (λ e. up (not-true _ e)) (λ e.
         either-way K _ _ _ (λ t. refused 13 (omega arith) (omega arith) (λ _. t)) (λ ended.
         let agrees = not-false _ e in

@@ -35,7 +35,7 @@ use Rattle.machine_rules.proofs.Laws.Kept.{failed-good, runs-good}
 use Rattle.machine_rules.proofs.Laws.Taking.{order-lent, order-good, good-order}
 use Rattle.machine_rules.proofs.Committing.{commit-order}
 use Rattle.sia.specs.declared.Head.{Head}
-use Rattle.machine_rules.proofs.Laws.Refusals.{past, one, one-stops}
+use Rattle.machine_rules.proofs.Laws.Refusals.{past, broken, broken-stops}
 use Rattle.host.specs.declared.Prices.{Prices}
 use Rattle.host.specs.declared.Program.{Program}
 use Rattle.host.specs.declared.Host.{Host}
@@ -170,10 +170,10 @@ damaged h a e = record {
   forming = λ id. ap (λ (r : Made). r .number) (picks (not (inOrder h)) _ _ (ap not e));
   dropping = λ id. ap (λ (r : Made). r .number) (picks (not (inOrder h)) _ _ (ap not e));
   opening = λ o. ap (λ (r : Answer). r .number) (picks (not (inOrder h)) _ _ (ap not e));
-  piece = λ bytes. ap (λ (r : Pieced). r .number) (picks _ _ _ (one-stops h _ e)) ∙ one h _ e;
-  interrupt = ap (λ (r : Interrupted). r .number) (picks _ _ _ (one-stops h _ e)) ∙ one h _ e;
-  reached = ap (λ (r : Reached). r .number) (picks _ _ _ (one-stops h _ e)) ∙ one h _ e;
-  closing = λ g. ap (λ (r : Closed). r .number) (picks _ _ _ (one-stops h _ e)) ∙ one h _ e;
+  piece = λ bytes. ap (λ (r : Pieced). r .number) (picks _ _ _ (broken-stops h _ e)) ∙ broken h _ e;
+  interrupt = ap (λ (r : Interrupted). r .number) (picks _ _ _ (broken-stops h _ e)) ∙ broken h _ e;
+  reached = ap (λ (r : Reached). r .number) (picks _ _ _ (broken-stops h _ e)) ∙ broken h _ e;
+  closing = λ g. ap (λ (r : Closed). r .number) (picks _ _ _ (broken-stops h _ e)) ∙ broken h _ e;
 }
 
 -- every call leaves a host in order that is in order

@@ -40,12 +40,12 @@ module _ (h : Host) (lent : Bool) where
   goes p = ap not (eq-eqb _ _ (zero-past p))
 
   -- a refusal has a number from 1 to 4
-  pub some : not (eqb (refusal h lent) 0) ≡ true → 0 < refusal h lent
-  some e = let other : refusal h lent ≡ 0 → ⊥ = eqb-false _ _ (not-true _ e) in omega (arith, other)
+  pub numbered : not (eqb (refusal h lent) 0) ≡ true → 0 < refusal h lent
+  numbered e = let other : refusal h lent ≡ 0 → ⊥ = eqb-false _ _ (not-true _ e) in omega (arith, other)
 
-  pub few : refusal h lent ≤ 4
+  pub low : refusal h lent ≤ 4
   unfolding refusal pick
-  few = under (inOrder h) lent (h .program .active)
+  low = under (inOrder h) lent (h .program .active)
     where
       under : (a b c : Bool) → pick (not a) 1 (pick (not b) 2 (pick (not c) 4 0)) ≤ 4
       under false b c = omega arith
@@ -54,12 +54,12 @@ module _ (h : Host) (lent : Bool) where
       under true true true = omega arith
 
   -- a host that is not in order is refused with 1
-  pub one : inOrder h ≡ false → refusal h lent ≡ 1
+  pub broken : inOrder h ≡ false → refusal h lent ≡ 1
   unfolding refusal
-  one e = picks _ _ _ (ap not e)
+  broken e = picks _ _ _ (ap not e)
 
-  pub one-stops : inOrder h ≡ false → not (eqb (refusal h lent) 0) ≡ true
-  one-stops e = ap (λ (n : ℕ). not (eqb n 0)) (one e)
+  pub broken-stops : inOrder h ≡ false → not (eqb (refusal h lent) 0) ≡ true
+  broken-stops e = ap (λ (n : ℕ). not (eqb n 0)) (broken e)
 
 -- ---- what pieces and interrupts lend
 
