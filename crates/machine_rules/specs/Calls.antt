@@ -11,7 +11,7 @@ use Rattle.area.specs.Area.{same, put, zeros}
 use Rattle.sia.specs.Names.{readOnly}
 use Rattle.sia.specs.Decode.{decode}
 use Rattle.host.specs.Empty.{started}
-use Rattle.host.specs.With.{withProgram}
+use Rattle.host.specs.With.{programOf, withProgram}
 use Rattle.host.specs.Places.{whose}
 use Rattle.host.specs.Order.{inOrder}
 use Rattle.machine_rules.specs.View.{Way, kept, settingBy, turnOf, withRun, diskRight, areasRight}
@@ -49,7 +49,7 @@ unfoldable pub openedHead : Host → ℕ → Head → ℕ → Prices → ℕ →
 openedHead h fault head budget prices room =
     pick (not (inOrder h)) (answered 1 0 h)
     (pick (not (roomRight room)) (answered 2 0 h)
-    (pick (h .program .active) (answered 3 0 h)
+    (pick (programOf h .active) (answered 3 0 h)
     (pick (not (eqb fault 0)) (answered fault 0 h)
     (pick (both (not (same (head .contract) readOnly)) (not (whose (head .contract) (h .places) .held))) (answered 7 0 h)
     (pick (ltb budget (prices .init)) (answered 11 0 h)
@@ -63,22 +63,22 @@ opened h bytes budget prices room = openedHead h (decode bytes .number) (decode 
 
 -- "Pieces lend an input area of exactly the declared data length; pieces and interrupts lend an output area of the output length."
 unfoldable pub inputRight : Host → List ℕ → Bool
-inputRight h input = eqb (length input) (h .program .terms .head .length)
+inputRight h input = eqb (length input) (programOf h .terms .head .length)
 
 unfoldable pub outputRight : Host → List ℕ → Bool
-outputRight h output = eqb (length output) (h .program .terms .room)
+outputRight h output = eqb (length output) (programOf h .terms .room)
 
 -- "2 tests input and output areas only if a program is open"
 unfoldable pub pieceLent : Host → List ℕ → List ℕ → List ℕ → List ℕ → Bool
 pieceLent h disk stage input output =
-    both (areasRight h disk stage) (either (not (h .program .active)) (both (inputRight h input) (outputRight h output)))
+    both (areasRight h disk stage) (either (not (programOf h .active)) (both (inputRight h input) (outputRight h output)))
 
 unfoldable pub interruptLent : Host → List ℕ → List ℕ → Bool
-interruptLent h disk output = both (diskRight h disk) (either (not (h .program .active)) (outputRight h output))
+interruptLent h disk output = both (diskRight h disk) (either (not (programOf h .active)) (outputRight h output))
 
 -- 1, 2, 4: why a call on the open program is refused, 0 if it is not; `lent` says whether what it lends is as long as stated
 unfoldable pub refusal : Host → Bool → ℕ
-refusal h lent = pick (not (inOrder h)) 1 (pick (not lent) 2 (pick (not (h .program .active)) 4 0))
+refusal h lent = pick (not (inOrder h)) 1 (pick (not lent) 2 (pick (not (programOf h .active)) 4 0))
 
 -- ---- pieces
 
@@ -97,8 +97,8 @@ pieced n tally h stage input output = record { number = n; tally = tally; host =
 -- "A piece is copied into the input area after the bytes already come. Then instructions run in turn while their need has come."
 unfoldable pub acceptedBy : Way → List ℕ → Host → List ℕ → List ℕ → List ℕ → List ℕ → Pieced
 acceptedBy way disk h stage input output bytes =
-    let k = h .program .came + length bytes in
-    let area = put input (h .program .came) bytes in
+    let k = programOf h .came + length bytes in
+    let area = put input (programOf h .came) bytes in
     let t = run (h .sector) (settingBy way h disk) area k (turnOf h stage output) in
     pieced 0 (t .progress .tally) (withRun h k (t .progress) (t .roots)) (t .stage) area (t .output)
 
@@ -111,7 +111,7 @@ pieceBy way disk h stage input output bytes =
     let done = acceptedBy way disk h stage input output bytes in
     let n = refusal h (pieceLent h disk stage input output) in
     pick (not (eqb n 0)) (pieced n 0 h stage input output)
-    (pick (ltb (h .program .terms .head .length) (h .program .came + length bytes)) (pieced 12 0 h stage input output)
+    (pick (ltb (programOf h .terms .head .length) (programOf h .came + length bytes)) (pieced 12 0 h stage input output)
     done)
 
 -- the call
@@ -133,7 +133,7 @@ interrupted n tally h output = record { number = n; tally = tally; host = h; out
 unfoldable pub stoppedBy : Way → List ℕ → Host → List ℕ → Interrupted
 stoppedBy way disk h output =
     let t = failing (h .sector) (settingBy way h disk) 20 (turnOf h [] output) in
-    interrupted 0 (t .progress .tally) (withRun h (h .program .came) (t .progress) (t .roots)) (t .output)
+    interrupted 0 (t .progress .tally) (withRun h (programOf h .came) (t .progress) (t .roots)) (t .output)
 
 abbrev pub stopped : List ℕ → Host → List ℕ → Interrupted
 stopped disk h output = stoppedBy kept disk h output
@@ -144,7 +144,7 @@ interruptBy way disk h output =
     let done = stoppedBy way disk h output in
     let n = refusal h (interruptLent h disk output) in
     pick (not (eqb n 0)) (interrupted n 0 h output)
-    (pick (going (h .program .terms) (h .program .progress)) done (interrupted 0 (h .program .progress .tally) h output))
+    (pick (going (programOf h .terms) (programOf h .progress)) done (interrupted 0 (programOf h .progress .tally) h output))
 
 -- the call
 abbrev pub interrupt : List ℕ → Host → List ℕ → Interrupted
@@ -155,7 +155,7 @@ interrupt disk h output = interruptBy kept disk h output
 -- the pair that an agreement would name; after a failure the starting pair
 unfoldable pub reachedPairBy : Way → List ℕ → Host → List ℕ → Pair
 reachedPairBy way disk h stage =
-    let p = h .program .progress in
+    let p = programOf h .progress in
     let s = settingBy way h disk in
     let starting = startingPair (h .sector) s in
     let running = runningPair (h .sector) s (rootOf (h .sector) s stage (h .stageroots)) p in
