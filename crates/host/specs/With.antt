@@ -1,4 +1,4 @@
--- A record with one field changed, a definition for each field that changes. Assumes nothing.
+-- A record with one field changed, a definition for each field that changes; and the way to the open program. Assumes nothing.
 use mathlib.Core.Bool.{Bool}
 use mathlib.Core.List.{List}
 use Prim.Native.Nat.{ℕ}
@@ -12,6 +12,10 @@ use Rattle.host.specs.declared.Host.{Host}
 unfoldable pub withPlaces : Host → List Place → Host
 withPlaces h ps =
     record { sector = h .sector; disk = h .disk; stage = h .stage; places = ps; program = h .program; diskroots = h .diskroots; stageroots = h .stageroots }
+
+-- the open program of a host, or none
+abbrev pub programOf : Host → Program
+programOf h = h .program
 
 unfoldable pub withProgram : Host → Program → Host
 withProgram h g =

@@ -19,7 +19,6 @@ mod staged; // staged.rt: whether the staged positions of a program are in order
 
 pub use areas::areas_right;
 pub use areas::lent;
-pub use areas::wrong;
 use staged::staged_in_order;
 
 // ---- contracts

@@ -1,13 +1,12 @@
 -- What callers use: what a host in order with an open program gives the functions of this crate, and that what they make together is the
 -- definition's commit. z is the sector size. Assumes nothing.
-use Rattle.lists.proofs.Kit.{_≡_, refl, sym, ap, _∙_, true, false, List, [], _∷_, _++_, ℕ, zero, suc, _-_, _*_, _/_, _≤_, _<_, zero-div, mul-le-mul-right}
+use Rattle.lists.proofs.Kit.{_≡_, refl, sym, ap, _∙_, true, false, List, [], _∷_, ℕ, _-_, _*_, _/_, _≤_, _<_, zero-div, mul-le-mul-right}
 use Rattle.lists.proofs.Kit.{div-le-of-le-mul, arith, length, getD, ltb, eqb, ltb-true, eqb-true}
 use lib.IntN.{ℤ, pos, _-ℤ_}
-use Rattle.lists.specs.Pick.{pick}
 use Rattle.lists.specs.Tests.{every}
 use Rattle.lists.proofs.Laws.Pick.{by, picks, skips, never, both-left, both-right}
 use Rattle.lists.proofs.Laws.Every.{every-fore, every-aft, every-at, every-get}
-use Rattle.area.specs.Area.{same, part, put, zeros}
+use Rattle.area.specs.Area.{same}
 use Rattle.area.proofs.Laws.Slots.{slot-within}
 use Rattle.sia.specs.Names.{readOnly}
 use Rattle.host.specs.Empty.{none, noPlace, noProgram}
@@ -15,7 +14,7 @@ use Rattle.host.specs.With.{withPlaces, withProgram, withDiskRoots, withSize, w
 use Rattle.host.specs.Places.{hasId, whose, taken}
 use Rattle.host.specs.Order.{placeInOrder, inOrder, slotInOrder, parentInOrder, termsInOrder}
 use Rattle.host.specs.Calls.{replaced}
-use Rattle.machine_rules.specs.View.{parent, areasRight, settingOf, volumeBy, volumeOf}
+use Rattle.machine_rules.specs.View.{parent, settingOf, volumeBy, volumeOf}
 use Rattle.machine_rules.specs.Facts.{Good, Solid}
 use Rattle.machine_rules.specs.Commit.{Closed, closed, finalSlots, copiedBack, finalPlace, commit}
 use Rattle.machine_rules.specs.Visit.{Declared}
@@ -27,39 +26,10 @@ use Rattle.machine_rules.proofs.Laws.Split.{split}
 use Rattle.machine_rules.proofs.Laws.Taking.{order-good, order-solid, areas-stage}
 use Rattle.host.specs.declared.Place.{Place}
 use Rattle.host.specs.declared.Host.{Host}
+use Rattle.machine_step.specs.Turns.{Ready}
 use Rattle.machine.specs.Marks.{filled}
 use Rattle.machine.specs.Back.{Back}
-
--- ---- zeros behind slots are read as nothing is
-
-getD-zeros : (k i : ℕ) → getD (zeros k) i 0 ≡ 0
-getD-zeros zero i = refl
-getD-zeros (suc k) zero = refl
-getD-zeros (suc k) (suc i) = getD-zeros k i
-
-getD-behind : (l : List ℕ) (k i : ℕ) → getD (l ++ zeros k) i 0 ≡ getD l i 0
-getD-behind [] k i = getD-zeros k i
-getD-behind (x ∷ l) k zero = refl
-getD-behind (x ∷ l) k (suc i) = getD-behind l k i
-
-pub slot-filled : (l : List ℕ) (i : ℕ) → getD (filled l) i 0 ≡ getD l i 0
-unfolding filled
-slot-filled l i = getD-behind l (64 - length l) i
-
--- `copy_back` copies to the final slots
-pub back-filled : (z : ℕ) (stage staged l : List ℕ) (i n : ℕ) (disk : List ℕ)
-    → copiedBack z stage staged (filled l) i n disk ≡ copiedBack z stage staged l i n disk
-unfolding copiedBack
-back-filled z stage staged l i zero disk = refl
-back-filled z stage staged l i (suc n) disk =
-    back-filled z stage staged l (suc i) n _
-    ∙ ap (λ (m : ℕ). copiedBack z stage staged l (suc i) n
-    (pick (eqb (getD staged i none) none) disk (put disk (m * z) (part stage (getD staged i none * z) z)))) (slot-filled l i)
-
--- `final_place` makes the final place
-pub place-filled : (p : Place) (size : ℕ) (l : List ℕ) → withSlots (withSize p size) (filled l) ≡ finalPlace p size l
-unfolding finalPlace filled
-place-filled p size l = refl
+use Rattle.machine.proofs.Laws.Filled.{slot-filled, back-filled, place-filled}
 
 -- ---- the sizes of contracts in order
 
@@ -77,8 +47,10 @@ whose-small z id (p ∷ ps) some h =
 
 -- ---- a host in order with an open program
 
-module _ (disk : List ℕ) (h : Host) (stage : List ℕ) (sound : Declared h) (o : inOrder h ≡ true)
-    (areas : areasRight h disk stage ≡ true) (live : h .program .active ≡ true) where
+module _ (disk : List ℕ) (h : Host) (stage : List ℕ) (sound : Declared h) (r : Ready disk h stage) where
+  abbrev o : inOrder h ≡ true
+  o = r .order
+
   abbrev z : ℕ
   z = h .sector
 
@@ -92,10 +64,10 @@ module _ (disk : List ℕ) (h : Host) (stage : List ℕ) (sound : Declared h) (o
   staged = h .program .progress .staged
 
   good : Good (settingOf h) (h .program .progress)
-  good = order-good h disk o live (sound .staged)
+  good = order-good h disk o (r .live) (sound .staged)
 
   solid : Solid (settingOf h) (volumeOf h disk)
-  solid = order-solid h disk stage o areas
+  solid = order-solid h disk stage o (r .areas)
 
   -- what `final_slots` asks
   pub few-slots : h .disk ≤ 64
@@ -169,7 +141,7 @@ module _ (disk : List ℕ) (h : Host) (stage : List ℕ) (sound : Declared h) (o
   pub backs : {p : Place} {slots : List ℕ} → p ≡ whose id (h .places) → slots ≡ filled (finalSlots z (h .disk) (h .places) p size)
       → Back z stage staged slots (size / z) disk
   unfolding volumeBy
-  backs e q = backs-at z stage disk (omega (arith, areas-stage h disk stage areas)) (omega (arith, solid .disk)) e q
+  backs e q = backs-at z stage disk (omega (arith, areas-stage h disk stage (r .areas))) (omega (arith, solid .disk)) e q
 
   -- and of the roots kept beside the slots
   pub roots-back : {p : Place} {slots : List ℕ} → p ≡ whose id (h .places) → slots ≡ filled (finalSlots z (h .disk) (h .places) p size)

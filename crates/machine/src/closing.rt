@@ -9,6 +9,7 @@ ghost use Rattle.machine_rules.specs.Commit as Says;
 ghost use Rattle.machine_step.specs.Turns.{Ready};
 ghost use Rattle.machine.specs.Closes.{closeLeaves};
 use crate::commit;
+use crate::refusing;
 use host::Host;
 use host::Program;
 use machine_rules::Pair;
@@ -136,19 +137,15 @@ pub fn close(
 ) -> Closing
     ensures { λ r. ⌜ closeLeaves r (now (disk .exit)) ≡ Says.close (now (disk .entry)) host (now (stage .entry)) agree size root ⌝ }
 {
-    if !host_order::in_order(host) {
-        return refused(1, host);
-    }
-    if !host_order::areas_right(host.sector, host.disk, host.stage, &*disk, stage) {
-        return refused(2, host);
-    }
-    let program = host.program;
-    if !program.active {
-        return refused(4, host);
+    let lent = host_order::areas_right(host.sector, host.disk, host.stage, &*disk, stage);
+    let number = refusing::refusal(host, lent);
+    if number != 0 {
+        return refused(number, host);
     }
     if !agree {
         return give_up(0, host);
     }
+    let program = host.program;
     if unfinished(program) {
         return refused(13, host);
     }

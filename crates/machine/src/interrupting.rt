@@ -2,11 +2,26 @@
 ghost use mathlib.Core.Path.{_≡_};
 ghost use mathlib.Core.List.{[]};
 ghost use Rattle.machine_rules.specs.Calls as Says;
-ghost use Rattle.machine_rules.specs.Calls.{stopped};
+ghost use Rattle.machine_rules.specs.Calls.{interruptLent, stopped};
 ghost use Rattle.machine.specs.Asks.{Stops, interruptLeaves};
-use crate::opening;
+use crate::refusing;
 use host::Host;
 use machine_rules::Answer;
+
+// Whether an interrupt lends what is stated: the disk, and, if a program is open, its output area.
+fn interrupt_lent(host: Host, disk: &[u8], output: &[u8]) -> bool
+    ensures { λ r. ⌜ r ≡ interruptLent host (now (disk .entry)) (now (output .entry)) ⌝ }
+{
+    if !host_order::lent(host.sector, host.disk, disk) {
+        return false;
+    }
+    let program = host.program;
+    if !program.active {
+        return true;
+    }
+    let terms = program.terms;
+    output.len() as u64 == terms.room
+}
 
 // Record 20, for the first instruction not run. Its root comes from the roots that are kept: no area is looked at.
 fn stop(host: Host, output: &mut [u8]) -> Answer
@@ -32,20 +47,12 @@ fn stop(host: Host, output: &mut [u8]) -> Answer
 pub fn interrupt(host: Host, disk: &[u8], output: &mut [u8]) -> Answer
     ensures { λ r. ⌜ interruptLeaves r (now (output .exit)) ≡ Says.interrupt (now (disk .entry)) host (now (output .entry)) ⌝ }
 {
-    if !host_order::in_order(host) {
-        return opening::refused(1, host);
-    }
-    if !host_order::lent(host.sector, host.disk, disk) {
-        return opening::refused(2, host);
+    let lent = interrupt_lent(host, disk, &*output);
+    let number = refusing::refusal(host, lent);
+    if number != 0 {
+        return refusing::refused(number, host);
     }
     let program = host.program;
-    let terms = program.terms;
-    if host_order::wrong(program.active, terms.room, output) {
-        return opening::refused(2, host);
-    }
-    if !program.active {
-        return opening::refused(4, host);
-    }
     if machine_step::going(program) {
         return stop(host, output);
     }

@@ -10,6 +10,7 @@ mod locating; // locating.rt: where the sector with a root is
 mod opening; // opening.rt: opening a program
 mod piecing; // piecing.rt: giving a program a piece
 mod reaching; // reaching.rt: what a program has reached
+mod refusing; // refusing.rt: why a call on the open program is refused
 mod sounding; // sounding.rt: whether a host is sound
 
 pub use closing::Closing;

@@ -6,8 +6,8 @@ ghost use Rattle.area.specs.Area.{same};
 ghost use Rattle.sia.specs.Names.{readOnly};
 ghost use Rattle.host.specs.Empty as Empty;
 ghost use Rattle.host.specs.Places.{whose};
-ghost use Rattle.machine_rules.specs.Calls as Says;
 ghost use Rattle.machine_rules.specs.Calls.{roomRight, opened};
+use crate::refusing;
 use host::Host;
 use host::Place;
 use host::Prices;
@@ -57,43 +57,33 @@ fn wide(x: u16) -> u64
     x as u64
 }
 
-pub fn refused(number: u64, host: Host) -> Answer
-    ensures { λ r. ⌜ r ≡ Says.answered number 0 host ⌝ }
-{
-    Answer {
-        number,
-        tally: 0,
-        host,
-    }
-}
-
 // Opens a program under a head in its bytes: 1, 2, 3, 9 and 10 in reading order, 7, 11; with 0 the start price is tallied.
 pub fn open(host: Host, bytes: &[u8], budget: u64, prices: Prices, room: u64) -> Answer
     ensures { λ r. ⌜ r ≡ opened host (now (bytes .entry)) budget prices room ⌝ }
 {
     if !host_order::in_order(host) {
-        return refused(1, host);
+        return refusing::refused(1, host);
     }
     if !room_right(room) {
-        return refused(2, host);
+        return refusing::refused(2, host);
     }
     let idle = host.program;
     if idle.active {
-        return refused(3, host);
+        return refusing::refused(3, host);
     }
     let told = sia_read::read_head(bytes);
     if told.number != 0 {
-        return refused(told.number, host);
+        return refusing::refused(told.number, host);
     }
     let head = told.head;
     let places = host.places;
     let id = head.contract;
     if absent(places, id) {
-        return refused(7, host);
+        return refusing::refused(7, host);
     }
     let start = wide(prices.init);
     if budget < start {
-        return refused(11, host);
+        return refusing::refused(11, host);
     }
     let parent = host::place_of(places, id);
     let progress = started(start, parent.size);

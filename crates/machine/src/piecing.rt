@@ -1,25 +1,32 @@
 // Giving a program a piece of its data.
 ghost use mathlib.Core.Path.{_≡_};
-ghost use mathlib.Core.Bool.{not};
 ghost use Prim.Native.Nat.{_+_, _≤_};
 ghost use lib.ListN.{length};
-ghost use lib.Dec.{ltb, eqb};
-ghost use Rattle.lists.specs.Pick.{both};
+ghost use lib.Dec.{ltb};
 ghost use Rattle.machine_rules.specs.Calls as Says;
-ghost use Rattle.machine_rules.specs.Calls.{accepted};
+ghost use Rattle.machine_rules.specs.Calls.{pieceLent, accepted};
 ghost use Rattle.machine.specs.Asks.{Takes, pieceLeaves};
-use crate::opening;
+use crate::refusing;
 use host::Host;
 use machine_rules::Answer;
 
-// Whether a program is open and one of two areas is not as long as it states.
-fn either_wrong(active: bool, declared: u64, input: &[u8], room: u64, output: &[u8]) -> bool
-    ensures { λ r. ⌜ r ≡ both active (not (both (eqb (length (now (input .entry))) declared) (eqb (length (now (output .entry))) room))) ⌝ }
+// Whether a piece lends what is stated: disk and stage, and, if a program is open, its input and output areas.
+fn piece_lent(host: Host, disk: &[u8], stage: &[u8], input: &[u8], output: &[u8]) -> bool
+    ensures { λ r. ⌜ r ≡ pieceLent host (now (disk .entry)) (now (stage .entry)) (now (input .entry)) (now (output .entry)) ⌝ }
 {
-    if host_order::wrong(active, declared, input) {
+    if !host_order::areas_right(host.sector, host.disk, host.stage, disk, stage) {
+        return false;
+    }
+    let program = host.program;
+    if !program.active {
         return true;
     }
-    host_order::wrong(active, room, output)
+    let terms = program.terms;
+    let head = terms.head;
+    if input.len() as u64 != head.length {
+        return false;
+    }
+    output.len() as u64 == terms.room
 }
 
 // 12: whether a piece of n bytes passes the declared length.
@@ -91,23 +98,16 @@ pub fn piece(
     ensures { λ r. ⌜ pieceLeaves r (now (stage .exit)) (now (input .exit)) (now (output .exit)) ≡
         Says.piece (now (disk .entry)) host (now (stage .entry)) (now (input .entry)) (now (output .entry)) (now (bytes .entry)) ⌝ }
 {
-    if !host_order::in_order(host) {
-        return opening::refused(1, host);
-    }
-    if !host_order::areas_right(host.sector, host.disk, host.stage, disk, &*stage) {
-        return opening::refused(2, host);
+    let lent = piece_lent(host, disk, &*stage, &*input, &*output);
+    let number = refusing::refusal(host, lent);
+    if number != 0 {
+        return refusing::refused(number, host);
     }
     let program = host.program;
     let terms = program.terms;
     let head = terms.head;
-    if either_wrong(program.active, head.length, &*input, terms.room, &*output) {
-        return opening::refused(2, host);
-    }
-    if !program.active {
-        return opening::refused(4, host);
-    }
     if passes(program.came, bytes.len(), head.length) {
-        return opening::refused(12, host);
+        return refusing::refused(12, host);
     }
     accept(host, disk, stage, input, output, bytes)
 }

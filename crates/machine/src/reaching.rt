@@ -5,6 +5,7 @@ ghost use mathlib.Core.List.{[]};
 ghost use Rattle.host.specs.Order.{inOrder};
 ghost use Rattle.machine_rules.specs.Calls as Says;
 ghost use Rattle.machine_rules.specs.Calls.{reachedAt, reachedPair, noPair};
+use crate::refusing;
 use host::Host;
 use machine_rules::Reached;
 
@@ -49,15 +50,10 @@ fn reach(host: Host) -> Reached
 pub fn reached(host: Host, disk: &[u8], stage: &[u8]) -> Reached
     ensures { λ r. ⌜ r ≡ Says.reached (now (disk .entry)) host (now (stage .entry)) ⌝ }
 {
-    if !host_order::in_order(host) {
-        return unreached(1);
-    }
-    if !host_order::areas_right(host.sector, host.disk, host.stage, disk, stage) {
-        return unreached(2);
-    }
-    let program = host.program;
-    if !program.active {
-        return unreached(4);
+    let lent = host_order::areas_right(host.sector, host.disk, host.stage, disk, stage);
+    let number = refusing::refusal(host, lent);
+    if number != 0 {
+        return unreached(number);
     }
     reach(host)
 }

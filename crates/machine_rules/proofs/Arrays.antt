@@ -116,7 +116,7 @@ same-piece disk w b d =
   where
     under : (r : Pieced) → Answered w (accepted disk (w .host) (w .stage) (w .input) (w .output) b) r → Takes (w .host) r
     under r (ok e) = subst (Takes (w .host)) (sym e) (accepted-same disk w b d)
-    under r (refused n e) = subst (Takes (w .host)) (sym e) (still (w .host) d)
+    under r (refused n _ e) = subst (Takes (w .host)) (sym e) (still (w .host) d)
 
 pub same-fed : (disk : List ℕ) (w : Pieced) (bs : List (List ℕ)) → Declared (w .host) → Same (w .host) (fed disk w bs .host)
 unfolding fedBy
@@ -186,9 +186,8 @@ Stops r = Declared (r .host)
 declared-stops : (h : Host) (a : Areas) → Declared h → Stops (stops h a)
 unfolding interruptBy stoppedBy failing turned failedProgress withRun withStageRoots withProgram withProgress withCame turnOf
 declared-stops h a d =
-    either-way Stops _ _ _ (λ e. d) (λ e. either-way Stops _ _ _ (λ e. d) (λ e. either-way Stops _ _ _ (λ e. d) (λ e.
     either-way Stops _ _ _ (λ e. d) (λ e. either-way Stops _ _ _
-    (λ e. record { places = d .places; staged = d .staged; disk = d .disk; stage = d .stage }) (λ e. d)))))
+    (λ e. record { places = d .places; staged = d .staged; disk = d .disk; stage = d .stage }) (λ e. d))
 
 -- ---- closing
 

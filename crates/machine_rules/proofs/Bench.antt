@@ -86,6 +86,7 @@ unfolding RulesView.volumeBy RulesView.turnOf RulesView.withRun RulesView.diskRi
     RulesRecord.outputOf RulesRecord.successBytes RulesRun.failedProgress RulesRun.failing RulesRun.ranProgress RulesRun.succeeding
     RulesRun.stepped RulesRun.turned RulesRun.current RulesRun.step RulesRun.going RulesRun.ready RulesRun.runs RulesRun.run RulesCalls.roomRight
     RulesCalls.begun RulesCalls.openedHead RulesCalls.opened RulesCalls.acceptedBy RulesCalls.inputRight RulesCalls.outputRight
+    RulesCalls.pieceLent RulesCalls.refusal
     RulesCalls.pieceBy RulesBench.prices RulesBench.id RulesBench.operand RulesBench.instruction RulesBench.program RulesBench.host
     RulesBench.sectorHost RulesBench.start RulesBench.given RulesBench.ran RulesBench.failed RulesBench.records RulesBench.counts
     RulesBench.first RulesBench.written RulesBench.contracts RulesBench.grow RulesBench.alone RulesBench.growWrite RulesBench.growWriteData

@@ -51,9 +51,8 @@ module _ (h : Host) (a : Areas) where
   interrupts : Beside h (stops h a .host)
   unfolding interruptBy stoppedBy failing turned turnOf withRun withStageRoots withProgram withProgress withCame
   interrupts =
-      interrupt-not _ 1 _ (λ _. interrupt-not _ 2 _ (λ _. interrupt-not _ 2 _ (λ _. interrupt-not _ 4 _ (λ _.
-      either-way (λ (r : Interrupted). Beside h (r .host)) _ (stoppedBy kept (a .disk) h (a .output))
-      (interrupted 0 (h .program .progress .tally) h (a .output)) (λ _. record { disk = refl; stage = refl }) (λ _. same)))))
+      interrupt-not _ _ _ (λ _. either-way (λ (r : Interrupted). Beside h (r .host)) _ (stoppedBy kept (a .disk) h (a .output))
+      (interrupted 0 (h .program .progress .tally) h (a .output)) (λ _. record { disk = refl; stage = refl }) (λ _. same))
 
   closing : (g : Agreement) → closes h a g .host .stageroots ≡ h .stageroots
   unfolding givenUp commit withProgram withPlaces withDiskRoots

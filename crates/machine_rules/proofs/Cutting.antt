@@ -1,5 +1,5 @@
 -- Pieces cut anywhere: the state after them is a function of the bytes come. By induction on the pieces, from the laws of runs. Assumes nothing.
-use Rattle.lists.proofs.Kit.{_≡_, refl, sym, ap, _∙_, subst, Bool, true, false, List, [], _∷_, _++_, append-assoc, append-nil, ℕ, suc, _+_, _≤_, arith}
+use Rattle.lists.proofs.Kit.{_≡_, refl, sym, ap, _∙_, subst, Bool, true, false, List, [], _∷_, _++_, append-assoc, append-nil, ℕ, _+_, _≤_, _<_, arith}
 use Rattle.lists.proofs.Kit.{length, take, length-append, take-append-seam}
 use Rattle.lists.specs.Pick.{pick}
 use Rattle.area.specs.Area.{put}
@@ -13,27 +13,28 @@ use Rattle.machine_rules.specs.Visit.{Areas}
 use Rattle.machine_rules.specs.Trace.{together, lentTo, fed, AllAccepted, made, after, fedBy}
 use Rattle.machine_rules.proofs.Laws.Steps.{run-below, run-on}
 use Rattle.machine_rules.proofs.Laws.Taking.{Taking, all-accepted}
+use Rattle.machine_rules.proofs.Laws.Refusals.{numbered}
 use Rattle.host.specs.declared.Host.{Host}
 
 -- a piece is accepted, or refused with a number and everything as it was
 pub data Answered (w a : Pieced) (r : Pieced) : Type 0 where
   ok : r ≡ a → Answered w a r
-  refused : (n : ℕ) → r ≡ pieced (suc n) 0 (w .host) (w .stage) (w .input) (w .output) → Answered w a r
+  refused : (n : ℕ) → 0 < n → r ≡ pieced n 0 (w .host) (w .stage) (w .input) (w .output) → Answered w a r
 
-refused-if : (w a : Pieced) (n : ℕ) (b : Bool) (r : Pieced) → Answered w a r
-    → Answered w a (pick b (pieced (suc n) 0 (w .host) (w .stage) (w .input) (w .output)) r)
+refused-if : (w a : Pieced) (n : ℕ) (b : Bool) (r : Pieced) → (b ≡ true → 0 < n) → Answered w a r
+    → Answered w a (pick b (pieced n 0 (w .host) (w .stage) (w .input) (w .output)) r)
 unfolding pick
-refused-if w a n true r q = refused n refl
-refused-if w a n false r q = q
+refused-if w a n true r p q = refused n (p refl) refl
+refused-if w a n false r p q = q
 
 pub piece-answers : (disk : List ℕ) (w : Pieced) (b : List ℕ)
     → Answered w (accepted disk (w .host) (w .stage) (w .input) (w .output) b) (piece disk (w .host) (w .stage) (w .input) (w .output) b)
 unfolding pieceBy
-piece-answers disk w b = refused-if w _ 0 _ _ (refused-if w _ 1 _ _ (refused-if w _ 1 _ _ (refused-if w _ 3 _ _ (refused-if w _ 11 _ _ (ok refl)))))
+piece-answers disk w b = refused-if w _ _ _ _ (numbered _ _) (refused-if w _ 12 _ _ (λ _. omega arith) (ok refl))
 
 pub answered-zero : (w a r : Pieced) → Answered w a r → r .number ≡ 0 → r ≡ a
 answered-zero w a r (ok e) h = e
-answered-zero w a r (refused n e) h = absurd (let q : suc n ≡ 0 = sym (ap (λ (x : Pieced). x .number) e) ∙ h in omega arith)
+answered-zero w a r (refused n some e) h = absurd (let q : n ≡ 0 = sym (ap (λ (x : Pieced). x .number) e) ∙ h in omega arith)
 
 same-made : (h : Host) (k m : ℕ) (t u : Turn) (a b : List ℕ) → k ≡ m → t ≡ u → a ≡ b → made h k t a ≡ made h m u b
 same-made h k m t u a b p q r = rw (p, q, r)

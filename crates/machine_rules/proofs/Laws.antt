@@ -25,3 +25,4 @@ pub mod Search
 pub mod Homes
 pub mod Pieces
 pub mod Worked
+pub mod Refusals

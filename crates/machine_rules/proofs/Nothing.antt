@@ -19,6 +19,7 @@ use Rattle.machine_rules.specs.Trace.{running, Unchanged}
 use Rattle.machine_rules.specs.Outcome.{Standing, Untouched, stageTaken, Shut, Dropped}
 use Rattle.machine_rules.specs.Demand1.{Nothing, Closing}
 use Rattle.machine_rules.proofs.Laws.Pairs.{same-pairs, pairs-differ}
+use Rattle.machine_rules.proofs.Laws.Refusals.{past, goes, numbered, low}
 use Rattle.host.specs.declared.Program.{Program}
 use Rattle.host.specs.declared.Host.{Host}
 use Rattle.machine_rules.specs.declared.Answer.{Answer}
@@ -56,8 +57,7 @@ module _ (h : Host) (a : Areas) where
   pieces : (bytes : List ℕ) → Standing h (gives h a bytes .host)
   unfolding pieceBy acceptedBy withRun withStageRoots withProgram
   pieces bytes =
-      piece-not _ 1 _ (λ _. piece-not _ 2 _ (λ _. piece-not _ 2 _ (λ _. piece-not _ 4 _ (λ _. piece-not _ 12 _ (λ _.
-      record { places = refl; roots = refl })))))
+      piece-not _ _ _ (λ _. piece-not _ 12 _ (λ _. record { places = refl; roots = refl }))
 
   interrupt-not : (b : Bool) (n : ℕ) (rest : Interrupted) → (b ≡ false → Standing h (rest .host))
       → Standing h (pick b (interrupted n 0 h (a .output)) rest .host)
@@ -66,9 +66,8 @@ module _ (h : Host) (a : Areas) where
   interrupts : Standing h (stops h a .host)
   unfolding interruptBy stoppedBy withRun withStageRoots withProgram
   interrupts =
-      interrupt-not _ 1 _ (λ _. interrupt-not _ 2 _ (λ _. interrupt-not _ 2 _ (λ _. interrupt-not _ 4 _ (λ _.
-      either-way (λ (r : Interrupted). Standing h (r .host)) _ (stoppedBy kept (a .disk) h (a .output))
-      (interrupted 0 (h .program .progress .tally) h (a .output)) (λ _. record { places = refl; roots = refl }) (λ _. stays)))))
+      interrupt-not _ _ _ (λ _. either-way (λ (r : Interrupted). Standing h (r .host)) _ (stoppedBy kept (a .disk) h (a .output))
+      (interrupted 0 (h .program .progress .tally) h (a .output)) (λ _. record { places = refl; roots = refl }) (λ _. stays))
 
   -- giving up, with any number
   pub given-up : (n : ℕ) → Dropped a h (givenUp n (a .disk) h)
@@ -77,7 +76,7 @@ module _ (h : Host) (a : Areas) where
 
   -- down the chain of a close: 1, 2, 4 and 13, which leave all; giving up; and of a program that has ended and not failed, what the pairs say
   module _ (g : Agreement) (K : Closed → Type 0)
-      (refusal : (n : ℕ) → 0 < n → n < 14 → (n ≡ 13 → unfinished (h .program) ≡ true) → K (closed n 0 (pos 0) h (a .disk)))
+      (refused : (n : ℕ) → 0 < n → n < 14 → (n ≡ 13 → unfinished (h .program) ≡ true) → K (closed n 0 (pos 0) h (a .disk)))
       (up : g .agree ≡ false → K (givenUp 0 (a .disk) h))
       (same : g .agree ≡ true → Finished h a → Unchanged h a → K (givenUp 0 (a .disk) h))
       (wrong : g .agree ≡ true → Finished h a → (Unchanged h a → ⊥) → K (givenUp 14 (a .disk) h))
@@ -85,22 +84,22 @@ module _ (h : Host) (a : Areas) where
     pub close-ways : K (closes h a g)
     unfolding closeBy agreedBy unfinished
     close-ways =
-        either-way K _ _ _ (λ _. refusal 1 (omega arith) (omega arith) (λ n. absurd (omega arith))) (λ order.
-        either-way K _ _ _ (λ _. refusal 2 (omega arith) (omega arith) (λ n. absurd (omega arith))) (λ areas.
-        either-way K _ _ _ (λ _. refusal 4 (omega arith) (omega arith) (λ n. absurd (omega arith))) (λ live.
+        let small = low h (areasRight h (a .disk) (a .stage)) in
+        either-way K _ _ _ (λ t. refused _ (numbered h _ t) (omega (arith, small)) (λ n. absurd (omega (arith, small)))) (λ past-4.
         either-way K _ _ _ (λ e. up (not-true _ e)) (λ e.
-        either-way K _ _ _ (λ t. refusal 13 (omega arith) (omega arith) (λ _. t)) (λ ended.
+        either-way K _ _ _ (λ t. refused 13 (omega arith) (omega arith) (λ _. t)) (λ ended.
         let agrees = not-false _ e in
+        let p = past h _ past-4 in
         let finished : Finished h a = record {
-          order = not-false _ order;
-          areas = not-false _ areas;
-          live = not-false _ live;
+          order = p .order;
+          areas = p .areas;
+          live = p .live;
           good = either-left _ _ ended;
           ended = either-right _ _ ended;
         } in
         either-way K _ _ _ (λ t. same agrees finished (same-pairs _ _ t)) (λ t.
         let changed = pairs-differ _ _ t in
-        either-way K _ _ _ (λ u. done agrees finished changed (same-pairs _ _ u)) (λ _. wrong agrees finished changed)))))))
+        either-way K _ _ _ (λ u. done agrees finished changed (same-pairs _ _ u)) (λ _. wrong agrees finished changed)))))
 
   module _ (g : Agreement) where
     -- what is committed, is committed by a close that goes all the way down
@@ -144,8 +143,7 @@ module _ (h : Host) (a : Areas) where
         → closes h a g ≡ givenUp 0 (a .disk) h
     unfolding closeBy
     gives-up order areas live against =
-        skips (not (inOrder h)) _ _ (ap not order) ∙ skips (not (areasRight h (a .disk) (a .stage))) _ _ (ap not areas)
-        ∙ skips (not (h .program .active)) _ _ (ap not live) ∙ picks (not (g .agree)) _ _ (ap not against)
+        skips _ _ _ (goes h _ (record { order = order; areas = areas; live = live })) ∙ picks (not (g .agree)) _ _ (ap not against)
 
     wrong : closes h a g .number ≡ 14 → closes h a g ≡ givenUp 14 (a .disk) h
     unfolding givenUp commit

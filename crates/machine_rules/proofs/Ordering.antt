@@ -35,6 +35,7 @@ use Rattle.machine_rules.proofs.Laws.Kept.{failed-good, runs-good}
 use Rattle.machine_rules.proofs.Laws.Taking.{order-lent, order-good, good-order}
 use Rattle.machine_rules.proofs.Committing.{commit-order}
 use Rattle.sia.specs.declared.Head.{Head}
+use Rattle.machine_rules.proofs.Laws.Refusals.{past, broken, broken-stops}
 use Rattle.host.specs.declared.Prices.{Prices}
 use Rattle.host.specs.declared.Program.{Program}
 use Rattle.host.specs.declared.Host.{Host}
@@ -127,8 +128,8 @@ pieces : (disk : List ℕ) (h : Host) (stage input output bytes : List ℕ) → 
 unfolding pieceBy
 pieces disk h stage input output bytes sound o =
     let way = either-way (λ (r : Pieced). inOrder (r .host) ≡ true) in
-    way _ _ _ (λ _. o) (λ _. way _ _ _ (λ _. o) (λ _. way _ _ _ (λ _. o) (λ _. way _ _ _ (λ _. o) (λ live. way _ _ _ (λ _. o) (λ fit.
-    accepted-order disk h stage input output bytes sound o (not-false _ live) (ltb-false _ _ fit))))))
+    way _ _ _ (λ _. o) (λ e. way _ _ _ (λ _. o) (λ fit.
+    accepted-order disk h stage input output bytes sound o (past _ _ e .live) (ltb-false _ _ fit)))
 
 -- ---- interrupts
 
@@ -144,8 +145,7 @@ interrupts : (disk : List ℕ) (h : Host) (output : List ℕ) → Declared h →
 unfolding interruptBy
 interrupts disk h output sound o =
     let way = either-way (λ (r : Interrupted). inOrder (r .host) ≡ true) in
-    way _ _ _ (λ _. o) (λ _. way _ _ _ (λ _. o) (λ _. way _ _ _ (λ _. o) (λ _. way _ _ _ (λ _. o) (λ live.
-    way _ _ _ (λ g. stopped-order disk h output sound o (not-false _ live) g) (λ _. o)))))
+    way _ _ _ (λ _. o) (λ e. way _ _ _ (λ g. stopped-order disk h output sound o (past _ _ e .live) g) (λ _. o))
 
 -- ---- closing
 
@@ -158,9 +158,9 @@ closing : (disk : List ℕ) (h : Host) (stage : List ℕ) (agree : Bool) (size :
 unfolding closeBy agreedBy
 closing disk h stage agree size root sound o =
     let way = either-way (λ (r : Closed). inOrder (r .host) ≡ true) in
-    way _ _ _ (λ _. o) (λ _. way _ _ _ (λ _. o) (λ _. way _ _ _ (λ _. o) (λ live. way _ _ _ (λ _. given-up 0 disk h o) (λ _. way _ _ _ (λ _. o) (λ _.
+    way _ _ _ (λ _. o) (λ e. way _ _ _ (λ _. given-up 0 disk h o) (λ _. way _ _ _ (λ _. o) (λ _.
     way _ _ _ (λ _. given-up 0 disk h o) (λ _.
-    way _ _ _ (λ _. commit-order disk h stage sound o (not-false _ live)) (λ _. given-up 14 disk h o)))))))
+    way _ _ _ (λ _. commit-order disk h stage sound o (past _ _ e .live)) (λ _. given-up 14 disk h o)))))
 
 -- ---- a host that is not in order
 
@@ -170,10 +170,10 @@ damaged h a e = record {
   forming = λ id. ap (λ (r : Made). r .number) (picks (not (inOrder h)) _ _ (ap not e));
   dropping = λ id. ap (λ (r : Made). r .number) (picks (not (inOrder h)) _ _ (ap not e));
   opening = λ o. ap (λ (r : Answer). r .number) (picks (not (inOrder h)) _ _ (ap not e));
-  piece = λ bytes. ap (λ (r : Pieced). r .number) (picks (not (inOrder h)) _ _ (ap not e));
-  interrupt = ap (λ (r : Interrupted). r .number) (picks (not (inOrder h)) _ _ (ap not e));
-  reached = ap (λ (r : Reached). r .number) (picks (not (inOrder h)) _ _ (ap not e));
-  closing = λ g. ap (λ (r : Closed). r .number) (picks (not (inOrder h)) _ _ (ap not e));
+  piece = λ bytes. ap (λ (r : Pieced). r .number) (picks _ _ _ (broken-stops h _ e)) ∙ broken h _ e;
+  interrupt = ap (λ (r : Interrupted). r .number) (picks _ _ _ (broken-stops h _ e)) ∙ broken h _ e;
+  reached = ap (λ (r : Reached). r .number) (picks _ _ _ (broken-stops h _ e)) ∙ broken h _ e;
+  closing = λ g. ap (λ (r : Closed). r .number) (picks _ _ _ (broken-stops h _ e)) ∙ broken h _ e;
 }
 
 -- every call leaves a host in order that is in order

@@ -41,18 +41,18 @@ refusals h a = record {
       or _ _ _ (or _ _ _ (or _ _ _ (or _ _ _ (or _ _ _ (or _ _ _ (λ n. absurd (n refl)))))));
   piece = λ bytes.
       let or = refused-or (λ r. r .number) (λ n. pieced n 0 h (a .stage) (a .input) (a .output)) (λ n. refl) (λ r. r .number ≡ 0 → ⊥) in
-      or _ _ _ (or _ _ _ (or _ _ _ (or _ _ _ (or _ _ _ (λ n. absurd (n refl))))));
+      or _ _ _ (or _ _ _ (λ n. absurd (n refl)));
   interrupt =
       let or = refused-or (λ r. r .number) (λ n. interrupted n 0 h (a .output)) (λ n. refl) (λ r. r .number ≡ 0 → ⊥) in
-      or _ _ _ (or _ _ _ (or _ _ _ (or _ _ _
+      or _ _ _
       (either-way (λ r. r .number) (λ n. interrupted n 0 h (a .output)) (λ n. refl) (λ r. r .number ≡ 0 → ⊥) _ _ _ (λ n. absurd (n refl))
-      (λ n. absurd (n refl))))));
+      (λ n. absurd (n refl)));
   reached =
       let or = refused-or (λ r. r .number) (λ n. reachedAt n noPair) (λ n. refl) (λ r. r .number ≡ 0 → ⊥) in
-      or _ _ _ (or _ _ _ (or _ _ _ (λ n. absurd (n refl))));
+      or _ _ _ (λ n. absurd (n refl));
   closing = λ g zero fourteen.
       let or = refused-or (λ r. r .number) (λ n. closed n 0 (pos 0) h (a .disk)) (λ n. refl) (λ r. (r .number ≡ 0 → ⊥) × (r .number ≡ 14 → ⊥)) in
       let way = either-way (λ r. r .number) (λ n. closed n 0 (pos 0) h (a .disk)) (λ n. refl) (λ r. (r .number ≡ 0 → ⊥) × (r .number ≡ 14 → ⊥)) in
-      or _ _ _ (or _ _ _ (or _ _ _ (way _ _ _ (λ n. absurd (n .0 refl)) (or _ _ _ (way _ _ _ (λ n. absurd (n .0 refl))
-      (way _ _ _ (λ n. absurd (n .0 refl)) (λ n. absurd (n .1 refl)))))))) (zero, fourteen);
+      or _ _ _ (way _ _ _ (λ n. absurd (n .0 refl)) (or _ _ _ (way _ _ _ (λ n. absurd (n .0 refl))
+      (way _ _ _ (λ n. absurd (n .0 refl)) (λ n. absurd (n .1 refl)))))) (zero, fourteen);
 }

@@ -4,6 +4,7 @@ pub mod Sight
 pub mod Inputs
 pub mod Steps
 pub mod Opening
+pub mod Refusals
 pub mod Programs
 pub mod Closing
 pub mod Alike

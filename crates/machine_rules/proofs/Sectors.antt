@@ -86,15 +86,13 @@ module _ (h : Host) (a : Areas) where
   unfolding pieceBy acceptedBy withRun withStageRoots withProgram
   pieces bytes =
       let way = either-way (λ (r : Pieced). Still (r .host)) in
-      way _ _ _ (λ _. refl) (λ _. way _ _ _ (λ _. refl) (λ _. way _ _ _ (λ _. refl) (λ _. way _ _ _ (λ _. refl) (λ _.
-      way _ _ _ (λ _. refl) (λ _. refl)))))
+      way _ _ _ (λ _. refl) (λ _. way _ _ _ (λ _. refl) (λ _. refl))
 
   interrupts : Still (stops h a .host)
   unfolding interruptBy stoppedBy withRun withStageRoots withProgram
   interrupts =
       let way = either-way (λ (r : Interrupted). Still (r .host)) in
-      way _ _ _ (λ _. refl) (λ _. way _ _ _ (λ _. refl) (λ _. way _ _ _ (λ _. refl) (λ _. way _ _ _ (λ _. refl) (λ _.
-      way _ _ _ (λ _. refl) (λ _. refl)))))
+      way _ _ _ (λ _. refl) (λ _. way _ _ _ (λ _. refl) (λ _. refl))
 
   closing : (g : Agreement) → Still (closes h a g .host)
   unfolding givenUp commit withProgram withPlaces withDiskRoots

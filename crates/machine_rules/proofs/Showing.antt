@@ -21,6 +21,7 @@ use Rattle.machine_rules.proofs.Laws.Trails.{trail-zero, trail-go, trai
 use Rattle.machine_rules.proofs.Laws.Lengths.{length-root}
 use Rattle.machine_rules.proofs.Records.{first-records}
 use Rattle.sia.specs.declared.Instruction.{Instruction}
+use Rattle.machine_rules.proofs.Laws.Refusals.{numbered}
 use Rattle.host.specs.declared.Host.{Host}
 use Rattle.machine_rules.specs.declared.Pair.{Pair}
 use Rattle.machine_rules.specs.declared.Reached.{Reached}
@@ -101,5 +102,4 @@ pub tells : (h : Host) (a : Areas) → Tells h a
 unfolding reachedBy reachedPairBy
 tells h a =
     let way = either-way (λ (r : Reached). r .number ≡ 0 → h .program .progress .failed ≡ false → pairing (r .size) (r .root) ≡ running h a) in
-    way _ _ _ (λ _ e. absurd (omega arith)) (λ _. way _ _ _ (λ _ e. absurd (omega arith)) (λ _. way _ _ _ (λ _ e. absurd (omega arith))
-    (λ _ _ good. skips _ _ _ good)))
+    way _ _ _ (λ t e. absurd (omega (arith, numbered h _ t))) (λ _ _ good. skips _ _ _ good)

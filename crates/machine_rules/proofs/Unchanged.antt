@@ -15,6 +15,7 @@ use Rattle.machine_rules.specs.Outcome.{Dropped}
 use Rattle.machine_rules.specs.Unchanged.{Thirteen, Agreeing, Reading, NothingToAgree}
 use Rattle.machine_rules.proofs.Laws.Sizes.{read-only-free, read-only-reached}
 use Rattle.machine_rules.proofs.Laws.Pairs.{same-pairs, pairs-same, differ-pairs, none-starts, none-runs}
+use Rattle.machine_rules.proofs.Laws.Refusals.{goes}
 use Rattle.machine_rules.proofs.Nothing.{given-up, close-ways, unchanged}
 use Rattle.host.specs.declared.Host.{Host}
 
@@ -27,8 +28,7 @@ module _ (h : Host) (a : Areas) where
         → closes h a g ≡ pick (unfinished (h .program)) (closed 13 0 (pos 0) h (a .disk)) (agreed (a .disk) h (a .stage) (named g))
     unfolding closeBy
     asked order areas live =
-        skips (not (inOrder h)) _ _ (ap not order) ∙ skips (not (areasRight h (a .disk) (a .stage))) _ _ (ap not areas)
-        ∙ skips (not (h .program .active)) _ _ (ap not live) ∙ skips (not (g .agree)) _ _ (ap not agrees)
+        skips _ _ _ (goes h _ (record { order = order; areas = areas; live = live })) ∙ skips (not (g .agree)) _ _ (ap not agrees)
 
     -- 13 comes before the pairs
     thirteen : Thirteen h a g

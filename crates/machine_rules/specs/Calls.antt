@@ -6,12 +6,12 @@ use mathlib.Core.List.{List, []}
 use Prim.Native.Nat.{ℕ, _+_}
 use lib.ListN.{length}
 use lib.Dec.{leb, ltb, eqb}
-use Rattle.lists.specs.Pick.{pick, both}
+use Rattle.lists.specs.Pick.{pick, both, either}
 use Rattle.area.specs.Area.{same, put, zeros}
 use Rattle.sia.specs.Names.{readOnly}
 use Rattle.sia.specs.Decode.{decode}
 use Rattle.host.specs.Empty.{started}
-use Rattle.host.specs.With.{withProgram}
+use Rattle.host.specs.With.{programOf, withProgram}
 use Rattle.host.specs.Places.{whose}
 use Rattle.host.specs.Order.{inOrder}
 use Rattle.machine_rules.specs.View.{Way, kept, turnOf, withRun, diskRight, areasRight, settingOf, volumeBy}
@@ -49,7 +49,7 @@ unfoldable pub openedHead : Host → ℕ → Head → ℕ → Prices → ℕ →
 openedHead h fault head budget prices room =
     pick (not (inOrder h)) (answered 1 0 h)
     (pick (not (roomRight room)) (answered 2 0 h)
-    (pick (h .program .active) (answered 3 0 h)
+    (pick (programOf h .active) (answered 3 0 h)
     (pick (not (eqb fault 0)) (answered fault 0 h)
     (pick (both (not (same (head .contract) readOnly)) (not (whose (head .contract) (h .places) .held))) (answered 7 0 h)
     (pick (ltb budget (prices .init)) (answered 11 0 h)
@@ -58,6 +58,27 @@ openedHead h fault head budget prices room =
 -- the head comes in its bytes
 unfoldable pub opened : Host → List ℕ → ℕ → Prices → ℕ → Answer
 opened h bytes budget prices room = openedHead h (decode bytes .number) (decode bytes .head) budget prices room
+
+-- ---- calls on the open program
+
+-- "Pieces lend an input area of exactly the declared data length; pieces and interrupts lend an output area of the output length."
+unfoldable pub inputRight : Host → List ℕ → Bool
+inputRight h input = eqb (length input) (programOf h .terms .head .length)
+
+unfoldable pub outputRight : Host → List ℕ → Bool
+outputRight h output = eqb (length output) (programOf h .terms .room)
+
+-- "2 tests input and output areas only if a program is open"
+unfoldable pub pieceLent : Host → List ℕ → List ℕ → List ℕ → List ℕ → Bool
+pieceLent h disk stage input output =
+    both (areasRight h disk stage) (either (not (programOf h .active)) (both (inputRight h input) (outputRight h output)))
+
+unfoldable pub interruptLent : Host → List ℕ → List ℕ → Bool
+interruptLent h disk output = both (diskRight h disk) (either (not (programOf h .active)) (outputRight h output))
+
+-- 1, 2, 4: why a call on the open program is refused, 0 if it is not; `lent` says whether what it lends is as long as stated
+unfoldable pub refusal : Host → Bool → ℕ
+refusal h lent = pick (not (inOrder h)) 1 (pick (not lent) 2 (pick (not (programOf h .active)) 4 0))
 
 -- ---- pieces
 
@@ -76,31 +97,22 @@ pieced n tally h stage input output = record { number = n; tally = tally; host =
 -- "A piece is copied into the input area after the bytes already come. Then instructions run in turn while their need has come."
 unfoldable pub acceptedBy : Way → List ℕ → Host → List ℕ → List ℕ → List ℕ → List ℕ → Pieced
 acceptedBy way disk h stage input output bytes =
-    let k = h .program .came + length bytes in
-    let area = put input (h .program .came) bytes in
+    let k = programOf h .came + length bytes in
+    let area = put input (programOf h .came) bytes in
     let t = run (settingOf h) (volumeBy way h disk) area k (turnOf h stage output) in
     pieced 0 (t .progress .tally) (withRun h k (t .progress) (t .roots)) (t .stage) area (t .output)
 
 abbrev pub accepted : List ℕ → Host → List ℕ → List ℕ → List ℕ → List ℕ → Pieced
 accepted disk h stage input output bytes = acceptedBy kept disk h stage input output bytes
 
--- "Pieces lend an input area of exactly the declared data length; pieces and interrupts lend an output area of the output length."
-unfoldable pub inputRight : Host → List ℕ → Bool
-inputRight h input = eqb (length input) (h .program .terms .head .length)
-
-unfoldable pub outputRight : Host → List ℕ → Bool
-outputRight h output = eqb (length output) (h .program .terms .room)
-
--- 1, 2 ("2 tests input and output areas only if a program is open"), 4, 12
+-- 1, 2, 4, 12
 unfoldable pub pieceBy : Way → List ℕ → Host → List ℕ → List ℕ → List ℕ → List ℕ → Pieced
 pieceBy way disk h stage input output bytes =
     let done = acceptedBy way disk h stage input output bytes in
-    pick (not (inOrder h)) (pieced 1 0 h stage input output)
-    (pick (not (areasRight h disk stage)) (pieced 2 0 h stage input output)
-    (pick (both (h .program .active) (not (both (inputRight h input) (outputRight h output)))) (pieced 2 0 h stage input output)
-    (pick (not (h .program .active)) (pieced 4 0 h stage input output)
-    (pick (ltb (h .program .terms .head .length) (h .program .came + length bytes)) (pieced 12 0 h stage input output)
-    done))))
+    let n = refusal h (pieceLent h disk stage input output) in
+    pick (not (eqb n 0)) (pieced n 0 h stage input output)
+    (pick (ltb (programOf h .terms .head .length) (programOf h .came + length bytes)) (pieced 12 0 h stage input output)
+    done)
 
 -- the call
 abbrev pub piece : List ℕ → Host → List ℕ → List ℕ → List ℕ → List ℕ → Pieced
@@ -122,7 +134,7 @@ unfoldable pub stoppedBy : Way → List ℕ → Host → List ℕ → Interrupte
 stoppedBy way disk h output =
     let start = turnOf h [] output in
     let t = turned start (failing (settingOf h) (volumeBy way h disk) 20 start) in
-    interrupted 0 (t .progress .tally) (withRun h (h .program .came) (t .progress) (t .roots)) (t .output)
+    interrupted 0 (t .progress .tally) (withRun h (programOf h .came) (t .progress) (t .roots)) (t .output)
 
 abbrev pub stopped : List ℕ → Host → List ℕ → Interrupted
 stopped disk h output = stoppedBy kept disk h output
@@ -131,11 +143,9 @@ stopped disk h output = stoppedBy kept disk h output
 unfoldable pub interruptBy : Way → List ℕ → Host → List ℕ → Interrupted
 interruptBy way disk h output =
     let done = stoppedBy way disk h output in
-    pick (not (inOrder h)) (interrupted 1 0 h output)
-    (pick (not (diskRight h disk)) (interrupted 2 0 h output)
-    (pick (both (h .program .active) (not (outputRight h output))) (interrupted 2 0 h output)
-    (pick (not (h .program .active)) (interrupted 4 0 h output)
-    (pick (going (h .program .terms) (h .program .progress)) done (interrupted 0 (h .program .progress .tally) h output)))))
+    let n = refusal h (interruptLent h disk output) in
+    pick (not (eqb n 0)) (interrupted n 0 h output)
+    (pick (going (programOf h .terms) (programOf h .progress)) done (interrupted 0 (programOf h .progress .tally) h output))
 
 -- the call
 abbrev pub interrupt : List ℕ → Host → List ℕ → Interrupted
@@ -146,7 +156,7 @@ interrupt disk h output = interruptBy kept disk h output
 -- the pair that an agreement would name; after a failure the starting pair
 unfoldable pub reachedPairBy : Way → List ℕ → Host → List ℕ → Pair
 reachedPairBy way disk h stage =
-    let p = h .program .progress in
+    let p = programOf h .progress in
     let s = settingOf h in
     let vol = volumeBy way h disk in
     let starting = startingPair s vol in
@@ -162,14 +172,12 @@ reachedAt n pair = record { number = n; size = pair .size; root = pair .root }
 unfoldable pub noPair : Pair
 noPair = record { size = 0; root = zeros 32 }
 
--- 1, 2, 4, as a piece
+-- 1, 2, 4; it lends disk and stage
 unfoldable pub reachedBy : Way → List ℕ → Host → List ℕ → Reached
 reachedBy way disk h stage =
     let pair = reachedPairBy way disk h stage in
-    pick (not (inOrder h)) (reachedAt 1 noPair)
-    (pick (not (areasRight h disk stage)) (reachedAt 2 noPair)
-    (pick (not (h .program .active)) (reachedAt 4 noPair)
-    (reachedAt 0 pair)))
+    let n = refusal h (areasRight h disk stage) in
+    pick (not (eqb n 0)) (reachedAt n noPair) (reachedAt 0 pair)
 
 -- the call
 abbrev pub reached : List ℕ → Host → List ℕ → Reached

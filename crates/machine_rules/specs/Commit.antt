@@ -10,14 +10,14 @@ use Rattle.lists.specs.Tests.{unused}
 use Rattle.lists.specs.Lowest.{lowest}
 use Rattle.area.specs.Area.{part, put, zeros}
 use Rattle.host.specs.Empty.{none, noProgram}
-use Rattle.host.specs.With.{withPlaces, withProgram, withDiskRoots, withSize, withSlots}
+use Rattle.host.specs.With.{programOf, withPlaces, withProgram, withDiskRoots, withSize, withSlots}
 use Rattle.host.specs.Places.{committed, taken}
-use Rattle.host.specs.Order.{inOrder}
 use Rattle.host.specs.Calls.{replaced}
 use Rattle.machine_rules.specs.View.{Way, kept, parent, areasRight, settingOf, volumeBy}
 use Rattle.machine_rules.specs.Roots.{rootOf}
 use Rattle.machine_rules.specs.Record.{pairing, samePair, startingPair, runningPair}
 use Rattle.machine_rules.specs.Run.{going}
+use Rattle.machine_rules.specs.Calls.{refusal}
 use Rattle.host.specs.declared.Place.{Place}
 use Rattle.host.specs.declared.Program.{Program}
 use Rattle.host.specs.declared.Host.{Host}
@@ -62,7 +62,7 @@ closed n tally growth h disk = record { number = n; tally = tally; growth = grow
 
 -- "Giving up always closes and commits nothing."; "or 0 if nothing was committed"
 unfoldable pub givenUp : ℕ → List ℕ → Host → Closed
-givenUp n disk h = closed n (h .program .progress .tally) (pos 0) (withProgram h noProgram) disk
+givenUp n disk h = closed n (programOf h .progress .tally) (pos 0) (withProgram h noProgram) disk
 
 -- the parent with its final size and slots; zeros in the slots past them
 unfoldable pub finalPlace : Place → ℕ → List ℕ → Place
@@ -71,10 +71,10 @@ finalPlace p size slots = withSlots (withSize p size) (slots ++ zeros (64 - leng
 -- "final less starting size"; the root kept beside a staged sector goes with its bytes
 unfoldable pub commit : List ℕ → Host → List ℕ → Closed
 commit disk h stage =
-    let p = h .program .progress in
+    let p = programOf h .progress in
     let old = parent (settingOf h) in
     let slots = finalSlots (h .sector) (h .disk) (h .places) old (p .size) in
-    let places = replaced (h .program .terms .head .contract) (finalPlace old (p .size) slots) (h .places) in
+    let places = replaced (programOf h .terms .head .contract) (finalPlace old (p .size) slots) (h .places) in
     let roots = copiedBack 32 (h .stageroots) (p .staged) slots 0 (p .size / h .sector) (h .diskroots) in
     closed 0 (p .tally) (pos (p .size) -ℤ pos (old .size)) (withDiskRoots (withProgram (withPlaces h places) noProgram) roots)
     (copiedBack (h .sector) stage (p .staged) slots 0 (p .size / h .sector) disk)
@@ -86,7 +86,7 @@ agreedBy way disk h stage named =
     let s = settingOf h in
     let vol = volumeBy way h disk in
     let starting = startingPair s vol in
-    let running = runningPair s (rootOf s vol stage (h .stageroots)) (h .program .progress) in
+    let running = runningPair s (rootOf s vol stage (h .stageroots)) (programOf h .progress) in
     let done = commit disk h stage in
     pick (samePair running starting) (givenUp 0 disk h)
     (pick (samePair named running) done
@@ -103,12 +103,11 @@ unfinished g = either (g .progress .failed) (going (g .terms) (g .progress))
 unfoldable pub closeBy : Way → List ℕ → Host → List ℕ → Bool → ℕ → List ℕ → Closed
 closeBy way disk h stage agree size root =
     let done = agreedBy way disk h stage (pairing size root) in
-    pick (not (inOrder h)) (closed 1 0 (pos 0) h disk)
-    (pick (not (areasRight h disk stage)) (closed 2 0 (pos 0) h disk)
-    (pick (not (h .program .active)) (closed 4 0 (pos 0) h disk)
+    let n = refusal h (areasRight h disk stage) in
+    pick (not (eqb n 0)) (closed n 0 (pos 0) h disk)
     (pick (not agree) (givenUp 0 disk h)
-    (pick (unfinished (h .program)) (closed 13 0 (pos 0) h disk)
-    done))))
+    (pick (unfinished (programOf h)) (closed 13 0 (pos 0) h disk)
+    done))
 
 -- the call
 abbrev pub close : List ℕ → Host → List ℕ → Bool → ℕ → List ℕ → Closed

@@ -6,6 +6,7 @@ use Prim.Native.Nat.{ℕ, suc}
 use Rattle.lists.specs.Pick.{pick}
 use Rattle.lists.specs.Tests.{firstOf}
 use Rattle.area.specs.Area.{same}
+use Rattle.host.specs.With.{programOf}
 use Rattle.host.specs.Places.{hasId}
 use Rattle.host.specs.Order.{inOrder}
 use Rattle.machine_rules.specs.View.{Way, kept, readOnlyMode, parentSpots, committedSpots, settingOf, volumeBy}
@@ -64,8 +65,8 @@ firstSeat f key (x ∷ xs) =
 -- "a program need not be open (then all committed sectors ..)"
 unfoldable pub seatsIn : Host → List Seat
 seatsIn h =
-    let now = seatsOf (settingOf h) (h .program .progress) in
-    pick (h .program .active) now (allSeats (h .sector) (h .places))
+    let now = seatsOf (settingOf h) (programOf h .progress) in
+    pick (programOf h .active) now (allSeats (h .sector) (h .places))
 
 -- "whether the stage held it"
 unfoldable pub isStaged : Spot → Bool

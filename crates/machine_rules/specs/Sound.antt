@@ -8,6 +8,7 @@ use Rattle.lists.specs.Tests.{every}
 use Rattle.area.specs.Area.{same, part}
 use Rattle.tree.specs.Tree.{root}
 use Rattle.host.specs.Empty.{none}
+use Rattle.host.specs.With.{programOf}
 use Rattle.host.specs.Places.{taken}
 use Rattle.host.specs.Order.{inOrder}
 use Rattle.machine_rules.specs.View.{areasRight}
@@ -26,7 +27,7 @@ stagedRight z stage roots staged = every (λ n. either (eqb n none) (right z sta
 unfoldable pub rootsRight : List ℕ → Host → List ℕ → Bool
 rootsRight disk h stage =
     both (every (right (h .sector) disk (h .diskroots)) (taken (h .sector) (h .places)))
-    (either (not (h .program .active)) (stagedRight (h .sector) stage (h .stageroots) (h .program .progress .staged)))
+    (either (not (programOf h .active)) (stagedRight (h .sector) stage (h .stageroots) (programOf h .progress .staged)))
 
 unfoldable pub sound : List ℕ → Host → List ℕ → Bool
 sound disk h stage = both (inOrder h) (rootsRight disk h stage)

@@ -2,14 +2,12 @@
 -- declared length only that. Assumes nothing.
 use Rattle.lists.proofs.Kit.{_≡_, sym, ap, _∙_, not, List, _++_, ℕ, _+_, _≤_, _<_, arith, length, take, drop, ltb, eqb, leb, take-all, length-take-le}
 use Rattle.lists.proofs.Kit.{lt-ltb, eqb-true, leb-true, leb-false}
-use Rattle.lists.specs.Pick.{pick, both}
+use Rattle.lists.specs.Pick.{pick}
 use Rattle.lists.proofs.Laws.Pick.{by, picks, skips}
 use Rattle.host.specs.With.{withProgram}
-use Rattle.host.specs.Order.{inOrder}
 use Rattle.host.specs.Calls.{freshed}
 use Rattle.sia.specs.Decode.{decode}
-use Rattle.machine_rules.specs.View.{areasRight}
-use Rattle.machine_rules.specs.Calls.{begun, openedHead, opened, Pieced, pieced, accepted, inputRight, outputRight, pieceBy, piece}
+use Rattle.machine_rules.specs.Calls.{begun, openedHead, opened, Pieced, pieced, pieceLent, refusal, accepted, pieceBy, piece}
 use Rattle.machine_rules.proofs.Opening.{opens}
 use Rattle.bench_program.specs.Single as Says
 use Rattle.bench_program.specs.Single.{Ran, ran, idsIn, formedInTurn, ended, shown, given, run}
@@ -36,11 +34,8 @@ module _ (disk : List ℕ) (h : Host) (stage input output : List ℕ) where
       → piece disk h stage input output b ≡ piece disk h stage input output c
   unfolding pieceBy
   piece-long b c f g =
-      ap (λ (x : Pieced).
-      pick (not (inOrder h)) (pieced 1 0 h stage input output)
-      (pick (not (areasRight h disk stage)) (pieced 2 0 h stage input output)
-      (pick (both (h .program .active) (not (both (inputRight h input) (outputRight h output)))) (pieced 2 0 h stage input output)
-      (pick (not (h .program .active)) (pieced 4 0 h stage input output) x)))) (twelve b f ∙ sym (twelve c g))
+      let n = refusal h (pieceLent h disk stage input output) in
+      ap (λ (x : Pieced). pick (not (eqb n 0)) (pieced n 0 h stage input output) x) (twelve b f ∙ sym (twelve c g))
 
 given-long : (h : Host) (b c disk stage input output : List ℕ) → h .program .terms .head .length < length b → h .program .terms .head .length < length c
     → given h b disk stage input output ≡ given h c disk stage input output

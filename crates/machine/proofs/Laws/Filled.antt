@@ -1,12 +1,15 @@
 -- Slots in an array with zeros behind them: kept ones, new ones behind those, and the final slots. z is the sector size. Assumes nothing.
 use Rattle.lists.proofs.Kit.{_≡_, refl, sym, ap, _∙_, true, false, List, [], _∷_, _++_, append-assoc, ℕ, zero, suc, _+_, _-_, _/_, _≤_, min, arith, length}
-use Rattle.lists.proofs.Kit.{take, length-take, length-append}
+use Rattle.lists.proofs.Kit.{_*_, getD, eqb, take, length-take, length-append}
+use Rattle.lists.specs.Pick.{pick}
 use Rattle.lists.proofs.Laws.Pick.{by, picks, skips}
-use Rattle.area.specs.Area.{put, zeros}
+use Rattle.area.specs.Area.{part, put, zeros}
 use Rattle.area.proofs.Laws.Puts.{cons}
+use Rattle.host.specs.Empty.{none}
+use Rattle.host.specs.With.{withSize, withSlots}
 use Rattle.host.specs.Places.{committed, taken}
 use Rattle.host.specs.Calls.{replaced}
-use Rattle.machine_rules.specs.Commit.{cut, newSlots, finalSlots}
+use Rattle.machine_rules.specs.Commit.{cut, newSlots, finalSlots, copiedBack, finalPlace}
 use Rattle.host.specs.declared.Place.{Place}
 use Rattle.machine.specs.Marks.{marksOf, newFrom, filled}
 use Rattle.machine.proofs.Laws.Marks.{marks-told, new-told, length-new}
@@ -87,3 +90,34 @@ final-made {r} {flags} {keep} {used} {kept} {n} z disk ps p size few most k c lo
     ∙ ap (λ (l : List ℕ). put l (length (committed z kept)) (newFrom disk flags (size / z - length (committed z kept)))) own
     ∙ joined-slots (taken z (replaced (p .id) kept ps)) (committed z kept) disk (size / z) few most (omega (arith, c)) (f ∙ ap marksOf u)
     ∙ ap (λ (q : Place). filled (committed z q ++ newSlots disk (taken z (replaced (p .id) q ps)) (size / z - length (committed z q)))) k
+
+-- ---- zeros behind slots are read as nothing is
+
+getD-zeros : (k i : ℕ) → getD (zeros k) i 0 ≡ 0
+getD-zeros zero i = refl
+getD-zeros (suc k) zero = refl
+getD-zeros (suc k) (suc i) = getD-zeros k i
+
+getD-behind : (l : List ℕ) (k i : ℕ) → getD (l ++ zeros k) i 0 ≡ getD l i 0
+getD-behind [] k i = getD-zeros k i
+getD-behind (x ∷ l) k zero = refl
+getD-behind (x ∷ l) k (suc i) = getD-behind l k i
+
+pub slot-filled : (l : List ℕ) (i : ℕ) → getD (filled l) i 0 ≡ getD l i 0
+unfolding filled
+slot-filled l i = getD-behind l (64 - length l) i
+
+-- `copy_back` copies to the final slots
+pub back-filled : (z : ℕ) (stage staged l : List ℕ) (i n : ℕ) (disk : List ℕ)
+    → copiedBack z stage staged (filled l) i n disk ≡ copiedBack z stage staged l i n disk
+unfolding copiedBack
+back-filled z stage staged l i zero disk = refl
+back-filled z stage staged l i (suc n) disk =
+    back-filled z stage staged l (suc i) n _
+    ∙ ap (λ (m : ℕ). copiedBack z stage staged l (suc i) n
+    (pick (eqb (getD staged i none) none) disk (put disk (m * z) (part stage (getD staged i none * z) z)))) (slot-filled l i)
+
+-- `final_place` makes the final place
+pub place-filled : (p : Place) (size : ℕ) (l : List ℕ) → withSlots (withSize p size) (filled l) ≡ finalPlace p size l
+unfolding finalPlace filled
+place-filled p size l = refl

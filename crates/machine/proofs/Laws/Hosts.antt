@@ -1,8 +1,7 @@
--- What a host in order gives the calls. Assumes nothing.
-use Rattle.lists.proofs.Kit.{_≡_, refl, sym, ap, ap₂, _∙_, Bool, true, false, not, List, [], ℕ, _+_, _≤_, arith, length, leb-true, not-true, not-false}
-use Rattle.lists.proofs.Kit.{eqb-true}
-use Rattle.lists.specs.Pick.{pick, both}
-use Rattle.lists.proofs.Laws.Pick.{picks, skips, both-left, both-right, both-join, both-not-left}
+-- What the calls know of a host: its refusal, by the number that the code has; and what a host in order gives. Assumes nothing.
+use Rattle.lists.proofs.Kit.{_≡_, sym, ap, ap₂, _∙_, true, false, not, List, [], ℕ, _+_, _≤_, arith, length, leb-true, not-true, eqb, eqb-true, eq-eqb, ne-eqb}
+use Rattle.lists.specs.Pick.{pick}
+use Rattle.lists.proofs.Laws.Pick.{yes, no, skips, both-left, both-right}
 use Rattle.area.specs.Area.{put}
 use Rattle.sia.specs.Encode.{within}
 use Rattle.host.specs.Order.{inOrder}
@@ -18,9 +17,16 @@ use Rattle.host.specs.declared.Progress.{Progress}
 use Rattle.host.specs.declared.Host.{Host}
 use Rattle.machine_rules.specs.declared.Pair.{Pair}
 
--- an area of an open program that is not wrong is right
-pub right-if : (active right : Bool) → active ≡ true → both active (not right) ≡ false → right ≡ true
-right-if active right a e = not-false _ (sym (picks active (not right) false a) ∙ e)
+-- ---- a refusal that the code tests by its number
+
+pub stops : {A : Type 0} {r : A} {n m : ℕ} (answer : ℕ → A) (rest : A) → m ≡ n → (m ≡ 0 → ⊥) → r ≡ answer m
+    → r ≡ pick (not (eqb n 0)) (answer n) rest
+stops {m = m} answer rest e some is = yes _ _ _ (ap (λ (k : ℕ). not (eqb k 0)) (sym e) ∙ ap not (ne-eqb m 0 some)) (is ∙ ap answer e)
+
+pub goes-on : {A : Type 0} {r : A} {n m : ℕ} (refused rest : A) → m ≡ n → m ≡ 0 → r ≡ rest → r ≡ pick (not (eqb n 0)) refused rest
+goes-on refused rest e none is = no _ _ _ (ap not (eq-eqb _ 0 (sym e ∙ none))) is
+
+-- ---- what a host in order gives
 
 -- "with 72 left unless it failed": there is room for the record of a failure
 pub room-left : {output : List ℕ} (h : Host) → Stops h output → h .program .progress .written + 72 ≤ length output
@@ -30,15 +36,6 @@ room-left {output} h s =
     let failed : h .program .progress .failed ≡ false = not-true _ (both-left _ _ (s .going)) in
     let long : length output ≡ h .program .terms .room = eqb-true _ _ (s .output) in
     omega (arith, f .fits, skips {A = ℕ} (h .program .progress .failed) 0 72 failed)
-
--- one of two areas is wrong
-pub wrong-first : (active one two : Bool) → both active (not one) ≡ true → true ≡ both active (not (both one two))
-wrong-first active one two e = sym (both-join active _ (both-left _ _ e) (ap not (both-not-left one two (not-true _ (both-right _ _ e)))))
-
-pub wrong-second : (active one two : Bool) → both active (not one) ≡ false → both active (not two) ≡ both active (not (both one two))
-unfolding pick
-wrong-second true one two e = ap (λ (b : Bool). not b) (sym (picks one two false (not-false _ e)))
-wrong-second false one two e = refl
 
 pub input-long : (h : Host) (input : List ℕ) → inputRight h input ≡ true → length input ≡ h .program .terms .head .length
 unfolding inputRight

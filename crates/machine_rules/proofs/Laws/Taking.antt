@@ -1,8 +1,7 @@
 -- A host in order takes every piece up to the declared length, and is in order after it. Assumes nothing.
 use Rattle.lists.proofs.Kit.{_≡_, refl, sym, ap, _∙_, subst, true, not, List, [], _∷_, ℕ, _+_, _*_, _≤_, arith, length, length-append, length-replicate}
 use Rattle.lists.proofs.Kit.{ltb, eqb, le-leb, le-ltb, eq-eqb, eqb-true}
-use Rattle.lists.specs.Pick.{both}
-use Rattle.lists.proofs.Laws.Pick.{skips, both-left, both-right, both-join, or-right, second-not, both-not-right}
+use Rattle.lists.proofs.Laws.Pick.{skips, both-left, both-right, both-join, or-right, second-not}
 use Rattle.area.specs.Area.{put, zeros}
 use Rattle.area.proofs.Laws.Puts.{length-put}
 use Rattle.host.specs.With.{withProgram, withCame, withProgress, withStageRoots}
@@ -15,6 +14,7 @@ use Rattle.machine_rules.specs.Trace.{together, AllAccepted}
 use Rattle.machine_rules.specs.Facts.{Good, Lent, Solid}
 use Rattle.machine_rules.proofs.Laws.Areas.{runs-alike}
 use Rattle.machine_rules.proofs.Laws.Kept.{runs-good}
+use Rattle.machine_rules.proofs.Laws.Refusals.{goes, piece-lent}
 use Rattle.host.specs.declared.Progress.{Progress}
 use Rattle.host.specs.declared.Host.{Host}
 
@@ -94,14 +94,8 @@ module _ (disk : List ℕ) (w : Pieced) (t : Taking disk w) (b : List ℕ) (fit 
   unfolding pieceBy inputRight outputRight
   takes =
       let h = w .host in
-      let input : both (eqb (length (w .input)) (h .program .terms .head .length)) (eqb (length (w .output)) (h .program .terms .room)) ≡ true =
-      both-join _ _ (eq-eqb _ _ (t .input)) (eq-eqb _ _ (t .output)) in
-      skips (not (inOrder h)) _ _ (ap not (t .order))
-      ∙ skips (not (areasRight h disk (w .stage))) _ _ (ap not (t .areas))
-      ∙ skips (both (h .program .active)
-      (not (both (eqb (length (w .input)) (h .program .terms .head .length)) (eqb (length (w .output)) (h .program .terms .room))))) _ _
-      (both-not-right _ _ (ap not input))
-      ∙ skips (not (h .program .active)) _ _ (ap not (t .live))
+      let lent = piece-lent h disk (w .stage) (w .input) (w .output) (t .areas) (eq-eqb _ _ (t .input)) (eq-eqb _ _ (t .output)) in
+      skips _ _ _ (goes h _ (record { order = t .order; areas = lent; live = t .live }))
       ∙ skips (ltb (h .program .terms .head .length) (h .program .came + length b)) _ _ (le-ltb _ _ fit)
 
   -- and leaves a host that takes pieces

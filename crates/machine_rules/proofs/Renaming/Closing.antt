@@ -1,5 +1,5 @@
 -- Closing and commits under new ids: the parent keeps its slots, and the new ones are the lowest free of the same slots. Assumes nothing.
-use Rattle.lists.proofs.Kit.{_≡_, refl, sym, ap, ap₂, _∙_, Bool, true, not, List, [], _++_, ℕ, _-_, _/_, zero-div, arith, length, not-false}
+use Rattle.lists.proofs.Kit.{_≡_, refl, sym, ap, ap₂, _∙_, Bool, true, not, List, [], _++_, ℕ, _-_, _/_, zero-div, arith, length, eqb}
 use lib.IntN.{pos, _-ℤ_}
 use Rattle.lists.specs.Pick.{pick, either}
 use Rattle.lists.proofs.Laws.Pick.{by}
@@ -16,17 +16,19 @@ use Rattle.machine_rules.specs.Record.{samePair, startingPair, runningPa
 use Rattle.machine_rules.specs.Commit.{Closed, closed, givenUp, cut, newSlots, finalSlots, copiedBack, finalPlace, commit, agreed}
 use Rattle.machine_rules.specs.Commit.{unfinished, close, closeBy, agreedBy}
 use Rattle.host.specs.Renaming.{Renaming, placeAs, hostAs}
-use Rattle.host.proofs.Renaming.Places.{allAs, id-as, taken-as, replaced-as, in-order-as}
+use Rattle.host.proofs.Renaming.Places.{allAs, id-as, taken-as, replaced-as}
 use Rattle.machine_rules.proofs.Laws.Sizes.{nothing-reached}
 use Rattle.machine_rules.proofs.Renaming.Sight.{starting-as, running-as}
+use Rattle.machine_rules.proofs.Laws.Refusals.{past}
 use Rattle.host.specs.declared.Place.{Place}
 use Rattle.host.specs.declared.Terms.{Terms}
 use Rattle.host.specs.declared.Host.{Host}
 use Rattle.machine_rules.specs.declared.Setting.{Setting}
 use Rattle.machine_rules.specs.declared.Spot.{Spot}
 use Rattle.machine_rules.specs.declared.Pair.{Pair}
-use Rattle.host.proofs.Renaming.Contracts.{active-as, whose-places}
-use Rattle.machine_rules.proofs.Renaming.Programs.{terms-of, setting-as, going-as, areas-as}
+use Rattle.host.proofs.Renaming.Contracts.{whose-places}
+use Rattle.machine_rules.proofs.Renaming.Refusals.{terms-of, areas-as, refusal-as}
+use Rattle.machine_rules.proofs.Renaming.Programs.{setting-as, going-as}
 
 -- the roots that a host with these areas is read with
 abbrev rootsOf : Host → List ℕ → List ℕ → Spot → List ℕ
@@ -131,9 +133,10 @@ module _ (r : List ℕ → List ℕ) (new : Renaming r) where
       → close disk (hostAs r h) stage agree size root ≡ closedAs (close disk h stage agree size root)
   unfolding closeBy
   close-as disk h stage agree size root =
-      down closedAs _ _ _ _ _ _ (ap not (in-order-as r new h)) (λ _. closed-not 1 h disk) (λ o.
-      down closedAs _ _ _ _ _ _ (ap not (areas-as r new h disk stage)) (λ _. closed-not 2 h disk) (λ _.
-      down closedAs _ _ _ _ _ _ (ap not (active-as r new h)) (λ _. closed-not 4 h disk) (λ live.
+      let same = refusal-as r new h _ _ (areas-as r new h disk stage) in
+      down closedAs _ _ _ _ _ _ (ap (λ (n : ℕ). not (eqb n 0)) same)
+      (λ _. ap (λ (n : ℕ). closed n 0 (pos 0) (hostAs r h) disk) same ∙ closed-not _ h disk) (λ e.
+      let p = past h _ e in
       down closedAs _ _ _ _ _ _ refl (λ _. given-up-as 0 disk h) (λ _.
       down closedAs _ _ _ _ _ _ (ended-same h) (λ _. closed-not 13 h disk) (λ _.
-      agreed-as disk h stage _ (not-false _ live) (not-false _ o))))))
+      agreed-as disk h stage _ (p .live) (p .order))))

@@ -1,30 +1,31 @@
 -- Pieces, interrupts, what a program has reached and the look-up of a root, under new ids: down the two chains of each call side by side, and
 -- what runs then runs alike. Assumes nothing.
-use Rattle.lists.proofs.Kit.{_≡_, refl, sym, ap, ap₂, _∙_, Bool, true, not, List, [], ℕ, _+_, length, ltb, eqb, not-false}
-use Rattle.lists.specs.Pick.{pick, both}
+use Rattle.lists.proofs.Kit.{_≡_, refl, sym, ap, ap₂, _∙_, Bool, true, not, List, [], ℕ, _+_, length, ltb, eqb}
+use Rattle.lists.specs.Pick.{pick}
 use Rattle.lists.proofs.Laws.Pick.{by, picks, skips}
 use Rattle.lists.proofs.Laws.Ways.{down, downs}
 use Rattle.area.specs.Area.{put}
 use Rattle.host.specs.With.{withProgram, withCame, withProgress, withStageRoots}
-use Rattle.machine_rules.specs.View.{Turn, turnOf, withRun, diskRight, areasRight, settingOf, volumeBy, volumeOf}
+use Rattle.machine_rules.specs.View.{Turn, turnOf, withRun, settingOf, volumeBy, volumeOf}
 use Rattle.machine_rules.specs.declared.Setting.{Setting}
 use Rattle.machine_rules.specs.Roots.{keptRoot, rootBy, rootOf}
 use Rattle.machine_rules.specs.Seats.{allSeats, seatsOf, firstSeat, seatsIn, notLocated, locatedAt, locatedBy, located}
 use Rattle.machine_rules.specs.Run.{going, run}
-use Rattle.machine_rules.specs.Calls.{Pieced, pieced, accepted, inputRight, outputRight, piece, Interrupted, interrupted, stopped, interrupt}
+use Rattle.machine_rules.specs.Calls.{Pieced, pieced, accepted, piece, Interrupted, interrupted, stopped, interrupt}
 use Rattle.machine_rules.specs.Calls.{acceptedBy, pieceBy, interruptBy, stoppedBy, reachedBy, reachedPairBy}
-use Rattle.machine_rules.specs.Calls.{reachedPair, reachedAt, reached}
+use Rattle.machine_rules.specs.Calls.{noPair, reachedPair, reachedAt, reached}
 use Rattle.machine_rules.specs.Visit.{Areas, gives}
-use Rattle.host.specs.Renaming.{Renaming, termsAs, hostAs}
+use Rattle.host.specs.Renaming.{Renaming, hostAs}
 use Rattle.machine_rules.specs.Renaming.{AsksAs}
-use Rattle.host.proofs.Renaming.Places.{allAs, terms-as, in-order-as}
+use Rattle.host.proofs.Renaming.Places.{allAs, in-order-as}
 use Rattle.machine_rules.proofs.Renaming.Sight.{settingAs, starting-as, running-as, all-seats-as, seats-of-as}
 use Rattle.machine_rules.proofs.Renaming.Steps.{run-as, failing-as}
+use Rattle.machine_rules.proofs.Renaming.Refusals.{terms-of, still-as, areas-as, refusal-as, interrupt-lent-as, piece-lent-as}
+use Rattle.machine_rules.proofs.Laws.Refusals.{past}
 use Rattle.host.specs.declared.Terms.{Terms}
 use Rattle.host.specs.declared.Host.{Host}
 use Rattle.machine_rules.specs.declared.Seat.{Seat}
 use Rattle.machine_rules.specs.declared.Reached.{Reached}
-use Rattle.host.proofs.Renaming.Contracts.{active-as}
 
 -- the same answer
 abbrev still : Reached → Reached
@@ -33,26 +34,13 @@ still x = x
 module _ (r : List ℕ → List ℕ) (new : Renaming r) where
   -- ---- an open program
 
-  pub terms-of : (h : Host) → h .program .active ≡ true → hostAs r h .program .terms ≡ termsAs r (h .program .terms)
-  unfolding hostAs
-  terms-of h e = terms-as r new (h .program) e
-
-  -- what is not an id is as it was, open or not
-  still-as : {A : Type 0} (f : Terms → A) (h : Host) → f (termsAs r (h .program .terms)) ≡ f (h .program .terms)
-      → f (hostAs r h .program .terms) ≡ f (h .program .terms)
-  unfolding hostAs
-  still-as f h e =
-      by (h .program .active)
-      (λ live. ap f (picks (h .program .active) (termsAs r (h .program .terms)) (h .program .terms) live) ∙ e)
-      (λ idle. ap f (skips (h .program .active) (termsAs r (h .program .terms)) (h .program .terms) idle))
-
   pub setting-as : (h : Host) → h .program .active ≡ true → settingOf (hostAs r h) ≡ settingAs r new (settingOf h)
   unfolding hostAs
-  setting-as h e = ap (λ (t : Terms). record { sector = h .sector; disksectors = h .disk; stagesectors = h .stage; places = allAs r new (h .places); terms = t }) (terms-of h e)
+  setting-as h e = ap (λ (t : Terms). record { sector = h .sector; disksectors = h .disk; stagesectors = h .stage; places = allAs r new (h .places); terms = t }) (terms-of r new h e)
 
   pub going-as : (h : Host) → going (hostAs r h .program .terms) (hostAs r h .program .progress) ≡ going (h .program .terms) (h .program .progress)
   unfolding going hostAs
-  going-as h = still-as (λ (t : Terms). going t (h .program .progress)) h refl
+  going-as h = still-as r new (λ (t : Terms). going t (h .program .progress)) h refl
 
   -- ---- interrupts
 
@@ -68,18 +56,6 @@ module _ (r : List ℕ → List ℕ) (new : Renaming r) where
   unfolding interruptedAs stoppedBy turnOf withRun withStageRoots withProgram withProgress withCame volumeBy hostAs
   stopped-as disk h output e = rw (setting-as h e, failing-as r new (settingOf h) (volumeOf h disk) 20 (turnOf h [] output))
 
-  disk-as : (h : Host) (disk : List ℕ) → diskRight (hostAs r h) disk ≡ diskRight h disk
-  unfolding diskRight hostAs
-  disk-as h disk = refl
-
-  pub areas-as : (h : Host) (disk stage : List ℕ) → areasRight (hostAs r h) disk stage ≡ areasRight h disk stage
-  unfolding areasRight diskRight hostAs
-  areas-as h disk stage = refl
-
-  output-as : (h : Host) (output : List ℕ) → outputRight (hostAs r h) output ≡ outputRight h output
-  unfolding outputRight
-  output-as h output = ap (eqb (length output)) (still-as (λ (t : Terms). t .room) h refl)
-
   ended-as : (h : Host) (output : List ℕ)
       → interrupted 0 (hostAs r h .program .progress .tally) (hostAs r h) output
       ≡ interruptedAs (interrupted 0 (h .program .progress .tally) h output)
@@ -90,12 +66,11 @@ module _ (r : List ℕ → List ℕ) (new : Renaming r) where
       → interrupt disk (hostAs r h) output ≡ interruptedAs (interrupt disk h output)
   unfolding interruptBy
   interrupt-as disk h output =
-      down interruptedAs _ _ _ _ _ _ (ap not (in-order-as r new h)) (λ _. interrupted-not 1 h output) (λ _.
-      down interruptedAs _ _ _ _ _ _ (ap not (disk-as h disk)) (λ _. interrupted-not 2 h output) (λ _.
-      down interruptedAs _ _ _ _ _ _ (ap₂ both (active-as r new h) (ap not (output-as h output))) (λ _. interrupted-not 2 h output) (λ _.
-      down interruptedAs _ _ _ _ _ _ (ap not (active-as r new h)) (λ _. interrupted-not 4 h output) (λ live.
-      down interruptedAs _ _ _ _ _ _ (going-as h) (λ _. stopped-as disk h output (not-false _ live))
-      (λ _. ended-as h output)))))
+      let same = refusal-as r new h _ _ (interrupt-lent-as r new h disk output) in
+      down interruptedAs _ _ _ _ _ _ (ap (λ (n : ℕ). not (eqb n 0)) same)
+      (λ _. ap (λ (n : ℕ). interrupted n 0 (hostAs r h) output) same ∙ interrupted-not _ h output) (λ e.
+      down interruptedAs _ _ _ _ _ _ (going-as h) (λ _. stopped-as disk h output (past h _ e .live))
+      (λ _. ended-as h output))
 
   -- ---- what a program has reached
 
@@ -113,10 +88,9 @@ module _ (r : List ℕ → List ℕ) (new : Renaming r) where
   pub reached-as : (disk : List ℕ) (h : Host) (stage : List ℕ) → reached disk (hostAs r h) stage ≡ reached disk h stage
   unfolding reachedBy
   reached-as disk h stage =
-      down still _ _ _ _ _ _ (ap not (in-order-as r new h)) (λ _. refl) (λ _.
-      down still _ _ _ _ _ _ (ap not (areas-as h disk stage)) (λ _. refl) (λ _.
-      down still _ _ _ _ _ _ (ap not (active-as r new h)) (λ _. refl) (λ live.
-      ap (reachedAt 0) (reached-pair-as disk h stage (not-false _ live)))))
+      let same = refusal-as r new h _ _ (areas-as r new h disk stage) in
+      down still _ _ _ _ _ _ (ap (λ (n : ℕ). not (eqb n 0)) same) (λ _. ap (λ (n : ℕ). reachedAt n noPair) same)
+      (λ e. ap (reachedAt 0) (reached-pair-as disk h stage (past h _ e .live)))
 
   -- ---- the look-up of a root
 
@@ -156,8 +130,8 @@ module _ (r : List ℕ → List ℕ) (new : Renaming r) where
     other = put input came bytes′
 
     module _ (asks : AsksAs r (h .program .terms .head) one other) where
-      piece-not : (n : ℕ) → PieceAs (pieced n 0 (hostAs r h) (a .stage) input (a .output)) (pieced n 0 h (a .stage) (a .input) (a .output))
-      piece-not n = record { is = refl }
+      piece-refused : (n m : ℕ) → n ≡ m → PieceAs (pieced n 0 (hostAs r h) (a .stage) input (a .output)) (pieced m 0 h (a .stage) (a .input) (a .output))
+      piece-refused n m e = record { is = ap (λ (k : ℕ). pieced k 0 (hostAs r h) (a .stage) input (a .output)) e }
 
       run-same : h .program .active ≡ true
           → run (settingOf (hostAs r h)) (volumeOf (hostAs r h) (a .disk)) other (came + length bytes′) (turnOf (hostAs r h) (a .stage) (a .output))
@@ -168,14 +142,10 @@ module _ (r : List ℕ → List ℕ) (new : Renaming r) where
           ap₂ (λ (s : Setting) (n : ℕ). run s (volumeOf h (a .disk)) other (came + n) t) (setting-as h e) long′
           ∙ run-as r new (settingOf h) (volumeOf h (a .disk)) one other asks (came + length bytes) t
 
-      input-as : inputRight (hostAs r h) input ≡ inputRight h (a .input)
-      unfolding inputRight
-      input-as = ap₂ eqb long (still-as (λ (t : Terms). t .head .length) h refl)
-
       past-as : ltb (hostAs r h .program .terms .head .length) (hostAs r h .program .came + length bytes′)
           ≡ ltb (h .program .terms .head .length) (came + length bytes)
       unfolding hostAs
-      past-as = ap₂ ltb (still-as (λ (t : Terms). t .head .length) h refl) (ap (λ (n : ℕ). came + n) long′)
+      past-as = ap₂ ltb (still-as r new (λ (t : Terms). t .head .length) h refl) (ap (λ (n : ℕ). came + n) long′)
 
       accepted-as : h .program .active ≡ true
           → PieceAs (accepted (a .disk) (hostAs r h) (a .stage) input (a .output) bytes′)
@@ -189,9 +159,6 @@ module _ (r : List ℕ → List ℕ) (new : Renaming r) where
       pub piece-as : PieceAs (piece (a .disk) (hostAs r h) (a .stage) input (a .output) bytes′) (gives h a bytes)
       unfolding pieceBy
       piece-as =
-          downs PieceAs _ _ _ _ _ _ (ap not (in-order-as r new h)) (λ _. piece-not 1) (λ _.
-          downs PieceAs _ _ _ _ _ _ (ap not (areas-as h (a .disk) (a .stage))) (λ _. piece-not 2) (λ _.
-          downs PieceAs _ _ _ _ _ _ (ap₂ both (active-as r new h) (ap not (ap₂ both input-as (output-as h (a .output)))))
-          (λ _. piece-not 2) (λ _.
-          downs PieceAs _ _ _ _ _ _ (ap not (active-as r new h)) (λ _. piece-not 4) (λ live.
-          downs PieceAs _ _ _ _ _ _ past-as (λ _. piece-not 12) (λ _. accepted-as (not-false _ live))))))
+          let same = refusal-as r new h _ _ (piece-lent-as r new h (a .disk) (a .stage) (a .input) input (a .output) long) in
+          downs PieceAs _ _ _ _ _ _ (ap (λ (n : ℕ). not (eqb n 0)) same) (λ _. piece-refused _ _ same) (λ e.
+          downs PieceAs _ _ _ _ _ _ past-as (λ _. piece-refused 12 12 refl) (λ _. accepted-as (past h _ e .live)))

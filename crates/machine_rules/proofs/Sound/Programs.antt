@@ -1,5 +1,5 @@
 -- The calls on an open program of a sound host: the kept roots give what document 01 says, and the host stays sound. Assumes nothing.
-use Rattle.lists.proofs.Kit.{_≡_, refl, sym, ap, ap₂, _∙_, Bool, true, false, not, List, [], ℕ, _+_, length, not-false, ltb-false}
+use Rattle.lists.proofs.Kit.{_≡_, refl, sym, ap, ap₂, _∙_, Bool, true, false, not, List, [], ℕ, _+_, length, ltb-false}
 use lib.IntN.{pos}
 use Rattle.lists.specs.Pick.{pick}
 use Rattle.lists.specs.Tests.{every}
@@ -26,6 +26,7 @@ use Rattle.machine_rules.proofs.Commits.{commit-right}
 use Rattle.machine_rules.proofs.Laws.Readers.{agree, root-agree, all-start, all-parent, withWay, Known, known-disk, known-stage}
 use Rattle.machine_rules.proofs.Laws.Effects.{few-sectors}
 use Rattle.host.specs.Order.{inOrder}
+use Rattle.machine_rules.proofs.Laws.Refusals.{past, piece-areas}
 use Rattle.host.specs.declared.Host.{Host}
 use Rattle.machine_rules.proofs.Sound.Steps.{failing-alike, runs-alike, trail-alike, runs-known}
 use Rattle.machine_rules.specs.declared.Pair.{Pair}
@@ -88,9 +89,9 @@ module _ (disk : List ℕ) (h : Host) (stage : List ℕ) (shape : Declared h) (f
   pub piece-alike : (input output bytes : List ℕ) → pieceBy kept disk h stage input output bytes ≡ pieceBy worked disk h stage input output bytes
   unfolding pieceBy
   piece-alike input output bytes =
-      behind (not (inOrder h)) _ _ _ (λ _. behind (not (areasRight h disk stage)) _ _ _
-      (λ right. behind _ _ _ _ (λ _. behind (not (h .program .active)) _ _ _ (λ live.
-      behind _ _ _ _ (λ _. accepted-alike input output bytes (not-false _ right) (not-false _ live))))))
+      behind _ _ _ _ (λ e. behind _ _ _ _ (λ _.
+      let p = past h _ e in
+      accepted-alike input output bytes (piece-areas h _ _ _ _ (p .areas)) (p .live)))
 
   pub records-alike : (output all : List ℕ) → areasRight h disk stage ≡ true → h .program .active ≡ true
       → wholeRunBy kept h (lends disk stage output) all ≡ wholeRunBy worked h (lends disk stage output) all
@@ -123,19 +124,20 @@ module _ (disk : List ℕ) (h : Host) (stage : List ℕ) (shape : Declared h) (f
   unfolding pieceBy
   piece-sound input output bytes =
       let or = piece-refused input output in
-      or _ 1 _ (λ _. or _ 2 _ (λ right. or _ 2 _ (λ _. or _ 4 _ (λ live. or _ 12 _ (λ fit.
-      accepted-sound input output bytes (not-false _ right) (not-false _ live)
-      (accepted-order disk h stage input output bytes shape o (not-false _ live) (ltb-false _ _ fit)))))))
+      or _ _ _ (λ e. or _ 12 _ (λ fit.
+      let p = past h _ e in
+      accepted-sound input output bytes (piece-areas h _ _ _ _ (p .areas)) (p .live)
+      (accepted-order disk h stage input output bytes shape o (p .live) (ltb-false _ _ fit))))
 
   -- ---- interrupts
 
   pub interrupt-alike : (output : List ℕ) → interruptBy kept disk h output ≡ interruptBy worked disk h output
   unfolding interruptBy stoppedBy volumeBy withWay
   interrupt-alike output =
-      behind (not (inOrder h)) _ _ _ (λ _. behind _ _ _ _ (λ _. behind _ _ _ _ (λ _. behind _ _ _ _ (λ _. ahead _ _ _ _ (λ _.
+      behind _ _ _ _ (λ _. ahead _ _ _ _ (λ _.
       ap (λ (r : Stepped). let t = turned (turnOf h [] output) r in
       interrupted 0 (t .progress .tally) (withRun h (h .program .came) (t .progress) (t .roots)) (t .output))
-      (failing-alike (settingOf h) (volumeOf h disk) 20 (turnOf h [] output) (sound-disk disk h stage fine)))))))
+      (failing-alike (settingOf h) (volumeOf h disk) 20 (turnOf h [] output) (sound-disk disk h stage fine))))
 
   -- ---- the running pair
 
@@ -166,18 +168,19 @@ module _ (disk : List ℕ) (h : Host) (stage : List ℕ) (shape : Declared h) (f
   pub reached-alike : reachedBy kept disk h stage ≡ reachedBy worked disk h stage
   unfolding reachedBy reachedPairBy
   reached-alike =
-      behind (not (inOrder h)) _ _ _ (λ _. behind (not (areasRight h disk stage)) _ _ _ (λ right. behind (not (h .program .active)) _ _ _ (λ live.
-      ap (reachedAt 0) (ap₂ (λ (x y : Pair). pick (h .program .progress .failed) x y) starting-alike (pair-alike (not-false _ right) (not-false _ live))))))
+      behind _ _ _ _ (λ e.
+      let p = past h _ e in
+      ap (reachedAt 0) (ap₂ (λ (x y : Pair). pick (h .program .progress .failed) x y) starting-alike (pair-alike (p .areas) (p .live))))
 
   -- ---- closing
 
   pub close-alike : (agrees : Bool) (size : ℕ) (root : List ℕ) → closeBy kept disk h stage agrees size root ≡ closeBy worked disk h stage agrees size root
   unfolding closeBy agreedBy
   close-alike agrees size root =
-      behind (not (inOrder h)) _ _ _ (λ _. behind (not (areasRight h disk stage)) _ _ _
-      (λ right. behind (not (h .program .active)) _ _ _ (λ live. behind _ _ _ _ (λ _. behind _ _ _ _ (λ _.
+      behind _ _ _ _ (λ e. behind _ _ _ _ (λ _. behind _ _ _ _ (λ _.
+      let p = past h _ e in
       ap₂ (λ (x y : Pair). pick (samePair x y) (givenUp 0 disk h) (pick (samePair (pairing size root) x) (commit disk h stage) (givenUp 14 disk h)))
-      (pair-alike (not-false _ right) (not-false _ live)) starting-alike)))))
+      (pair-alike (p .areas) (p .live)) starting-alike)))
 
   abbrev Ends : Closed → Type 0
   Ends r = sound (r .disk) (r .host) stage ≡ true
@@ -203,10 +206,10 @@ module _ (disk : List ℕ) (h : Host) (stage : List ℕ) (shape : Declared h) (f
       (close disk h stage agrees size root .host) stage ≡ true
   unfolding closeBy agreedBy
   close-sound agrees size root =
-      close-refused _ 1 _ (λ _. close-refused _ 2 _
-      (λ right. close-refused _ 4 _ (λ live. either-way Ends _ (givenUp 0 disk h) _ (λ _. given-up-sound 0) (λ _. close-refused _ 13 _ (λ _.
+      close-refused _ _ _ (λ e. either-way Ends _ (givenUp 0 disk h) _ (λ _. given-up-sound 0) (λ _. close-refused _ 13 _ (λ _.
+      let p = past h _ e in
       either-way Ends _ (givenUp 0 disk h) _ (λ _. given-up-sound 0) (λ _.
-      either-way Ends _ (commit disk h stage) (givenUp 14 disk h) (λ _. commit-sound (not-false _ right) (not-false _ live)) (λ _. given-up-sound 14)))))))
+      either-way Ends _ (commit disk h stage) (givenUp 14 disk h) (λ _. commit-sound (p .areas) (p .live)) (λ _. given-up-sound 14)))))
 
   -- an interrupt lends no stage
   abbrev Breaks : Interrupted → Type 0
@@ -223,6 +226,7 @@ module _ (disk : List ℕ) (h : Host) (stage : List ℕ) (shape : Declared h) (f
   unfolding interruptBy
   interrupt-sound output =
       let or = break-refused output in
-      or _ 1 _ (λ _. or _ 2 _ (λ _. or _ 2 _ (λ _. or _ 4 _ (λ live.
+      or _ _ _ (λ e.
+      let live = past h _ e .live in
       either-way Breaks _ (stoppedBy kept disk h output) (interrupted 0 (h .program .progress .tally) h output)
-      (λ g. stopped-sound output (not-false _ live) (stopped-order disk h output shape o (not-false _ live) g)) (λ _. fine)))))
+      (λ g. stopped-sound output live (stopped-order disk h output shape o live g)) (λ _. fine))

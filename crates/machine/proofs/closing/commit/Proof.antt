@@ -18,16 +18,25 @@ use Rattle.host.specs.declared.Program.{Program}
 use Rattle.machine.proofs.closing.commit.Statement.{statement}
 use Rattle.machine.proofs.closing.commit.Tie as tie
 
--- ---- the beginning
+-- ---- the places
 
 abbrev start : tie.After-place-of → tie.Start
-start c =
-    let at-places = c .before .before .before in let at-terms = at-places .before .before .before in let at-program = at-terms .before in
-    let start-2 = at-program .before .before .before in
-    start-2
+start c = let read = c .before .before .before in let id = read .before .before .before in let early = id .before .before in early .before .before
 
 abbrev host : tie.After-place-of → Host
 host c = start c .args .host
+
+-- the slots that were made, once growth is known, and once the sectors are copied back
+abbrev slots : tie.After-growth → tie.After-final-slots
+slots c = c .before .before .before
+
+abbrev back : tie.After-diskroots → tie.After-copy-back
+back c = let left = c .before .before in left .before .before
+
+abbrev after : tie.After-copy-back → tie.After-final-slots
+after c = slots (c .before .before)
+
+-- ---- what is known
 
 declared : (c : tie.After-place-of) → Declared (host c)
 declared c = sounds (host c) _ (start c .good .0)
@@ -37,67 +46,50 @@ size c = order-facts (host c) (start c .pre .order) .size
 
 -- ---- the needs
 
-final-slots-requires : tie.Need-final-slots-requires
-final-slots-requires c κs =
-    let r = start c .pre in
-    (size c, (few-slots _ (host c) _ (declared c) (r .order) (r .areas) (r .live), few-sectors _ (host c) _ (declared c) (r .order) (r .areas) (r .live)))
-
 growth-requires : tie.Need-growth-requires
 growth-requires c κs =
     let at = c .before .before .before in
-    let r = start at .pre in (
-      last-size _ (host at) _ (declared at) (r .order) (r .areas) (r .live),
-      first-size _ (host at) _ (declared at) (r .order) (r .areas) (r .live) (at .place-of .ensures),
-    )
-
-div-count : tie.Need-div-count
-div-count c =
-    let at-final-slots = c .before .before .before in let at-place-of = at-final-slots .before in
-    some _ (size (at-place-of))
+    let r = start at .pre in
+    (last-size _ _ _ (declared at) r, first-size _ _ _ (declared at) r (at .place-of .ensures))
 
 copy-back-requires : tie.Need-copy-back-requires
 copy-back-requires c κs =
-    let at-final-place = c .before .before .before in let slots = at-final-place .before in let at = slots .before in
-    let r = start at .pre in
-    backs _ (host at) _ (declared at) (r .order) (r .areas) (r .live) (at .place-of .ensures) (slots .final-slots .ensures)
-
-slice-aggregate-copy-back : tie.Need-slice-aggregate-copy-back
-slice-aggregate-copy-back c =
-    let at-stageroots = c .before .before in let at-copy-back = at-stageroots .before .before .before in
-    let at-replaced-in = at-copy-back .before .before .before in let at = at-replaced-in .before .before .before in
-    sym (stage-rooted (host at) _ (start at .good .0))
-
-slice-aggregate-copy-back-2 : tie.Need-slice-aggregate-copy-back-2
-slice-aggregate-copy-back-2 c =
-    let at-stageroots = c .before .before .before in let at-copy-back = at-stageroots .before .before .before in
-    let at-replaced-in = at-copy-back .before .before .before in let at = at-replaced-in .before .before .before in
-    sym (disk-rooted (host at) _ (start at .good .0))
+    let made = slots (c .before) in
+    let at = made .before in
+    backs _ _ _ (declared at) (start at .pre) (at .place-of .ensures) (made .final-slots .ensures)
 
 copy-back-requires-2 : tie.Need-copy-back-requires-2
 copy-back-requires-2 c κs =
-    let at-stageroots = c .before .before .before in let at-copy-back = at-stageroots .before .before .before in
-    let at-replaced-in = at-copy-back .before .before .before in let slots = at-replaced-in .before .before in let at = slots .before in
-    let r = start at .pre in
-    roots-back _ (host at) _ (declared at) (r .order) (r .areas) (r .live) (at .place-of .ensures) (slots .final-slots .ensures)
+    let made = after (back (c .before .before)) in
+    let at = made .before in
+    roots-back _ _ _ (declared at) (start at .pre) (at .place-of .ensures) (made .final-slots .ensures)
 
 returns : tie.Need-returns
 unfolding withProgram withPlaces withDiskRoots
 returns c =
-    let rooted = c .before .before in let at-diskroots = rooted .before .before .before in let at-disk = at-diskroots .before .before .before in
-    let back = at-disk .before in let grown = back .before .before in let replaced = grown .before in let placed = replaced .before in
-    let slots = placed .before in let at = slots .before in
+    let rooted = c .before .before in
+    let copied = back (rooted .before .before .before) in
+    let grown = copied .before .before in
+    let replaced = grown .before in
+    let at = slots grown .before in
     let h = host at in
     let made : Program → Closed =
     λ g. closed 0 (h .program .progress .tally) (toZ w64 (ofZ w64 (grown .growth .result)))
     (withDiskRoots (withProgram (withPlaces h (replaced .replaced-in .result)) g) (rooted .copy-back2 .last .1 .1 .1 .1 .1 .0))
-    (back .copy-back .last .1 .1 .1 .1 .1 .0) in
+    (copied .copy-back .last .1 .1 .1 .1 .1 .0) in
     ap made (c .none .ensures)
-    ∙ commit-made _ h _ (at .place-of .ensures) (slots .final-slots .ensures) (placed .final-place .ensures) (replaced .replaced-in .ensures)
-    (toZ-ofZ {w = w64} {z = grown .growth .result} (record { sfits = grown .growth .ok }) ∙ grown .growth .ensures) (back .copy-back .ensures)
+    ∙ commit-made _ h _ (at .place-of .ensures) (slots grown .final-slots .ensures) (replaced .before .final-place .ensures)
+    (replaced .replaced-in .ensures)
+    (toZ-ofZ {w = w64} {z = grown .growth .result} (record { sfits = grown .growth .ok }) ∙ grown .growth .ensures) (copied .copy-back .ensures)
     (rooted .copy-back2 .ensures)
 
 pub commit-spec : {M : Type 1} → statement M
 commit-spec =
-    tie.close (tie.spec (λ c κs. search needs) final-slots-requires (λ c κs. search needs) (λ c κs. search needs) growth-requires div-count
-    copy-back-requires slice-aggregate-copy-back slice-aggregate-copy-back-2 copy-back-requires-2 (λ c κs. search needs)
-    (λ c. search needs) returns)
+    tie.close (tie.spec (λ c κs. search needs)
+    (λ c κs. let r = start c .pre in (size c, (few-slots _ _ _ (declared c) r, few-sectors _ _ _ (declared c) r)))
+    (λ c κs. search needs) (λ c κs. search needs) growth-requires
+    (λ c. some _ (size (slots c .before)))
+    copy-back-requires
+    (λ c. let at = after (back (c .before)) .before in sym (stage-rooted (host at) _ (start at .good .0)))
+    (λ c. let at = after (back (c .before .before)) .before in sym (disk-rooted (host at) _ (start at .good .0)))
+    copy-back-requires-2 (λ c κs. search needs) (λ c. search needs) returns)

@@ -1,120 +1,79 @@
--- `machine::piecing::piece` meets its contract: a walk down the definition. Assumes nothing.
-use Rattle.lists.proofs.Kit.{sym, ap, _∙_, not, arith, not-false, ltb-false, needs}
-use Rattle.lists.proofs.Laws.Pick.{yes, no, both-left, both-right}
-use Rattle.host.proofs.Laws.Order.{order-facts, came-within}
-use Rattle.machine_rules.specs.View.{diskRight, areasRight}
-use Rattle.machine_rules.specs.Calls.{inputRight, outputRight, pieceBy}
+-- `machine::piecing::piece` meets its contract: refused, passing the declared length, or accepted. Assumes nothing.
+use Rattle.lists.proofs.Kit.{_≡_, sym, ap, _∙_, ℕ, ltb-false, needs}
+use Rattle.lists.proofs.Laws.Pick.{yes, no}
+use Rattle.host.proofs.Laws.Order.{came-within}
+use Rattle.machine_rules.specs.Calls.{Pieced, pieced, pieceLent, refusal, pieceBy}
+use Rattle.machine_rules.proofs.Laws.Refusals.{Past, past-zero, piece-areas, piece-own}
 use Rattle.machine.specs.Asks.{pieceLeaves}
-use Rattle.machine.proofs.Laws.Hosts.{right-if}
+use Rattle.machine.proofs.Laws.Hosts.{stops, goes-on}
 use Rattle.machine_rules.specs.declared.Answer.{Answer}
 use Rattle.machine.proofs.piecing.piece.Statement.{statement}
 use Rattle.machine.proofs.piecing.piece.Tie as tie
 
-returns : tie.Need-returns
-unfolding pieceBy areasRight diskRight inputRight outputRight
-returns c =
-    let then1 = c .before in let at-in-order = then1 .before in let at-slice-known2 = at-in-order .before .before .before in
-    let start = at-slice-known2 .before .before .before in
-    yes _ _ _ (ap not (sym (at-in-order .in-order .ensures)) ∙ then1 .if1 .taken)
-    (ap (λ (r : Answer). pieceLeaves r (start .args .stage .now) (start .args .input .now) (start .args .output .now)) (c .refused .ensures))
+-- ---- the beginning, and what a call leaves that changes no area
 
-areas-right-requires : tie.Need-areas-right-requires
-areas-right-requires c κs =
-    let o = order-facts _ (sym (c .before .before .in-order .ensures) ∙ not-false _ (c .before .if1 .left)) in
-    (o .size, (o .diskMost, omega (arith, o .stageMost)))
+abbrev start : tie.After-refusal → tie.Start
+start c = let args = c .before .before in let known = args .before .before .before in let first = known .before .before .before in first .before .before
+
+abbrev leaves : tie.Start → Answer → Pieced
+leaves s r = pieceLeaves r (s .args .stage .now) (s .args .input .now) (s .args .output .now)
+
+-- ---- what the tests told
+
+number : (c : tie.After-refusal) → let a = start c .args in
+    c .refusal .result ≡ refusal (a .host) (pieceLent (a .host) (a .disk .now) (a .stage .now) (a .input .now) (a .output .now))
+number c = c .refusal .ensures ∙ ap (refusal (start c .args .host)) (c .before .piece-lent .ensures)
+
+past : (c : tie.Else1) → let a = start (c .before) .args in
+    Past (a .host) (pieceLent (a .host) (a .disk .now) (a .stage .now) (a .input .now) (a .output .now))
+past c = past-zero _ _ (sym (number (c .before)) ∙ c .if1 .left)
+
+abbrev open-1 : tie.After-passes → tie.Else1
+open-1 c = let read = c .before in read .before .before .before
+
+-- ---- the needs
+
+returns : tie.Need-returns
+unfolding pieceBy
+returns c =
+    let at = c .before .before in
+    let s = start at in
+    stops (λ (n : ℕ). pieced n 0 (s .args .host) (s .args .stage .now) (s .args .input .now) (s .args .output .now)) _
+    (number at) (c .before .if1 .taken) (ap (leaves s) (c .refused .ensures))
 
 returns-2 : tie.Need-returns-2
-unfolding pieceBy areasRight diskRight inputRight outputRight
+unfolding pieceBy
 returns-2 c =
-    let then2 = c .before in let else1 = then2 .before .before .before in let at-in-order = else1 .before in
-    let at-slice-known2 = at-in-order .before .before .before in let start = at-slice-known2 .before .before .before in
-    no _ _ _ (ap not (sym (at-in-order .in-order .ensures)) ∙ else1 .if1 .left)
-    (yes _ _ _ (ap not (sym (then2 .before .areas-right .ensures)) ∙ then2 .if2 .taken)
-    (ap (λ (r : Answer). pieceLeaves r (start .args .stage .now) (start .args .input .now) (start .args .output .now)) (c .refused2 .ensures)))
-
-returns-3 : tie.Need-returns-3
-unfolding pieceBy areasRight diskRight inputRight outputRight
-returns-3 c =
-    let then3 = c .before in let at-either-wrong = then3 .before in let at-head = at-either-wrong .before .before .before in
-    let else2 = at-head .before .before .before in let at-areas-right = else2 .before in let else1 = at-areas-right .before .before in
-    let at-in-order = else1 .before in let at-slice-known2 = at-in-order .before .before .before in
-    let start = at-slice-known2 .before .before .before in
-    no _ _ _ (ap not (sym (at-in-order .in-order .ensures)) ∙ else1 .if1 .left)
-    (no _ _ _ (ap not (sym (at-areas-right .areas-right .ensures)) ∙ else2 .if2 .left)
-    (yes _ _ _ (sym (at-either-wrong .either-wrong .ensures) ∙ then3 .if3 .taken)
-    (ap (λ (r : Answer). pieceLeaves r (start .args .stage .now) (start .args .input .now) (start .args .output .now)) (c .refused3 .ensures))))
-
-returns-4 : tie.Need-returns-4
-unfolding pieceBy areasRight diskRight inputRight outputRight
-returns-4 c =
-    let else3 = c .before .before .before in let at-either-wrong = else3 .before in let at-head = at-either-wrong .before .before .before in
-    let else2 = at-head .before .before .before in let at-areas-right = else2 .before in let else1 = at-areas-right .before .before in
-    let at-in-order = else1 .before in let at-slice-known2 = at-in-order .before .before .before in
-    let start = at-slice-known2 .before .before .before in
-    no _ _ _ (ap not (sym (at-in-order .in-order .ensures)) ∙ else1 .if1 .left)
-    (no _ _ _ (ap not (sym (at-areas-right .areas-right .ensures)) ∙ else2 .if2 .left)
-    (no _ _ _ (sym (at-either-wrong .either-wrong .ensures) ∙ else3 .if3 .left)
-    (yes _ _ _ (c .before .if4 .taken)
-    (ap (λ (r : Answer). pieceLeaves r (start .args .stage .now) (start .args .input .now) (start .args .output .now)) (c .refused4 .ensures)))))
-
-passes-requires : tie.Need-passes-requires
-passes-requires c κs =
-    let else3 = c .before .before in let at-either-wrong = else3 .before in let at-head = at-either-wrong .before .before .before in
-    let else2 = at-head .before .before .before in let else1 = else2 .before .before .before in let at-in-order = else1 .before in
-    came-within _ (sym (at-in-order .in-order .ensures) ∙ not-false _ (else1 .if1 .left)) (not-false _ (c .if4 .left))
-
-returns-5 : tie.Need-returns-5
-unfolding pieceBy areasRight diskRight inputRight outputRight
-returns-5 c =
-    let else4 = c .before .before .before in let else3 = else4 .before .before in let at-either-wrong = else3 .before in
-    let at-head = at-either-wrong .before .before .before in let else2 = at-head .before .before .before in let at-areas-right = else2 .before in
-    let else1 = at-areas-right .before .before in let at-in-order = else1 .before in let at-slice-known2 = at-in-order .before .before .before in
-    let start = at-slice-known2 .before .before .before in
-    no _ _ _ (ap not (sym (at-in-order .in-order .ensures)) ∙ else1 .if1 .left)
-    (no _ _ _ (ap not (sym (at-areas-right .areas-right .ensures)) ∙ else2 .if2 .left)
-    (no _ _ _ (sym (at-either-wrong .either-wrong .ensures) ∙ else3 .if3 .left)
-    (no _ _ _ (else4 .if4 .left)
-    (yes _ _ _ (sym (c .before .before .passes .ensures) ∙ c .before .if5 .taken)
-    (ap (λ (r : Answer). pieceLeaves r (start .args .stage .now) (start .args .input .now) (start .args .output .now)) (c .refused5 .ensures))))))
+    let test = c .before .before in
+    let at = open-1 test in
+    goes-on _ _ (number (at .before)) (at .if1 .left)
+    (yes _ _ _ (sym (test .passes .ensures) ∙ c .before .if2 .taken) (ap (leaves (start (at .before))) (c .refused2 .ensures)))
 
 accept-requires : tie.Need-accept-requires
-unfolding areasRight diskRight inputRight outputRight
 accept-requires c κs =
-    let else5 = c .before .before .before in let at-passes = else5 .before in let else4 = at-passes .before in let else3 = else4 .before .before in
-    let at-either-wrong = else3 .before in let at-head = at-either-wrong .before .before .before in let else2 = at-head .before .before .before in
-    let at-areas-right = else2 .before in let else1 = at-areas-right .before .before in let at-in-order = else1 .before in
-    let live = not-false _ (else4 .if4 .left) in
-    let right = right-if _ _ live (sym (at-either-wrong .either-wrong .ensures) ∙ else3 .if3 .left) in
+    let else = c .before .before .before in
+    let at = open-1 (else .before) in
+    let p = past at in
+    let own = piece-own _ _ _ _ _ (p .areas) (p .live) in
     record {
-      ready = record {
-        order = sym (at-in-order .in-order .ensures) ∙ not-false _ (else1 .if1 .left);
-        areas = sym (at-areas-right .areas-right .ensures) ∙ not-false _ (else2 .if2 .left);
-        live = live;
-      };
-      inputs = both-left _ _ right;
-      outputs = both-right _ _ right;
-      fits = ltb-false _ _ (sym (at-passes .passes .ensures) ∙ else5 .if5 .left);
+      ready = record { order = p .order; areas = piece-areas _ _ _ _ _ (p .areas); live = p .live };
+      inputs = own .0;
+      outputs = own .1;
+      fits = ltb-false _ _ (sym (else .before .passes .ensures) ∙ else .if2 .left);
     }
 
-returns-6 : tie.Need-returns-6
-unfolding pieceBy areasRight diskRight inputRight outputRight
-returns-6 c =
-    let at-input = c .before .before .before in let at-accept = at-input .before .before .before in
-    let at-accept-arg = at-accept .before .before .before in let else5 = at-accept-arg .before in let at-passes = else5 .before in
-    let else4 = at-passes .before in let else3 = else4 .before .before in let at-either-wrong = else3 .before in
-    let at-head = at-either-wrong .before .before .before in let else2 = at-head .before .before .before in let at-areas-right = else2 .before in
-    let else1 = at-areas-right .before .before in let at-in-order = else1 .before in
-    no _ _ _ (ap not (sym (at-in-order .in-order .ensures)) ∙ else1 .if1 .left)
-    (no _ _ _ (ap not (sym (at-areas-right .areas-right .ensures)) ∙ else2 .if2 .left)
-    (no _ _ _ (sym (at-either-wrong .either-wrong .ensures) ∙ else3 .if3 .left)
-    (no _ _ _ (else4 .if4 .left)
-    (no _ _ _ (sym (at-passes .passes .ensures) ∙ else5 .if5 .left)
-    (at-accept .accept .ensures)))))
+returns-3 : tie.Need-returns-3
+unfolding pieceBy
+returns-3 c =
+    let back = c .before .before .before in let done = back .before .before .before in
+    let args = done .before .before .before in let else = args .before in
+    let at = open-1 (else .before) in
+    goes-on _ _ (number (at .before)) (at .if1 .left) (no _ _ _ (sym (else .before .passes .ensures) ∙ else .if2 .left) (done .accept .ensures))
 
 pub piece-spec : {M : Type 1} → statement M
 piece-spec =
-    tie.close (tie.spec (λ c κs. search needs) (λ c κs. search needs) returns areas-right-requires (λ c κs. search needs)
-    (λ c. search needs) returns-2 (λ c κs. search needs) (λ c κs. search needs) (λ c. search needs) (λ c. search needs)
-    (λ c. search needs) returns-3 (λ c κs. search needs) (λ c. search needs) (λ c. search needs) (λ c. search needs) returns-4
-    passes-requires (λ c κs. search needs) (λ c. search needs) (λ c. search needs) (λ c. search needs) returns-5 accept-requires
-    (λ c. search needs) (λ c. search needs) (λ c. search needs) returns-6)
+    tie.close (tie.spec (λ c κs. search needs) (λ c κs. search needs) (λ c κs. search needs) (λ c. search needs) (λ c. search needs)
+    (λ c. search needs) returns
+    (λ c κs. let p = past (c .before .before .before) in came-within _ (p .order) (p .live))
+    (λ c κs. search needs) (λ c. search needs) (λ c. search needs) (λ c. search needs) returns-2 accept-requires
+    (λ c. search needs) (λ c. search needs) (λ c. search needs) returns-3)
