@@ -1,6 +1,6 @@
 -- What callers use: what a host in order with an open program gives the functions of this crate, and that what they make together is the
 -- definition's commit. z is the sector size. Assumes nothing.
-use Rattle.lists.proofs.Kit.{_≡_, refl, sym, ap, _∙_, true, false, List, [], _∷_, ℕ, _-_, _*_, _/_, _≤_, _<_, zero-div, mul-le-mul-right}
+use Rattle.lists.proofs.Kit.{_≡_, refl, sym, ap, _∙_, true, false, List, [], _∷_, ℕ, _*_, _/_, _≤_, _<_, zero-div, mul-le-mul-right}
 use Rattle.lists.proofs.Kit.{div-le-of-le-mul, arith, length, getD, ltb, eqb, ltb-true, eqb-true}
 use lib.IntN.{ℤ, pos, _-ℤ_}
 use Rattle.lists.specs.Tests.{every}
@@ -64,7 +64,7 @@ module _ (disk : List ℕ) (h : Host) (stage : List ℕ) (sound : Declared h) (r
   staged = h .program .progress .staged
 
   good : Good (settingOf h) (h .program .progress)
-  good = order-good h disk o (r .live) (sound .staged)
+  good = order-good h o (r .live) (sound .staged)
 
   solid : Solid (settingOf h) (volumeOf h disk)
   solid = order-solid h disk stage o (r .areas)

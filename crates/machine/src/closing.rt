@@ -86,7 +86,8 @@ fn commit(host: Host, disk: &mut [u8], stage: &[u8]) -> Closing
     let progress = program.progress;
     let size = progress.size;
     let staged = progress.staged;
-    let old = host::place_of(places, id);
+    let setting = machine_step::setting_of(host);
+    let old = machine_step::parent(setting);
     let z = host.sector;
     let slots = commit::final_slots(z, host.disk, places, old, size);
     let new = commit::final_place(old, size, slots);

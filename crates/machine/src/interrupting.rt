@@ -28,11 +28,11 @@ fn stop(host: Host, output: &mut [u8]) -> Answer
     requires { ⌜ Stops host (now output) ⌝ }
     ensures { λ r. ⌜ interruptLeaves r (now (output .exit)) ≡ stopped [] host (now (output .entry)) ⌝ }
 {
+    let setting = machine_step::setting_of(host);
     let mut program = host.program;
-    let parent = machine_step::parent(host);
     let progress = program.progress;
     let diskroots = host.diskroots;
-    let failed = machine_step::fail(host.sector, 20, &diskroots, parent, progress, output);
+    let failed = machine_step::fail(setting, 20, &diskroots, progress, output);
     program.progress = failed;
     let mut after = host;
     after.program = program;

@@ -50,9 +50,8 @@ fn accept(
     ensures { λ r. ⌜ pieceLeaves r (now (stage .exit)) (now (input .exit)) (now (output .exit)) ≡
         accepted (now (disk .entry)) host (now (stage .entry)) (now (input .entry)) (now (output .entry)) (now (bytes .entry)) ⌝ }
 {
+    let setting = machine_step::setting_of(host);
     let mut program = host.program;
-    let terms = program.terms;
-    let places = host.places;
     let start = program.progress;
     let came = program.came;
     area::copy_between(bytes, 0, input, came as usize, bytes.len());
@@ -60,11 +59,7 @@ fn accept(
     let diskroots = host.diskroots;
     let mut stageroots = host.stageroots;
     let progress = machine_step::run(
-        host.sector,
-        host.disk,
-        host.stage,
-        places,
-        terms,
+        setting,
         &diskroots,
         disk,
         &*input,

@@ -210,7 +210,7 @@ module _ (disk : List ℕ) (h : Host) (stage : List ℕ) (r : Ready h) (live : h
       by (whose (h .program .terms .head .contract) (h .places) .held)
       (λ e.
       let q = order-places h (r .order) in
-      let g = order-good h disk (r .order) live (d .staged) .orderly in
+      let g = order-good h (r .order) live (d .staged) .orderly in
       let s = split id (h .places) (place-twins (h .sector) (h .disk) (h .places) (q .0)) e in
       let f = final (h .sector) (h .disk) size id (h .places) s (order-some h (r .order)) (q .1) (q .0) (d .places) (g .whole) (g .within) in
       let long = ap (λ (x : Place). length (finalSlots (h .sector) (h .disk) (h .places) x size)) (s .whose-is) ∙ ap length (f .is) ∙ f .long in

@@ -81,7 +81,7 @@ module _ (disk : List ℕ) (h : Host) (stage : List ℕ) (sound : Declared h) (o
   commit-left = refl
 
   good : Good (settingOf h) (h .program .progress)
-  good = order-good h disk o live (sound .staged)
+  good = order-good h o live (sound .staged)
 
   solid : Solid (settingOf h) (volumeOf h disk)
   solid = order-solid h disk stage o areas

@@ -261,7 +261,7 @@ commit-order disk h stage sound o live =
     let id = h .program .terms .head .contract in
     let size = h .program .progress .size in
     let q = order-places h o in
-    let g = order-good h disk o live (sound .staged) .orderly in
+    let g = order-good h o live (sound .staged) .orderly in
     ap inOrder (commit-places disk h stage)
     ∙ idle-order h _ _ o
     (by (whose id (h .places) .held)

@@ -118,10 +118,10 @@ pub accepted-order : (disk : List ℕ) (h : Host) (stage input output bytes : Li
     → h .program .came + length bytes ≤ h .program .terms .head .length → inOrder (accepted disk h stage input output bytes .host) ≡ true
 unfolding acceptedBy run turnOf
 accepted-order disk h stage input output bytes sound o live fit =
-    good-order h disk (h .program .came + length bytes) _ _ o fit
+    good-order h (h .program .came + length bytes) _ _ o fit
     (runs-good (settingOf h) (volumeOf h disk) (put input (h .program .came) bytes) (h .program .came + length bytes)
     (h .program .terms .head .count) (turnOf h stage output)
-    (order-lent h disk o) (order-good h disk o live (sound .staged)))
+    (order-lent h o) (order-good h o live (sound .staged)))
 
 pieces : (disk : List ℕ) (h : Host) (stage input output bytes : List ℕ) → Declared h → inOrder h ≡ true
     → inOrder (piece disk h stage input output bytes .host) ≡ true
@@ -137,9 +137,9 @@ pub stopped-order : (disk : List ℕ) (h : Host) (output : List ℕ) → Declare
     → going (h .program .terms) (h .program .progress) ≡ true → inOrder (stopped disk h output .host) ≡ true
 unfolding stoppedBy failing turned turnOf volumeBy
 stopped-order disk h output sound o live g =
-    good-order h disk (h .program .came) _ _ o (came-within h o live)
+    good-order h (h .program .came) _ _ o (came-within h o live)
     (failed-good (settingOf h) (h .program .progress) (not-failed (settingOf h) (turnOf h [] output) g)
-    (order-good h disk o live (sound .staged)))
+    (order-good h o live (sound .staged)))
 
 interrupts : (disk : List ℕ) (h : Host) (output : List ℕ) → Declared h → inOrder h ≡ true → inOrder (interrupt disk h output .host) ≡ true
 unfolding interruptBy

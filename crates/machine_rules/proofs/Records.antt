@@ -152,7 +152,7 @@ module _ (h : Host) (a : Areas) (all : List ℕ) (k : ℕ) (le : k ≤ h .progra
     unfolding after made run volumeBy turnOf
     after-output =
         let b = runs-bytes (settingOf h) (volumeOf h (a .disk)) all k (h .program .terms .head .count) (turnOf h (a .stage) (a .output))
-        (order-solid h (a .disk) (a .stage) (t .order) (t .areas)) (order-good h (a .disk) (t .order) (t .live) (t .entries))
+        (order-solid h (a .disk) (a .stage) (t .order) (t .areas)) (order-good h (t .order) (t .live) (t .entries))
         (areas-stage h (a .disk) (a .stage) (t .areas)) (t .diskRoots) (t .stageRoots) in
         b ∙ ap₂ (λ (m : ℕ) (l : List (List ℕ)). put (a .output) m (together l)) none-written (sym first-records)
 
@@ -160,6 +160,6 @@ module _ (h : Host) (a : Areas) (all : List ℕ) (k : ℕ) (le : k ≤ h .progra
     unfolding after made run volumeBy turnOf withRun withStageRoots withProgram withProgress withCame
     after-written =
         let b = runs-length (settingOf h) (volumeOf h (a .disk)) all k (h .program .terms .head .count) (turnOf h (a .stage) (a .output))
-        (order-solid h (a .disk) (a .stage) (t .order) (t .areas)) (order-good h (a .disk) (t .order) (t .live) (t .entries))
+        (order-solid h (a .disk) (a .stage) (t .order) (t .areas)) (order-good h (t .order) (t .live) (t .entries))
         (areas-stage h (a .disk) (a .stage) (t .areas)) (t .diskRoots) (t .stageRoots) in
         omega (arith, b, none-written, ap (λ (l : List (List ℕ)). length (together l)) first-records)

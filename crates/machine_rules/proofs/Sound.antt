@@ -110,7 +110,7 @@ running-bytes : (h : Host) (a : Areas) → Sound h (a .disk) (a .stage) → area
     → running h a .root ≡ Tree.root (runningSectors h a)
 unfolding runningPair rootOf rootBy volumeBy parentSpots parent
 running-bytes h a s areas live =
-    let g = order-good h (a .disk) (sound-order (a .disk) h (a .stage) (s .right)) live (s .declared .staged) in
+    let g = order-good h (sound-order (a .disk) h (a .stage) (s .right)) live (s .declared .staged) in
     let solid = order-solid h (a .disk) (a .stage) (sound-order (a .disk) h (a .stage) (s .right)) areas in
     let few = few-sectors (settingOf h) (h .program .progress) (solid .lent) g in
     ap (λ (x : Pair). x .root) (pair-alike (a .disk) h (a .stage) (s .declared) (s .right) areas live)

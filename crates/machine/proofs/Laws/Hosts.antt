@@ -8,12 +8,13 @@ use Rattle.host.specs.Order.{inOrder}
 use Rattle.host.proofs.Laws.Order.{order-facts}
 use Rattle.machine_rules.specs.View.{Turn, turn, turnOf, withRun, settingOf, volumeOf}
 use Rattle.machine_rules.specs.Record.{recordBytes, failureBytes}
-use Rattle.machine_rules.specs.Run.{failedProgress, failing, going, run}
+use Rattle.machine_rules.specs.Run.{failedProgress, failing, going, run, turned}
 use Rattle.machine_rules.specs.Calls.{inputRight, outputRight, Pieced, pieced, acceptedBy, accepted, interrupted, stoppedBy, stopped}
 use Rattle.machine_rules.specs.Calls.{reachedPairBy, reachedPair}
 use Rattle.machine_step.proofs.Laws.Hosts.{starting-any, running-any}
 use Rattle.machine.specs.Asks.{Stops}
 use Rattle.host.specs.declared.Progress.{Progress}
+use Rattle.machine_rules.specs.declared.Setting.{Setting}
 use Rattle.host.specs.declared.Host.{Host}
 use Rattle.machine_rules.specs.declared.Pair.{Pair}
 
@@ -42,20 +43,20 @@ unfolding inputRight
 input-long h input e = eqb-true _ _ e
 
 -- a piece, from what its functions left
-pub accepted-is : (disk : List ℕ) (h : Host) (stage input output bytes : List ℕ) {area : List ℕ} {g : Progress} {st out roots : List ℕ} {k : ℕ} → area
-    ≡ put input (h .program .came) bytes
-    → k ≡ h .program .came + length bytes → turn g st out roots ≡ run (settingOf h) (volumeOf h disk) area k (turnOf h stage output)
+pub accepted-is : (disk : List ℕ) (h : Host) (stage input output bytes : List ℕ) {area : List ℕ} {g : Progress} {st out roots : List ℕ} {k : ℕ} {s : Setting} → s ≡ settingOf h
+    → area ≡ put input (h .program .came) bytes → k ≡ h .program .came + length bytes
+    → turn g st out roots ≡ run s (volumeOf h disk) area k (turnOf h stage output)
     → pieced 0 (g .tally) (withRun h k g roots) st area out ≡ accepted disk h stage input output bytes
 unfolding acceptedBy
-accepted-is disk h stage input output bytes {area} {g} {st} {out} {roots} {k} a e t =
+accepted-is disk h stage input output bytes {area} {g} {st} {out} {roots} {k} q a e t =
     let left : ℕ → List ℕ → Turn → Pieced = λ n l x. pieced 0 (x .progress .tally) (withRun h n (x .progress) (x .roots)) (x .stage) l (x .output) in
-    ap (left k area) t
+    ap (left k area) (t ∙ ap (λ (s : Setting). run s (volumeOf h disk) area k (turnOf h stage output)) q)
     ∙ ap₂ (λ (n : ℕ) (l : List ℕ). left n l (run (settingOf h) (volumeOf h disk) l n (turnOf h stage output))) e a
 
 -- ---- kept roots look at no area
 
 pub stopped-any : (h : Host) (disk output : List ℕ) → stopped [] h output ≡ stopped disk h output
-unfolding stoppedBy failing failureBytes turnOf
+unfolding stoppedBy failing turned failureBytes turnOf
 stopped-any h disk output =
     let p = failedProgress (h .program .progress) in
     ap (λ (pair : Pair). interrupted 0 (p .tally) (withRun h (h .program .came) p (h .stageroots))

@@ -6,8 +6,7 @@ use Rattle.area.specs.Area.{same, zeros}
 use Rattle.sia.specs.Names.{readOnly}
 use Rattle.host.specs.Places.{hasId}
 use Rattle.host.specs.Order.{inOrder}
-use Rattle.machine_rules.specs.View.{readOnlyMode, parent, parentSpots, settingOf, volumeBy}
-use Rattle.machine_rules.specs.declared.Setting.{Setting}
+use Rattle.machine_rules.specs.View.{Volume, readOnlyMode, parent, parentSpots, settingOf, volumeBy, volumeOf}
 use Rattle.machine_rules.specs.Facts.{Solid}
 use Rattle.machine_rules.specs.Seats.{seats, allSeats, seatsOf, seatsIn}
 use Rattle.machine_rules.proofs.Laws.Taking.{blank-right, order-solid, order-good}
@@ -17,23 +16,23 @@ use Rattle.host.specs.declared.Host.{Host}
 
 module _ (h : Host) (o : inOrder h ≡ true) where
   -- kept roots look at no byte, so that areas of zeros will do
-  abbrev set : Setting
-  set = settingOf h (zeros (h .disk * h .sector))
+  abbrev blank : Volume
+  blank = volumeOf h (zeros (h .disk * h .sector))
 
   module _ (d : length (h .diskroots) ≡ 2048) where
-    stands : Solid (h .sector) set
+    stands : Solid (settingOf h) blank
     stands = order-solid h _ (zeros (h .stage * h .sector)) o (blank-right h)
 
     pub stand : Stand (h .sector) (h .diskroots) (h .places)
     unfolding volumeBy
-    stand = all-stand (h .sector) set (h .diskroots) stands d
+    stand = all-stand (settingOf h) blank (h .diskroots) stands d
 
     pub seeks-program : length (h .stageroots) ≡ 512 → h .program .active ≡ true → length (h .program .progress .staged) ≡ 64
         → let g = h .program in
         Seeks (h .sector) (h .diskroots) (h .stageroots) (h .places) (g .terms .head .contract) (g .progress .staged) (g .progress .size)
     unfolding volumeBy
     seeks-program e live long =
-        program-seeks (h .sector) set (h .diskroots) stands d (h .stageroots) e (h .program .progress) (order-good h _ o live long)
+        program-seeks (settingOf h) blank (h .diskroots) stands d (h .stageroots) e (h .program .progress) (order-good h o live long)
 
 -- with no program, all committed sectors
 pub closed-seats : (h : Host) → h .program .active ≡ false → allSeats (h .sector) (h .places) ≡ seatsIn h

@@ -1,5 +1,5 @@
 -- A host in order takes every piece up to the declared length, and is in order after it. Assumes nothing.
-use Rattle.lists.proofs.Kit.{_≡_, refl, sym, ap, _∙_, subst, true, not, List, [], _∷_, ℕ, _+_, _*_, _≤_, arith, length, length-append, length-replicate}
+use Rattle.lists.proofs.Kit.{_≡_, refl, sym, ap, _∙_, subst, true, List, [], _∷_, ℕ, _+_, _*_, _≤_, arith, length, length-append, length-replicate}
 use Rattle.lists.proofs.Kit.{ltb, eqb, le-leb, le-ltb, eq-eqb, eqb-true}
 use Rattle.lists.proofs.Laws.Pick.{skips, both-left, both-right, both-join, or-right, second-not}
 use Rattle.area.specs.Area.{put, zeros}
@@ -32,9 +32,8 @@ pub record Taking (disk : List ℕ) (w : Pieced) : Type 0 where
   pub stageRoots : length (w .host .stageroots) ≡ 512
 
 -- the parts of `inOrder`
-pub order-lent : (h : Host) (disk : List ℕ) → inOrder h ≡ true → Lent (settingOf h)
-unfolding volumeBy
-order-lent h disk e = let o = order-facts h e in record { size = o .size; few = o .stageMost; most = o .diskMost }
+pub order-lent : (h : Host) → inOrder h ≡ true → Lent (settingOf h)
+order-lent h e = let o = order-facts h e in record { size = o .size; few = o .stageMost; most = o .diskMost }
 
 -- areas of zeros, of the lengths that a host states: where its sectors are, and the roots kept beside them, do not hang on what is lent
 pub blank-right : (h : Host) → areasRight h (zeros (h .disk * h .sector)) (zeros (h .stage * h .sector)) ≡ true
@@ -48,7 +47,7 @@ unfolding areasRight diskRight volumeBy
 order-solid h disk stage e areas =
     let o = order-facts h e in
     record {
-      lent = order-lent h disk e;
+      lent = order-lent h e;
       one = o .diskLeast;
       small = o .contracts .each;
       slots = o .contracts .below;
@@ -63,10 +62,10 @@ pub order-program : (h : Host) → inOrder h ≡ true → h .program .active ≡
 unfolding inOrder
 order-program h e live = second-not (h .program .active) _ (both-right _ _ (both-right _ _ (both-right _ _ (both-right _ _ e)))) live
 
-pub order-good : (h : Host) (disk : List ℕ) → inOrder h ≡ true → h .program .active ≡ true → length (h .program .progress .staged) ≡ 64
+pub order-good : (h : Host) → inOrder h ≡ true → h .program .active ≡ true → length (h .program .progress .staged) ≡ 64
     → Good (settingOf h) (h .program .progress)
-unfolding volumeBy programInOrder
-order-good h disk e live len =
+unfolding programInOrder
+order-good h e live len =
     let q = order-program h e live in
     record {
       orderly = progress-facts (h .sector) _ _ _ _ (h .program .progress) (both-right _ _ (both-right _ _ q));
@@ -74,10 +73,10 @@ order-good h disk e live len =
       entries = len;
     }
 
-pub good-order : (h : Host) (disk : List ℕ) (k : ℕ) (p : Progress) (roots : List ℕ) → inOrder h ≡ true → k ≤ h .program .terms .head .length
+pub good-order : (h : Host) (k : ℕ) (p : Progress) (roots : List ℕ) → inOrder h ≡ true → k ≤ h .program .terms .head .length
     → Good (settingOf h) p → inOrder (withRun h k p roots) ≡ true
-unfolding inOrder withRun withStageRoots withProgram withProgress withCame programInOrder volumeBy
-good-order h disk k p roots e le g =
+unfolding inOrder withRun withStageRoots withProgram withProgress withCame programInOrder
+good-order h k p roots e le g =
     let b = both-right _ _ e in
     let c = both-right _ _ b in
     both-join _ _ (both-left _ _ e) (both-join _ _ (both-left _ _ b) (both-join _ _ (both-left _ _ c) (both-join _ _ (both-left _ _ (both-right _ _ c))
@@ -105,13 +104,13 @@ module _ (disk : List ℕ) (w : Pieced) (t : Taking disk w) (b : List ℕ) (fit 
       let h = w .host in
       let s = settingOf h in
       let vol = volumeOf h disk in
-      let L = order-lent h disk (t .order) in
+      let L = order-lent h (t .order) in
       let g = runs-good s vol (put (w .input) (h .program .came) b) (h .program .came + length b) (s .terms .head .count)
-      (turnOf h (w .stage) (w .output)) L (order-good h disk (t .order) (t .live) (t .entries)) in
+      (turnOf h (w .stage) (w .output)) L (order-good h (t .order) (t .live) (t .entries)) in
       let a = runs-alike s vol (put (w .input) (h .program .came) b) (h .program .came + length b) (s .terms .head .count)
       (turnOf h (w .stage) (w .output)) in
       record {
-        order = good-order h disk (h .program .came + length b) _ _ (t .order) fit g;
+        order = good-order h (h .program .came + length b) _ _ (t .order) fit g;
         areas = areas-again (w .host) disk (w .stage) _ _ _ _ (a .stage) (t .areas);
         live = t .live;
         input = length-put (w .input) _ b ∙ t .input;

@@ -46,7 +46,7 @@ module _ (h : Host) (disk stage : List ℕ) (s : Sound h disk stage) where
     parent-known =
         let blank = zeros (h .disk * h .sector) in
         let solid = order-solid h blank (zeros (h .stage * h .sector)) o (blank-right h) in
-        let good = order-good h blank o live (s .declared .staged) in
+        let good = order-good h o live (s .declared .staged) in
         all-parent (settingOf h) (volumeOf h blank) (h .program .progress) solid (good .orderly .staged)
         (few-sectors (settingOf h) (h .program .progress) (solid .lent) good) (good .entries) (s .declared .places) _ disk-known
         (known-stage (settingOf h) (volumeOf h disk) stage (h .stageroots) (h .program .progress .staged) (sound-stage disk h stage (s .right) live))

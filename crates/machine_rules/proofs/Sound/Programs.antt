@@ -83,7 +83,7 @@ module _ (disk : List ℕ) (h : Host) (stage : List ℕ) (shape : Declared h) (f
       (put input (h .program .came) bytes) (t .output))
       (runs-alike (settingOf h) (volumeOf h disk) (order-solid h disk stage o areas) (put input (h .program .came) bytes) (h .program .came + length bytes)
       (h .program .terms .head .count) (turnOf h stage output)
-      (order-good h disk o live (shape .staged)) (start-known output live))
+      (order-good h o live (shape .staged)) (start-known output live))
 
   -- a piece on a sound host gives what document 01 says
   pub piece-alike : (input output bytes : List ℕ) → pieceBy kept disk h stage input output bytes ≡ pieceBy worked disk h stage input output bytes
@@ -99,7 +99,7 @@ module _ (disk : List ℕ) (h : Host) (stage : List ℕ) (shape : Declared h) (f
   records-alike output all areas live =
       trail-alike (settingOf h) (volumeOf h disk) (order-solid h disk stage o areas) all (h .program .terms .head .length) (h .program .terms .head .count)
       (turnOf h stage output)
-      (order-good h disk o live (shape .staged)) (start-known output live)
+      (order-good h o live (shape .staged)) (start-known output live)
 
   -- and leaves it sound
   accepted-sound : (input output bytes : List ℕ) → areasRight h disk stage ≡ true → h .program .active ≡ true
@@ -109,7 +109,7 @@ module _ (disk : List ℕ) (h : Host) (stage : List ℕ) (shape : Declared h) (f
   accepted-sound input output bytes areas live order =
       let known = runs-known (settingOf h) (volumeOf h disk) (order-solid h disk stage o areas) (put input (h .program .came) bytes)
       (h .program .came + length bytes) (h .program .terms .head .count) (turnOf h stage output)
-      (order-good h disk o live (shape .staged)) (start-known output live) in
+      (order-good h o live (shape .staged)) (start-known output live) in
       is-sound disk _ _ order (sound-disk disk h stage fine) (λ _. known .stage)
 
   abbrev Stays : Pieced → Type 0
@@ -146,7 +146,7 @@ module _ (disk : List ℕ) (h : Host) (stage : List ℕ) (shape : Declared h) (f
       (parentSpots (settingOf h) (h .program .progress)) ≡ true
   unfolding volumeBy withWay
   parent-right areas live =
-      let g = order-good h disk o live (shape .staged) in
+      let g = order-good h o live (shape .staged) in
       let solid = order-solid h disk stage o areas in
       all-parent (settingOf h) (volumeOf h disk) (h .program .progress) solid (g .orderly .staged)
       (few-sectors (settingOf h) (h .program .progress) (solid .lent) g) (g .entries) (shape .places) _

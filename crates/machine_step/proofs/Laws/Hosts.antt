@@ -20,6 +20,7 @@ use Rattle.machine_step.proofs.Laws.After.{reads-good}
 use Rattle.machine_step.specs.Turns.{Ready, Runs}
 use Rattle.host.specs.declared.Place.{Place}
 use Rattle.host.specs.declared.Host.{Host}
+use Rattle.machine_rules.specs.declared.Setting.{Setting}
 
 pub disk-long : (h : Host) (disk : List ℕ) → diskRight h disk ≡ true → length disk ≡ h .disk * h .sector
 unfolding diskRight
@@ -51,23 +52,23 @@ reads h long d s e o live =
     let disk = zeros (h .disk * h .sector) in
     let stage = zeros (h .stage * h .sector) in
     reads-good (settingOf h) (volumeOf h disk) (h .program .progress) (h .diskroots) (h .stageroots) _
-    (order-solid h disk stage o (blank-right h)) (order-good h disk o live long) d s e
+    (order-solid h disk stage o (blank-right h)) (order-good h o live long) d s e
 
 -- instructions in turn on a host in order, with its areas as stated
-pub turns-right : (h : Host) (disk stage input output : List ℕ) → length (h .program .progress .staged) ≡ 64 → length (h .diskroots) ≡ 2048
+pub turns-right : (h : Host) (disk stage input output : List ℕ) {x : Setting} → x ≡ settingOf h → length (h .program .progress .staged) ≡ 64 → length (h .diskroots) ≡ 2048
     → length (h .stageroots) ≡ 512 → Ready disk h stage → length input ≡ h .program .terms .head .length → outputRight h output ≡ true
-    → Runs (settingOf h) (volumeOf h disk) (turnOf h stage output) input
+    → Runs x (volumeOf h disk) (turnOf h stage output) input
 unfolding outputRight turnOf volumeBy
-turns-right h disk stage input output long d s r i o = record {
+turns-right h disk stage input output q long d s r i o = subst (λ (x : Setting). Runs x (volumeOf h disk) (turnOf h stage output) input) (sym q) (record {
   solid = order-solid h disk stage (r .order) (r .areas);
-  good = order-good h disk (r .order) (r .live) long;
+  good = order-good h (r .order) (r .live) long;
   input = i;
   stage = areas-stage h disk stage (r .areas);
   output = eqb-true _ _ o;
   way = refl;
   diskroots = d;
   stageroots = s;
-}
+})
 
 -- ---- kept roots look at no area
 

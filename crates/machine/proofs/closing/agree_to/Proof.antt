@@ -1,7 +1,7 @@
 -- `machine::closing::agree_to` meets its contract: nothing changed, or the pair named is the running one, or the changes are dropped. Assumes nothing.
 use Rattle.lists.proofs.Kit.{_≡_, refl, sym, ap, ap₂, _∙_, not-true, not-false, needs}
 use Rattle.lists.proofs.Laws.Pick.{yes, no}
-use Rattle.machine_rules.specs.View.{settingOf}
+use Rattle.machine_rules.specs.View.{settingOf, volumeOf}
 use Rattle.machine_rules.specs.Roots.{rootOf}
 use Rattle.machine_rules.specs.Record.{samePair, startingPair, runningPair}
 use Rattle.machine_rules.specs.Commit.{givenUp, agreedBy}
@@ -15,13 +15,12 @@ use Rattle.machine.proofs.closing.agree_to.Tie as tie
 -- ---- the two pairs, as an agreement has them
 
 abbrev starting : tie.Start → Pair
-starting s = startingPair (s .args .host .sector) (settingOf (s .args .host) (s .args .disk .now))
+starting s = startingPair (settingOf (s .args .host)) (volumeOf (s .args .host) (s .args .disk .now))
 
 abbrev running : tie.Start → Pair
 running s =
     let h = s .args .host in
-    let set = settingOf h (s .args .disk .now) in
-    runningPair (h .sector) set (rootOf (h .sector) set (s .args .stage .now) (h .stageroots)) (h .program .progress)
+    runningPair (settingOf h) (rootOf (settingOf h) (volumeOf h (s .args .disk .now)) (s .args .stage .now) (h .stageroots)) (h .program .progress)
 
 abbrev start : tie.After-starting-pair → tie.Start
 start c = c .before .before .before

@@ -11,55 +11,51 @@ use Rattle.machine.proofs.Laws.Hosts.{input-long, accepted-is, declared
 use Rattle.machine.proofs.piecing.accept.Statement.{statement}
 use Rattle.machine.proofs.piecing.accept.Tie as tie
 
+-- ---- the places
+
+abbrev start : tie.After-setting-of → tie.Start
+start c = let at-known = c .before .before .before in at-known .before .before .before
+
+abbrev at-setting : tie.After-copy-between → tie.After-setting-of
+at-setting c = c .before .before .before .before
+
+abbrev at-copied : tie.After-diskroots2 → tie.After-copy-between
+at-copied c = let at-known = c .before .before .before in at-known .before .before
+
+abbrev at-lent : tie.After-run → tie.After-diskroots2
+at-lent c = let at-stageroots = c .before .before .before in at-stageroots .before .before
+
+-- ---- the needs
+
 copy-between-requires : tie.Need-copy-between-requires
 copy-between-requires c κs =
-    let at-terms = c .before .before .before in let at-program = at-terms .before in let at-slice-known2 = at-program .before .before .before in
-    let start = at-slice-known2 .before .before .before in
-    (omega arith, omega (arith, start .pre .fits, input-long (start .args .host) _ (start .pre .inputs)))
+    let s = start (c .before .before .before) in
+    (omega arith, omega (arith, s .pre .fits, input-long (s .args .host) _ (s .pre .inputs)))
 
 add-k : tie.Need-add-k
 add-k c =
-    let at-copy-between = c .before .before in let at-places = at-copy-between .before .before .before in
-    let at-program = at-places .before .before in let at-slice-known2 = at-program .before .before .before in
-    let start = at-slice-known2 .before .before .before in
-    omega (arith, start .pre .fits, declared-most (start .args .host) (start .pre .ready .order) (start .pre .ready .live))
-
-slice-aggregate-run : tie.Need-slice-aggregate-run
-slice-aggregate-run c =
-    let at-diskroots = c .before .before in let at-copy-between = at-diskroots .before .before .before in
-    let at-places = at-copy-between .before .before .before in let at-program = at-places .before .before in
-    let at-slice-known2 = at-program .before .before .before in let s = at-slice-known2 .before .before .before in
-    sym (disk-rooted (s .args .host) _ (s .good .0))
-
-slice-aggregate-run-2 : tie.Need-slice-aggregate-run-2
-slice-aggregate-run-2 c =
-    let at-stageroots = c .before .before .before in let at-input = at-stageroots .before .before .before in
-    let at-start = at-input .before .before .before in let at-program = at-start .before .before .before in
-    let at-slice-known2 = at-program .before .before .before in let s = at-slice-known2 .before .before .before in
-    sym (stage-rooted (s .args .host) _ (s .good .0))
+    let s = start (at-setting (c .before .before)) in
+    omega (arith, s .pre .fits, declared-most (s .args .host) (s .pre .ready .order) (s .pre .ready .live))
 
 run-requires : tie.Need-run-requires
 unfolding volumeBy turnOf
 run-requires c κs =
-    let at-stageroots2 = c .before .before in let at-stageroots = at-stageroots2 .before .before .before in
-    let at-input = at-stageroots .before .before .before in let came = at-input .before in let at-places = came .before .before .before in
-    let at-program = at-places .before .before in let at-slice-known2 = at-program .before .before .before in
-    let s = at-slice-known2 .before .before .before in
+    let at-stageroots = c .before .before in let came = at-copied (at-stageroots .before .before) in let set = at-setting came in
+    let s = start set in
     let h = s .args .host in
-    turns-right h _ _ _ _ (hosted h _ (s .good .0)) (disk-rooted h _ (s .good .0)) (stage-rooted h _ (s .good .0)) (s .pre .ready)
+    turns-right h _ _ _ _ (set .setting-of .ensures) (hosted h _ (s .good .0)) (disk-rooted h _ (s .good .0)) (stage-rooted h _ (s .good .0)) (s .pre .ready)
     (ap length (came .copy-between .ensures) ∙ length-put _ _ _ ∙ input-long h _ (s .pre .inputs)) (s .pre .outputs)
 
 returns : tie.Need-returns
 unfolding volumeBy turnOf withRun withStageRoots withProgram withProgress withCame
 returns c =
-    let at-stage = c .before .before .before in let done = at-stage .before .before in let at-stageroots2 = done .before .before .before in
-    let at-stageroots = at-stageroots2 .before .before .before in let at-input = at-stageroots .before .before .before in
-    let came = at-input .before in let at-places = came .before .before .before in let at-program = at-places .before .before in
-    let at-slice-known2 = at-program .before .before .before in let start-2 = at-slice-known2 .before .before .before in
-    let a = start-2 .args in
-    accepted-is _ (a .host) _ _ _ _ (came .copy-between .ensures ∙ ap (put _ _) (part-whole _ _ refl)) refl (done .run .ensures)
+    let at-stage = c .before .before .before in let done = at-stage .before .before in
+    let came = at-copied (at-lent done) in let set = at-setting came in
+    accepted-is _ (start set .args .host) _ _ _ _ (set .setting-of .ensures) (came .copy-between .ensures ∙ ap (put _ _) (part-whole _ _ refl)) refl (done .run .ensures)
 
 pub accept-spec : {M : Type 1} → statement M
 accept-spec =
-    tie.close (tie.spec copy-between-requires add-k slice-aggregate-run slice-aggregate-run-2 run-requires (λ c. search needs)
-    (λ c. search needs) (λ c. search needs) returns)
+    tie.close (tie.spec (λ c κs. search needs) copy-between-requires add-k
+    (λ c. let s = start (at-setting (at-copied c)) in sym (disk-rooted (s .args .host) _ (s .good .0)))
+    (λ c. let s = start (at-setting (at-copied (c .before .before))) in sym (stage-rooted (s .args .host) _ (s .good .0)))
+    run-requires (λ c. search needs) (λ c. search needs) (λ c. search needs) returns)
