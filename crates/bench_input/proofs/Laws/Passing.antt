@@ -1,8 +1,8 @@
 -- The reader passes the sections of an input. Where a section is there, what is kept of it stands behind what stood, and the next begins; where
 -- bytes of it are missing, the reader stays in it, and holds nothing. Assumes nothing.
-use Rattle.lists.proofs.Kit.{_≡_, refl, sym, ap, ap₂, _∙_, false, List, [], _∷_, _++_, append-assoc, append-nil, ℕ, zero, suc, _+_, _-_, _*_, _≤_}
-use Rattle.lists.proofs.Kit.{_<_, min, arith, length, take, drop, length-take, length-drop, take-append-drop, take-nil, take-all, take-take, take-add}
-use Rattle.lists.proofs.Kit.{drop-drop, length-take-le, leb, ltb, ltb-true, ltb-false, leb-true, leb-false, ne-eqb}
+use Rattle.lists.proofs.Kit.{_≡_, refl, sym, ap, _∙_, false, List, [], _∷_, _++_, append-assoc, append-nil, ℕ, zero, suc, _+_, _-_, _*_, _≤_, _<_}
+use Rattle.lists.proofs.Kit.{min, arith, length, take, drop, length-drop, take-append-drop, take-nil, drop-drop, length-take-le, ltb, ltb-true}
+use Rattle.lists.proofs.Kit.{ltb-false, ne-eqb}
 use Rattle.lists.proofs.Laws.Pick.{by, picks, skips}
 use Rattle.area.specs.Area.{part}
 use Rattle.bench_input.specs.Reader.{State, reader, idsFrom, dataFrom, headFrom, fed, laid, inData, held, holds}
@@ -23,18 +23,12 @@ unfolding part
 fed-part s all at n = fed-cut s n (drop at all) ∙ ap (fed (fed s (take n (drop at all)))) (drop-drop n at all)
 
 take-cut : (m n : ℕ) (l : List ℕ) → take m (take n l) ++ take (m - n) (drop n l) ≡ take m l
-take-cut m n l =
-    by (leb m n)
-    (λ u.
-    let h : m ≤ n = leb-true m n u in
-    let z : m - n ≡ 0 = omega arith in
-    ap₂ (λ (x : List ℕ) (j : ℕ). x ++ take j (drop n l)) (take-take m n l h) z ∙ append-nil (take m l))
-    (λ u.
-    let h : n < m = leb-false m n u in
-    let e : n + (m - n) ≡ m = omega arith in
-    ap (λ (x : List ℕ). x ++ take (m - n) (drop n l)) (take-all m (take n l) (omega (arith, length-take n l)))
-    ∙ sym (take-add n (m - n) l)
-    ∙ ap (λ (j : ℕ). take j l) e)
+take-cut zero n l = let e : 0 - n ≡ 0 = omega arith in ap (λ (j : ℕ). take j (drop n l)) e
+take-cut (suc m) zero l = let e : suc m - 0 ≡ suc m = omega arith in ap (λ (j : ℕ). take j l) e
+take-cut (suc m) (suc n) [] = take-nil (suc m - suc n)
+take-cut (suc m) (suc n) (x ∷ l) =
+    let e : suc m - suc n ≡ m - n = omega arith in
+    ap (λ (r : List ℕ). x ∷ r) (ap (λ (j : ℕ). take m (take n l) ++ take j (drop n l)) e ∙ take-cut m n l)
 
 -- ---- a section from which bytes are missing: nothing is held
 

@@ -106,7 +106,9 @@ module _ (all : List ℕ) (front : 80 ≤ length all) (whole : cutShort all ≡ 
 
   pub data-kept : dataBytes (kept all) ≡ dataKept all
   unfolding dataBytes
-  data-kept = ap (λ (k : ℕ). drop k (kept all)) head-end-kept ∙ drop-on (kept all) (80 + idsKept all * 32 + 8) (part all (idsEnd all + 8) (headKept all)) _ from-head _ long-head
+  data-kept =
+      ap (λ (k : ℕ). drop k (kept all)) head-end-kept
+      ∙ drop-on (kept all) (80 + idsKept all * 32 + 8) (part all (idsEnd all + 8) (headKept all)) _ from-head _ long-head
 
   -- ---- nothing is missing from it either, and its prices are the same
 
