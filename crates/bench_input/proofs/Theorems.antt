@@ -14,8 +14,8 @@ use Rattle.bench_input.specs.Kept.{idsKept, headKept, dataKept, kept, mi
 use Rattle.bench_input.proofs.Laws.Forms.{first-ids, fresh-free}
 use Rattle.bench_input.proofs.Laws.Heads.{first-bytes}
 use Rattle.bench_input.proofs.Laws.Pieces.{run-alike}
-use Rattle.bench_input.proofs.Laws.Sections.{ids-first, part-least, ids-there, ids-kept, head-kept, data-kept}
-use Rattle.bench_input.proofs.Laws.Sections.{prices-kept, budget-kept, wrong-kept, kept-short}
+use Rattle.bench_input.proofs.Laws.Least.{ids-first, part-least, kept-short}
+use Rattle.bench_input.proofs.Laws.Sections.{ids-there, ids-kept, head-kept, data-kept, prices-kept, budget-kept, wrong-kept}
 use Rattle.bench_input.proofs.Laws.Missing.{missing-wrong, whole-front, whole-ahead, none-wrong}
 use Rattle.bench_input.proofs.Laws.Feeding.{fed-append, fed-whole, full-fed}
 use Rattle.bench_input.proofs.Laws.Reading.{holds-keep}

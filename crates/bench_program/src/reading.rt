@@ -1,7 +1,7 @@
 // The whole input in its bytes: price count, prices, budget, contract count, ids, head length, head, data.
 ghost use mathlib.Core.Path.{_≡_};
 ghost use mathlib.Core.Bool.{false};
-ghost use Prim.Native.Nat.{_+_, _≤_};
+ghost use Prim.Native.Nat.{_+_, _*_, _≤_, _<_};
 ghost use lib.ListN.{length};
 ghost use Rattle.bench_program.specs.Input as Says;
 ghost use Rattle.bench_program.specs.Input.{numberAt, pricesRight, cutShort, idsEnd, headEnd, pricesIn};
@@ -57,13 +57,13 @@ pub fn wrong(all: &[u8]) -> bool
     cut_short(all)
 }
 
-// A price that does not pass 65,535.
-fn price(all: &[u8], at: usize) -> u16
-    requires { ⌜ at + 8 ≤ length (now all) ⌝ }
-    requires { ⌜ numberAt (now all) at ≤ 65535 ⌝ }
-    ensures { λ r. ⌜ r ≡ numberAt (now (all .entry)) at ⌝ }
+// Price i of an input that is not refused with 9: it does not pass 65,535.
+fn price(all: &[u8], i: usize) -> u16
+    requires { ⌜ Says.wrong (now all) ≡ false ⌝ }
+    requires { ⌜ i < 7 ⌝ }
+    ensures { λ r. ⌜ r ≡ numberAt (now (all .entry)) (8 + i * 8) ⌝ }
 {
-    area::load(all, at) as u16
+    area::load(all, 8 + i * 8) as u16
 }
 
 // The seven prices.
@@ -72,13 +72,13 @@ pub fn prices(all: &[u8]) -> Prices
     ensures { λ r. ⌜ r ≡ pricesIn (now (all .entry)) ⌝ }
 {
     Prices {
-        init: price(all, 8),
-        memory: price(all, 16),
-        readbase: price(all, 24),
-        readlength: price(all, 32),
-        writebase: price(all, 40),
-        writelength: price(all, 48),
-        truncatebase: price(all, 56),
+        init: price(all, 0),
+        memory: price(all, 1),
+        readbase: price(all, 2),
+        readlength: price(all, 3),
+        writebase: price(all, 4),
+        writelength: price(all, 5),
+        truncatebase: price(all, 6),
     }
 }
 

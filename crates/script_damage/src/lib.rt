@@ -1,5 +1,7 @@
 // A number put into the host's record, to damage it. What does not fit is malformed; an index or a value that passed `fits` is within its
 // array or its width, and elsewhere the functions below leave the record as it is. Rests on `host`.
+ghost use mathlib.Core.Path.{_≡_};
+ghost use Prim.Native.Nat.{_%_};
 use host::Host;
 use host::Place;
 use host::Prices;
@@ -64,7 +66,9 @@ fn low8(n: u64) -> u8 {
     (n % 256) as u8
 }
 
-pub fn low16(n: u64) -> u16 {
+pub fn low16(n: u64) -> u16
+    ensures { λ r. ⌜ r ≡ n % 65536 ⌝ }
+{
     (n % 65_536) as u16
 }
 

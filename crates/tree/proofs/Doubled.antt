@@ -9,7 +9,8 @@ use Rattle.tree.specs.Tree.{leaf, node, leafOf, root}
 use Rattle.tree.specs.Zeros.{doubled}
 use Rattle.tree.proofs.Laws.Sides.{split}
 use Rattle.tree.proofs.Laws.Zeros.{part-zeros}
-use Rattle.tree.proofs.Theorems.{small, rfc-leaf, rfc-6962}
+use Rattle.tree.proofs.Laws.Joined.{small}
+use Rattle.tree.proofs.Theorems.{rfc-leaf, rfc-6962}
 
 pub zeros-doubled : (k : ℕ) → k ≤ 64 → root (zeros (64 * 2 ^ k)) ≡ doubled k
 unfolding doubled

@@ -1,87 +1,27 @@
 -- The sections of what is kept of an input. Assumes nothing.
-use Rattle.lists.proofs.Kit.{_≡_, refl, sym, ap, ap₂, _∙_, false, not, List, _++_, ℕ, _+_, _*_, _/_, _≤_, _<_, min, mul-div-cancel, arith, length, take}
-use Rattle.lists.proofs.Kit.{drop, length-append, length-take, take-all, take-take, take-at, drop-append-le, take-append-le, drop-append-add}
-use Rattle.lists.proofs.Kit.{length-take-le, leb, ltb, eqb, leb-true, leb-false, ltb-false, le-ltb}
+use Rattle.lists.proofs.Kit.{_≡_, sym, ap, ap₂, _∙_, false, not, List, _++_, ℕ, _+_, _*_, _≤_, arith, length, take, drop, drop-drop, take-at, drop-at}
+use Rattle.lists.proofs.Kit.{length-take-le, leb, ltb, eqb, ltb-false, le-ltb}
 use Rattle.lists.specs.Pick.{either}
 use Rattle.lists.specs.Tests.{every}
-use Rattle.lists.specs.Tab.{tab}
-use Rattle.lists.proofs.Laws.Pick.{by, skips, either-left, either-right, either-join}
-use Rattle.lists.proofs.Laws.Tab.{length-tab, take-tab, tab-alike}
+use Rattle.lists.proofs.Laws.Pick.{skips, either-left, either-right, either-join}
+use Rattle.lists.proofs.Laws.Tab.{tab-alike}
 use Rattle.area.specs.Area.{part}
 use Rattle.area.specs.Little.{valueOf, le8}
 use Rattle.area.proofs.Laws.Parts.{length-part, part-part}
 use Rattle.area.proofs.Laws.Little.{length-bytes, value-bytes}
-use Rattle.bench_program.specs.Single.{idsIn}
 use Rattle.bench_program.specs.Input.{numberAt, pricesIn, budgetIn, idsEnd, headEnd, idsBytes, headBytes, dataBytes, pricesRight, cutShort, wrong}
 use Rattle.bench_input.specs.Kept.{idsKept, headKept, dataKept, kept}
+use Rattle.bench_input.proofs.Laws.Least.{few-ids, few-bytes, length-six}
 
--- ---- parts of lists that are joined
+-- ---- a list of which a and b are left from a place on
 
-part-first : (a b : List ℕ) (at n : ℕ) → at + n ≤ length a → part (a ++ b) at n ≡ part a at n
-unfolding part
-part-first a b at n h = ap (take n) (drop-append-le at a b (omega arith)) ∙ take-append-le n (drop at a) b
-    (omega (arith, length-part a at n h, length-take n (drop at a)))
+module _ (l : List ℕ) (at : ℕ) (a b : List ℕ) (e : drop at l ≡ a ++ b) (n : ℕ) (long : length a ≡ n) where
+  part-here : part l at n ≡ a
+  unfolding part
+  part-here = ap (take n) e ∙ take-at a b n long
 
-pub part-next : (a b : List ℕ) (k at n : ℕ) {j : ℕ} → length a ≡ k → j ≡ k + at → part (a ++ b) j n ≡ part b at n
-unfolding part
-part-next a b k at n {j} e q = ap (λ (m : ℕ). take n (drop m (a ++ b))) (q ∙ ap (λ (m : ℕ). m + at) (sym e)) ∙ ap (take n) (drop-append-add a b at)
-
-part-here : (a b : List ℕ) (n : ℕ) → length a ≡ n → part (a ++ b) 0 n ≡ a
-unfolding part
-part-here a b n e = take-at a b n e
-
-drop-next : (a b : List ℕ) (k at : ℕ) {j : ℕ} → length a ≡ k → j ≡ k + at → drop j (a ++ b) ≡ drop at b
-drop-next a b k at {j} e q = ap (λ (m : ℕ). drop m (a ++ b)) (q ∙ ap (λ (m : ℕ). m + at) (sym e)) ∙ drop-append-add a b at
-
-length-six : (a b c d e f : List ℕ) → length (a ++ (b ++ (c ++ (d ++ (e ++ f))))) ≡ length a + (length b + (length c + (length d + (length e + length f))))
-length-six a b c d e f = simp length-append
-
--- ---- ids and head, cut
-
--- so many ids from 80 on
-ids-tab : (all : List ℕ) (k : ℕ) → 80 + k * 32 ≤ length all → idsIn (part all 80 (k * 32)) ≡ tab 0 k (λ j. part all (80 + j * 32) 32)
-unfolding idsIn
-ids-tab all k h =
-    let n : length (part all 80 (k * 32)) / 32 ≡ k = ap (λ (m : ℕ). m / 32) (length-part all 80 (k * 32) h) ∙ mul-div-cancel k {n = 32} (omega arith) in
-    ap (λ (m : ℕ). tab 0 m (λ j. part (part all 80 (k * 32)) (j * 32) 32)) n
-    ∙ tab-alike (λ j. part (part all 80 (k * 32)) (j * 32) 32) (λ j. part all (80 + j * 32) 32) 0 k (λ j g. part-part all 80 (k * 32) (j * 32) 32 (omega arith))
-
--- the first nine
-pub ids-first : (all : List ℕ) (c : ℕ) → 80 + c * 32 ≤ length all → take 9 (idsIn (part all 80 (c * 32))) ≡ idsIn (part all 80 (min c 9 * 32))
-ids-first all c h =
-    by (leb c 9)
-    (λ u.
-    let few : c ≤ 9 = leb-true c 9 u in
-    let m : c ≡ min c 9 = omega arith in
-    take-all 9 _ (omega (arith, few, ap length (ids-tab all c h), length-tab 0 c (λ j. part all (80 + j * 32) 32)))
-    ∙ ap (λ (k : ℕ). idsIn (part all 80 (k * 32))) m)
-    (λ u.
-    let many : 9 < c = leb-false c 9 u in
-    let m : 9 ≡ min c 9 = omega arith in
-    ap (take 9) (ids-tab all c h) ∙ take-tab (λ j. part all (80 + j * 32) 32) 9 0 c (omega arith)
-    ∙ sym (ids-tab all 9 (omega arith)) ∙ ap (λ (k : ℕ). idsIn (part all 80 (k * 32))) m)
-
-pub part-least : (all : List ℕ) (at n k : ℕ) → part all at (min n k) ≡ take k (part all at n)
-unfolding part
-part-least all at n k =
-    by (leb n k)
-    (λ u. let m : min n k ≡ n = omega (arith, leb-true n k u) in ap (λ (j : ℕ). take j (drop at all)) m
-    ∙ sym (take-all k (take n (drop at all)) (omega (arith, leb-true n k u, length-take n (drop at all)))))
-    (λ u. let m : min n k ≡ k = omega (arith, leb-false n k u) in ap (λ (j : ℕ). take j (drop at all)) m
-    ∙ sym (take-take k n (drop at all) (omega (arith, leb-false n k u))))
-
--- how much is kept at most
-few-ids : (all : List ℕ) → idsKept all ≤ 9
-unfolding idsKept
-few-ids all = omega arith
-
-few-bytes : (all : List ℕ) → headKept all ≤ 2897
-unfolding headKept
-few-bytes all = omega arith
-
-few-data : (all : List ℕ) → length (dataKept all) ≤ 65537
-unfolding dataKept
-few-data all = simp length-take (omega arith)
+  drop-on : drop (at + n) l ≡ b
+  drop-on = sym (drop-drop n at l) ∙ ap (drop n) e ∙ drop-at a b n long
 
 -- a number in the front part of an input
 pub number-front : (all : List ℕ) (k at : ℕ) → at + 8 ≤ k → numberAt (take k all) at ≡ numberAt all at
@@ -115,66 +55,60 @@ module _ (all : List ℕ) (front : 80 ≤ length all) (whole : cutShort all ≡ 
   long-head : length (part all (idsEnd all + 8) (headKept all)) ≡ headKept all
   unfolding headKept
   long-head = length-part all (idsEnd all + 8) (headKept all) (let h = head-end in omega (arith, h))
-
-  -- ---- found again in what is kept
+      -- ---- found again in what is kept
 
   number-same : (at : ℕ) → at + 8 ≤ 72 → numberAt (kept all) at ≡ numberAt all at
-  unfolding numberAt kept
-  number-same at h = ap valueOf (part-first (take 72 all) _ at 8 (let l = long-front in omega (arith, l))) ∙ number-front all 72 at h
+  unfolding kept
+  number-same at h = sym (number-front (kept all) 72 at h) ∙ ap (λ (l : List ℕ). numberAt l at) (take-at (take 72 all) _ 72 long-front)
+      ∙ number-front all 72 at h
+
+  -- what is left from each section on
+  from-count : drop 72 (kept all) ≡ le8 (idsKept all) ++ (part all 80 (idsKept all * 32)
+      ++ (le8 (headKept all) ++ (part all (idsEnd all + 8) (headKept all) ++ dataKept all)))
+  unfolding kept
+  from-count = drop-at (take 72 all) _ 72 long-front
+
+  from-ids : drop 80 (kept all) ≡ part all 80 (idsKept all * 32) ++ (le8 (headKept all) ++ (part all (idsEnd all + 8) (headKept all) ++ dataKept all))
+  from-ids = drop-on (kept all) 72 (le8 (idsKept all)) _ from-count 8 (length-bytes 8 (idsKept all))
+
+  from-length : drop (80 + idsKept all * 32) (kept all) ≡ le8 (headKept all) ++ (part all (idsEnd all + 8) (headKept all) ++ dataKept all)
+  from-length = drop-on (kept all) 80 (part all 80 (idsKept all * 32)) _ from-ids (idsKept all * 32) long-ids
+
+  from-head : drop (80 + idsKept all * 32 + 8) (kept all) ≡ part all (idsEnd all + 8) (headKept all) ++ dataKept all
+  from-head = drop-on (kept all) (80 + idsKept all * 32) (le8 (headKept all)) _ from-length 8 (length-bytes 8 (headKept all))
 
   count-kept : numberAt (kept all) 72 ≡ idsKept all
-  unfolding numberAt kept
-  count-kept =
-      ap valueOf (part-next (take 72 all) _ 72 0 8 long-front (omega arith) ∙ part-here (le8 (idsKept all)) _ 8 (length-bytes 8 (idsKept all)))
-      ∙ value-bytes 8 (idsKept all) (omega (arith, few-ids all))
+  unfolding numberAt
+  count-kept = ap valueOf (part-here (kept all) 72 _ _ from-count 8 (length-bytes 8 (idsKept all))) ∙ value-bytes 8 (idsKept all) (omega (arith, few-ids all))
 
   ids-end-kept : idsEnd (kept all) ≡ 80 + idsKept all * 32
   unfolding idsEnd
   ids-end-kept = ap (λ (n : ℕ). 80 + n * 32) count-kept
 
   pub ids-kept : idsBytes (kept all) ≡ part all 80 (idsKept all * 32)
-  unfolding idsBytes kept
-  ids-kept =
-      ap (λ (n : ℕ). part (kept all) 80 (n * 32)) count-kept
-      ∙ part-next (take 72 all) _ 72 8 _ long-front (omega arith)
-      ∙ part-next (le8 (idsKept all)) _ 8 0 _ (length-bytes 8 (idsKept all)) (omega arith)
-      ∙ part-here (part all 80 (idsKept all * 32)) _ _ long-ids
+  unfolding idsBytes
+  ids-kept = ap (λ (n : ℕ). part (kept all) 80 (n * 32)) count-kept ∙ part-here (kept all) 80 _ _ from-ids _ long-ids
 
   length-kept : numberAt (kept all) (idsEnd (kept all)) ≡ headKept all
-  unfolding numberAt kept
+  unfolding numberAt
   length-kept =
       ap (numberAt (kept all)) ids-end-kept
-      ∙ ap valueOf
-      (part-next (take 72 all) _ 72 (8 + idsKept all * 32) 8 long-front (omega arith)
-      ∙ part-next (le8 (idsKept all)) _ 8 (idsKept all * 32) 8 (length-bytes 8 (idsKept all)) refl
-      ∙ part-next (part all 80 (idsKept all * 32)) _ (idsKept all * 32) 0 8 long-ids (omega arith)
-      ∙ part-here (le8 (headKept all)) _ 8 (length-bytes 8 (headKept all)))
+      ∙ ap valueOf (part-here (kept all) (80 + idsKept all * 32) _ _ from-length 8 (length-bytes 8 (headKept all)))
       ∙ value-bytes 8 (headKept all) (omega (arith, few-bytes all))
 
   pub head-kept : headBytes (kept all) ≡ part all (idsEnd all + 8) (headKept all)
-  unfolding headBytes kept
-  head-kept =
-      ap₂ (λ (k n : ℕ). part (kept all) (k + 8) n) ids-end-kept length-kept
-      ∙ part-next (take 72 all) _ 72 (8 + (idsKept all * 32 + 8)) _ long-front (omega arith)
-      ∙ part-next (le8 (idsKept all)) _ 8 (idsKept all * 32 + 8) _ (length-bytes 8 (idsKept all)) refl
-      ∙ part-next (part all 80 (idsKept all * 32)) _ (idsKept all * 32) 8 _ long-ids refl
-      ∙ part-next (le8 (headKept all)) _ 8 0 _ (length-bytes 8 (headKept all)) (omega arith)
-      ∙ part-here (part all (idsEnd all + 8) (headKept all)) _ _ long-head
+  unfolding headBytes
+  head-kept = ap₂ (λ (k n : ℕ). part (kept all) (k + 8) n) ids-end-kept length-kept ∙ part-here (kept all) (80 + idsKept all * 32 + 8) _ _ from-head _ long-head
 
   head-end-kept : headEnd (kept all) ≡ 80 + idsKept all * 32 + 8 + headKept all
   unfolding headEnd
   head-end-kept = ap₂ (λ (k n : ℕ). k + 8 + n) ids-end-kept length-kept
 
   pub data-kept : dataBytes (kept all) ≡ dataKept all
-  unfolding dataBytes kept
+  unfolding dataBytes
   data-kept =
       ap (λ (k : ℕ). drop k (kept all)) head-end-kept
-      ∙ drop-next (take 72 all) _ 72 (8 + (idsKept all * 32 + (8 + headKept all))) {j = 80 + idsKept all * 32 + 8 + headKept all} long-front (omega arith)
-      ∙ drop-next (le8 (idsKept all)) _ 8 (idsKept all * 32 + (8 + headKept all)) {j = 8 + (idsKept all * 32 + (8 + headKept all))}
-      (length-bytes 8 (idsKept all)) refl
-      ∙ drop-next (part all 80 (idsKept all * 32)) _ (idsKept all * 32) (8 + headKept all) {j = idsKept all * 32 + (8 + headKept all)} long-ids refl
-      ∙ drop-next (le8 (headKept all)) _ 8 (headKept all) {j = 8 + headKept all} (length-bytes 8 (headKept all)) refl
-      ∙ drop-next (part all (idsEnd all + 8) (headKept all)) _ (headKept all) 0 {j = headKept all} long-head (omega arith)
+      ∙ drop-on (kept all) (80 + idsKept all * 32 + 8) (part all (idsEnd all + 8) (headKept all)) _ from-head _ long-head
 
   -- ---- nothing is missing from it either, and its prices are the same
 
@@ -233,18 +167,3 @@ module _ (all : List ℕ) (front : 80 ≤ length all) (whole : cutShort all ≡ 
       skips (ltb (length (kept all)) 80) _ _ (le-ltb (length (kept all)) 80 (omega (arith, l, e)))
       ∙ (λ j. either (not (eqb (number-same 0 (omega arith) j) 7)) (either (not (right-kept j)) (cut j)))
       ∙ sym (skips (ltb (length all) 80) _ _ (le-ltb (length all) 80 front))
-
--- how long it is at most
-at-most : (n : ℕ) (l : List ℕ) → length (take n l) ≤ n
-at-most n l = omega (arith, length-take n l)
-
-pub kept-short : (all : List ℕ) → length (kept all) ≤ 68810
-unfolding kept part
-kept-short all =
-    below (length-six (take 72 all) (le8 (idsKept all)) (part all 80 (idsKept all * 32)) (le8 (headKept all))
-    (part all (idsEnd all + 8) (headKept all)) (dataKept all))
-    (at-most 72 all) (length-bytes 8 (idsKept all)) (at-most (idsKept all * 32) (drop 80 all)) (length-bytes 8 (headKept all))
-    (at-most (headKept all) (drop (idsEnd all + 8) all)) (few-data all) (few-ids all) (few-bytes all) where
-      below : {l a b c d e f i m : ℕ} → l ≡ a + (b + (c + (d + (e + f)))) → a ≤ 72 → b ≡ 8 → c ≤ i * 32 → d ≡ 8 → e ≤ m → f ≤ 65537 → i ≤ 9 → m ≤ 2897
-          → l ≤ 68810
-      below p q r s t u v w x = omega arith

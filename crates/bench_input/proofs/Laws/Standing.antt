@@ -1,10 +1,9 @@
 -- What stands in the area of a reader: bytes of a section, a number lowered behind it. Assumes nothing.
 use Rattle.lists.proofs.Kit.{_≡_, refl, sym, ap, ap₂, _∙_, List, _++_, ℕ, _+_, _-_, _*_, _≤_, _<_, min, arith, length, take, length-append, length-take}
-use Rattle.lists.proofs.Kit.{take-at, take-take, length-take-le, leb, ltb, le-ltb, leb-true, leb-false}
+use Rattle.lists.proofs.Kit.{take-at, drop-at, take-all, take-take, length-take-le, leb, ltb, le-ltb, leb-true, leb-false}
 use Rattle.lists.proofs.Laws.Pick.{by, picks, skips}
 use Rattle.area.specs.Area.{part, put}
 use Rattle.area.specs.Little.{valueOf, bytesOf, le8, Bytes}
-use Rattle.area.proofs.Laws.Parts.{part-whole}
 use Rattle.area.proofs.Laws.Puts.{length-put, take-put}
 use Rattle.area.proofs.Laws.Little.{length-bytes, bytes-value}
 use Rattle.bench_program.specs.Input.{numberAt}
@@ -12,7 +11,7 @@ use Rattle.bench_input.specs.Reader.{State, state, reader, idsFrom, data
 use Rattle.bench_input.specs.declared.Section.{Section}
 use Rattle.bench_input.specs.declared.Section.the-variants.{Front, Ids, Length, Head}
 use Rattle.bench_input.specs.declared.Reader.{Reader}
-use Rattle.bench_input.proofs.Laws.Sections.{part-next, number-front}
+use Rattle.bench_input.proofs.Laws.Sections.{number-front}
 use Rattle.bench_input.proofs.Laws.Feeding.{ends}
 
 -- the reader is r, and its a bytes in the area are k
@@ -78,14 +77,14 @@ module _ (area : List ℕ) (a : ℕ) (k number : List ℕ) (front : take a area 
   place = omega (arith, length-take-le a area long, ap length front, length-append k number)
 
   pub number-stands : numberTo area a ≡ valueOf number
-  unfolding numberTo numberAt
+  unfolding numberTo numberAt part
   number-stands =
       let p = place in
       skips (ltb a 8) _ _ (le-ltb a 8 (omega arith))
       ∙ skips (ltb (length area) a) _ _ (le-ltb (length area) a long)
       ∙ sym (number-front area a (a - 8) (omega arith))
       ∙ ap valueOf
-      (ap (λ (z : List ℕ). part z (a - 8) 8) front ∙ part-next k number (length k) 0 8 refl (omega arith) ∙ part-whole number 8 (sym eight))
+      (ap (λ (z : List ℕ). part z (a - 8) 8) front ∙ ap (take 8) (drop-at k number (a - 8) (omega arith)) ∙ take-all 8 number (omega arith))
 
   module _ (most : ℕ) where
     -- as it is, or lowered

@@ -42,6 +42,17 @@ right all e =
       ends = ltb-false _ _ (either-right _ _ fourth);
     }
 
+-- where ids and head of such an input end
+pub record Within (all : List ℕ) (ids head : ℕ) : Type 0 where
+  pub past : 80 ≤ ids
+  pub sized : ids + 8 ≤ head
+  pub ends : head ≤ length all
+
+pub within : (all : List ℕ) {ids head : ℕ} → wrong all ≡ false → ids ≡ idsEnd all → head ≡ headEnd all → Within all ids head
+within all e g h =
+    let r = right all e in
+    record { past = omega (arith, r .past); sized = omega (arith, r .sized); ends = omega (arith, r .ends) }
+
 pub price-within : (all : List ℕ) (i : ℕ) → pricesRight all ≡ true → i < 7 → numberAt all (8 + i * 8) ≤ 65535
 unfolding pricesRight
 price-within all i e h =

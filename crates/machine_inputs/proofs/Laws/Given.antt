@@ -1,16 +1,18 @@
--- What the decoders tell, and the inputs of an instruction by its operands. Assumes nothing.
-use Rattle.lists.proofs.Kit.{_≡_, refl, sym, ap, _∙_, true, false, List, [], _∷_, ℕ, _+_, _-_, _≤_, _<_, arith, length, take, drop, getD, length-drop}
-use Rattle.lists.proofs.Kit.{length-take-le, take-all, not-false, ltb-false, leb-true, le-leb, eq-eqb, ne-eqb, eqb-true}
+-- The inputs of an instruction by its operands, and what the decoder tells of all of them. Assumes nothing.
+use Rattle.lists.proofs.Kit.{_≡_, refl, sym, ap, _∙_, true, false, List, [], _∷_, _++_, ℕ, zero, suc, _+_, _-_, _≤_, _<_, arith, length, take, drop, getD}
+use Rattle.lists.proofs.Kit.{length-drop, take-all, take-suc, not-false, ltb-false, eqb-true}
 use Rattle.lists.specs.Tests.{some, each}
-use Rattle.lists.proofs.Laws.Pick.{yes, no, by, picks, skips, both-join, both-left, both-right, both-not-right, either-left, either-right}
+use Rattle.lists.specs.Tab.{tab}
+use Rattle.lists.proofs.Laws.Pick.{yes, no, picks, both-join, both-right, either-left, either-right}
 use Rattle.lists.proofs.Laws.Some.{some-taken}
+use Rattle.lists.proofs.Laws.Tab.{tab-snoc}
+use Rattle.lists.proofs.Laws.Each.{each-both}
 use Rattle.area.specs.Area.{part, zeros}
-use Rattle.area.specs.Little.{valueOf}
 use Rattle.area.proofs.Laws.Parts.{length-part, part-part}
 use Rattle.sia.specs.Names.{opOf}
-use Rattle.sia.specs.Number.{Decoded, decoded, number}
+use Rattle.sia.specs.Number.{decoded, number}
 use Rattle.sia.specs.Empty.{noOperand}
-use Rattle.machine_rules.specs.Inputs.{dataIn, illFormed, pastEnd, inputsOf, nth, isTold, told, isNumber, isKey, isData, wellFormed, readArgs, spanArgs, argsOf}
+use Rattle.machine_rules.specs.Inputs.{dataIn, illFormed, pastEnd, inputsOf, nth, isKey, wellFormed, readArgs, spanArgs, argsOf}
 use Rattle.machine_rules.specs.Kinds.{known, operandsOf, kind}
 use Rattle.sia.specs.declared.Operand.{Operand}
 use Rattle.sia.specs.declared.Instruction.{Instruction}
@@ -18,68 +20,10 @@ use Rattle.sia.specs.declared.Op.{Op}
 use Rattle.sia.specs.declared.Op.the-variants.{Read, ReadSector, Write, Copy, Swap, Truncate}
 use Rattle.machine_inputs.specs.Ends.{endsPast}
 use Rattle.machine_inputs.specs.Given.{inputAt, one, two, three, keyOf, dataOf, malformed, given, dataFrom, fromOf}
+use Rattle.machine_inputs.proofs.Laws.Decoders.{tells-test, key-told, key-bytes, number-told, number-value, data-told, data-value, data-long}
 use Rattle.machine_rules.specs.declared.Args.{Args}
 use Rattle.machine_inputs.specs.declared.Given.{Given}
 use Rattle.machine_inputs.specs.declared.Key.{Key}
-
--- ---- keys
-
-pub key-told : (b : List ℕ) (k : Key) → k ≡ keyOf b → k .told ≡ isKey b
-unfolding keyOf
-key-told b k e = ap (λ (x : Key). x .told) e ∙ by (isKey b)
-    (λ u. ap (λ (x : Key). x .told) (picks _ _ _ u) ∙ sym u)
-    (λ u. ap (λ (x : Key). x .told) (skips _ _ _ u) ∙ sym u)
-
-pub key-bytes : (b : List ℕ) (k : Key) → k ≡ keyOf b → isKey b ≡ true → k .bytes ≡ b
-unfolding keyOf
-key-bytes b k e u = ap (λ (x : Key). x .bytes) (e ∙ picks _ _ _ u)
-
--- ---- numbers
-
-module _ (b : List ℕ) where
-  pub number-refused : number b ≡ decoded 23 0 → isNumber b ≡ false
-  unfolding isNumber isTold
-  number-refused e = ap isTold e
-
-  pub number-told : (n : ℕ) → number b ≡ decoded 0 n → isNumber b ≡ true
-  unfolding isNumber isTold
-  number-told n e = ap isTold e
-
-  pub number-value : (n : ℕ) → number b ≡ decoded 0 n → n ≡ told (number b)
-  unfolding told
-  number-value n e = sym (ap told e)
-
-  -- ---- data
-
-  pub data-refused : dataOf b ≡ decoded 23 0 → isData b ≡ false
-  unfolding dataOf
-  data-refused e = by (isData b) (λ u. absurd (omega (arith, ap (λ (d : Decoded). d .number) (sym (picks (isData b) _ _ u) ∙ e)))) (λ u. u)
-
-  pub data-told : (n : ℕ) → dataOf b ≡ decoded 0 n → isData b ≡ true
-  unfolding dataOf
-  data-told n e = by (isData b) (λ u. u) (λ u. absurd (omega (arith, ap (λ (d : Decoded). d .number) (sym (skips (isData b) _ _ u) ∙ e))))
-
-  pub data-value : (n : ℕ) → dataOf b ≡ decoded 0 n → n ≡ length b - 8
-  unfolding dataOf
-  data-value n e = ap (λ (d : Decoded). d .value) (sym e ∙ picks (isData b) _ _ (data-told n e))
-
-  pub data-long : isData b ≡ true → 8 ≤ length b
-  unfolding isData
-  data-long e = leb-true _ _ (both-left _ _ e)
-
-  module _ (v : ℕ) (long : 8 ≤ length b) (loaded : v ≡ valueOf (part b 0 8)) where
-    count-told : told (number (take 8 b)) ≡ v
-    unfolding told number part
-    count-told = ap told (picks _ _ _ (eq-eqb _ _ (length-take-le 8 b long))) ∙ sym loaded
-
-    -- the count is not the rest's length
-    pub data-other : (v ≡ length b - 8 → ⊥) → decoded 23 0 ≡ dataOf b
-    unfolding dataOf isData
-    data-other n = no _ _ _ (both-not-right _ _ (ne-eqb _ _ (λ q. n (sym count-told ∙ q)))) refl
-
-    pub data-right : v ≡ length b - 8 → decoded 0 (length b - 8) ≡ dataOf b
-    unfolding dataOf isData
-    data-right q = yes _ _ _ (both-join _ _ (le-leb _ _ long) (eq-eqb _ _ (count-told ∙ q))) refl
 
 -- ---- all inputs
 
@@ -156,36 +100,18 @@ module _ (area : List ℕ) where
   abbrev input : Operand → List ℕ
   input o = part area (o .offset) (o .len)
 
-  first-one : (os : List Operand) → length os ≡ 4 → each input (take 1 os) ≡ one area os
-  unfolding each one
-  first-one [] e = absurd (omega arith)
-  first-one (a ∷ os) e = refl
+  first-inputs : (os : List Operand) (n : ℕ) → n ≤ length os → each input (take n os) ≡ tab 0 n (inputAt area os)
+  unfolding each tab
+  first-inputs os zero h = refl
+  first-inputs os (suc n) h =
+      let e : 0 + n ≡ n = omega arith in
+      ap (each input) (take-suc os n noOperand (omega arith)) ∙ each-both input (take n os) (getD os n noOperand ∷ [])
+      ∙ ap (λ (l : List (List ℕ)). l ++ (inputAt area os n ∷ [])) (first-inputs os n (omega arith))
+      ∙ sym (tab-snoc 0 n (inputAt area os) ∙ ap (λ (k : ℕ). tab 0 n (inputAt area os) ++ (inputAt area os k ∷ [])) e)
 
-  first-two : (os : List Operand) → length os ≡ 4 → each input (take 2 os) ≡ two area os
-  unfolding each two
-  first-two [] e = absurd (omega arith)
-  first-two (a ∷ []) e = absurd (omega arith)
-  first-two (a ∷ b ∷ os) e = refl
-
-  first-three : (os : List Operand) → length os ≡ 4 → each input (take 3 os) ≡ three area os
-  unfolding each three
-  first-three [] e = absurd (omega arith)
-  first-three (a ∷ []) e = absurd (omega arith)
-  first-three (a ∷ b ∷ []) e = absurd (omega arith)
-  first-three (a ∷ b ∷ d ∷ os) e = refl
-
-  module _ (i : Instruction) (long : length (i .operands) ≡ 4) where
-    pub inputs-one : i .count ≡ 1 → one area (i .operands) ≡ inputsOf i area
-    unfolding inputsOf
-    inputs-one e = sym (ap (λ (n : ℕ). each input (take n (i .operands))) e ∙ first-one (i .operands) long)
-
-    pub inputs-two : i .count ≡ 2 → two area (i .operands) ≡ inputsOf i area
-    unfolding inputsOf
-    inputs-two e = sym (ap (λ (n : ℕ). each input (take n (i .operands))) e ∙ first-two (i .operands) long)
-
-    pub inputs-three : i .count ≡ 3 → three area (i .operands) ≡ inputsOf i area
-    unfolding inputsOf
-    inputs-three e = sym (ap (λ (n : ℕ). each input (take n (i .operands))) e ∙ first-three (i .operands) long)
+  pub inputs-are : (i : Instruction) {n : ℕ} → length (i .operands) ≡ 4 → i .count ≡ n → n ≤ 4 → tab 0 n (inputAt area (i .operands)) ≡ inputsOf i area
+  unfolding inputsOf
+  inputs-are i {n} long e h = sym (ap (λ (k : ℕ). each input (take k (i .operands))) e ∙ first-inputs (i .operands) n (omega arith))
 
 -- Read and ReadSector, and Copy and Swap, have the same inputs
 pub reads-alike : (l : List (List ℕ)) → given Read l 0 ≡ given ReadSector l 0
@@ -213,10 +139,10 @@ data-part area at n h g =
 pub data-given : (area : List ℕ) (i : Instruction) → length (i .operands) ≡ 4 → i .count ≡ operandsOf Write → pastEnd (length area) i ≡ false
     → wellFormed Write (inputsOf i area) ≡ true
     → part area (fromOf Write i) (argsOf Write (inputsOf i area) .len) ≡ dataIn (inputsOf i area)
-unfolding kind wellFormed two argsOf dataIn fromOf
+unfolding kind wellFormed two tab argsOf dataIn fromOf
 data-given area i long right g w =
     let o = getD (i .operands) 1 noOperand in
-    let l : nth (inputsOf i area) 1 ≡ inputAt area (i .operands) 1 = ap (λ (x : List (List ℕ)). nth x 1) (sym (inputs-two area i long right)) in
+    let l : nth (inputsOf i area) 1 ≡ inputAt area (i .operands) 1 = ap (λ (x : List (List ℕ)). nth x 1) (sym (inputs-are area i long right (omega arith))) in
     let within : o .offset + o .len ≤ length area = ends-within (length area) (i .operands) 2 1 long (within-count (length area) i 2 right g) (omega arith)
     (omega arith) in
     let eight : 8 ≤ length (inputAt area (i .operands) 1) = rw l at (data-long (nth (inputsOf i area) 1) (both-right _ _ w)) in
@@ -226,9 +152,7 @@ data-given area i long right g w =
 
 pub told-is : (op : Op) (l : List (List ℕ)) (from : ℕ) (g : Given) → g ≡ given op l from → g .told ≡ wellFormed op l
 unfolding given malformed
-told-is op l from g e = ap (λ (x : Given). x .told) e ∙ by (wellFormed op l)
-    (λ u. ap (λ (x : Given). x .told) (picks _ _ _ u) ∙ sym u)
-    (λ u. ap (λ (x : Given). x .told) (skips _ _ _ u) ∙ sym u)
+told-is op l from g e = ap (λ (x : Given). x .told) e ∙ tells-test (λ (x : Given). x .told) _ _ _ refl refl
 
 pub args-are : (op : Op) (l : List (List ℕ)) (from : ℕ) (g : Given) → g ≡ given op l from → wellFormed op l ≡ true → g .args ≡ argsOf op l
 unfolding given

@@ -38,25 +38,21 @@ module _ (z : ℕ) (disk stage : List ℕ) {x : Spot} (n : ℕ) where
   unfolding lies holds
   in-stage e h = leb-true _ _ (ap (lies z disk stage) (sym e) ∙ h)
 
-slot : (z : ℕ) (l : List ℕ) (n : ℕ) → n * z + z ≤ length l → length (take (n * z + z - n * z) (drop (n * z) l)) ≡ z
-slot z l n h = ap length (part-is l (n * z) z (n * z + z) refl) ∙ length-part l (n * z) z h
+-- slot n of an area, as code cuts it
+abbrev cut : ℕ → List ℕ → ℕ → List ℕ
+cut z l n = take (n * z + z - n * z) (drop (n * z) l)
+
+cut-is : (z : ℕ) (l : List ℕ) (n : ℕ) {y : List ℕ} → part l (n * z) z ≡ y → n * z + z ≤ length l → (cut z l n ≡ y) × (length (cut z l n) ≡ z)
+cut-is z l n q h = let e = part-is l (n * z) z (n * z + z) refl in (e ∙ q, ap length e ∙ length-part l (n * z) z h)
 
 module _ (z : ℕ) (disk stage : List ℕ) (x : Spot) (n : ℕ) where
-  pub disk-sector : x ≡ OnDisk n → lies z disk stage x ≡ true
-      → (take (n * z + z - n * z) (drop (n * z) disk) ≡ sector z disk stage x) × (length (take (n * z + z - n * z) (drop (n * z) disk)) ≡ z)
+  pub disk-sector : x ≡ OnDisk n → lies z disk stage x ≡ true → (cut z disk n ≡ sector z disk stage x) × (length (cut z disk n) ≡ z)
   unfolding sector
-  disk-sector e h = (
-    part-is disk (n * z) z (n * z + z) refl ∙ ap (sector z disk stage) (sym e),
-    slot z disk n (on-disk z disk stage n e h),
-  )
+  disk-sector e h = cut-is z disk n (ap (sector z disk stage) (sym e)) (on-disk z disk stage n e h)
 
-  pub stage-sector : x ≡ InStage n → lies z disk stage x ≡ true
-      → (take (n * z + z - n * z) (drop (n * z) stage) ≡ sector z disk stage x) × (length (take (n * z + z - n * z) (drop (n * z) stage)) ≡ z)
+  pub stage-sector : x ≡ InStage n → lies z disk stage x ≡ true → (cut z stage n ≡ sector z disk stage x) × (length (cut z stage n) ≡ z)
   unfolding sector
-  stage-sector e h = (
-    part-is stage (n * z) z (n * z + z) refl ∙ ap (sector z disk stage) (sym e),
-    slot z stage n (in-stage z disk stage n e h),
-  )
+  stage-sector e h = cut-is z stage n (ap (sector z disk stage) (sym e)) (in-stage z disk stage n e h)
 
 -- the bytes of a sector that lies within its area
 pub sector-long : (z : ℕ) (disk stage : List ℕ) (x : Spot) → lies z disk stage x ≡ true → length (sector z disk stage x) ≡ z

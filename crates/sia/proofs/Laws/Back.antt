@@ -6,9 +6,9 @@ use Rattle.area.specs.Little.{valueOf, bytesOf, le8, Bytes}
 use Rattle.area.proofs.Laws.Little.{bytes-value}
 use Rattle.sia.specs.Empty.{noOperand, noInstruction, filled}
 use Rattle.sia.specs.Encode.{joined, operandBytes, flagByte, instructionBytes, encode}
-use Rattle.sia.specs.Decode.{Reading, value, bytes, number, limited, flag, several, entries, operand, instruction, head}
+use Rattle.sia.specs.Decode.{Reading, value, after, bytes, number, limited, flag, several, entries, operand, instruction, head}
 use Rattle.sia.proofs.Laws.Joined.{four-in-front}
-use Rattle.sia.proofs.Laws.Inverse.{split, past, same-value, in-front}
+use Rattle.sia.proofs.Laws.Inverse.{split, past, same-value, in-front, limited-within}
 
 -- ---- bytes in front and behind
 
@@ -120,36 +120,70 @@ module _ {A : Type 0} (one : List ℕ → Reading A) (f : A → List ℕ) (back 
 
 -- ---- an instruction and a head
 
+-- each begins with a name of k bytes, a count, and as many entries in an array; what is left is read as y
+pub record Listed {A B : Type 0} (one : List ℕ → Reading A) (f : A → List ℕ) (room : ℕ) (none : A) (k : ℕ) (bs : List ℕ)
+    (next : List ℕ → ℕ → List A → List ℕ → Reading B) (y : Reading B) : Type 0 where
+  pub name : List ℕ
+  pub behind-name : List ℕ
+  pub count : ℕ
+  pub behind-count : List ℕ
+  pub list : List A
+  pub rest : List ℕ
+  pub named : bs ≡ name ++ behind-name
+  pub long : length name ≡ k
+  pub counted : behind-name ≡ le8 count ++ behind-count
+  pub few : count ≤ room
+  pub count-bytes : Bytes behind-count
+  pub entered : entries one room none count behind-count ≡ value list rest
+  pub listed : behind-count ≡ joined f (take count list) ++ rest
+  pub bytes : Bytes rest
+  pub left : next name count list rest ≡ y
+
+pub begins : {A B : Type 0} (one : List ℕ → Reading A) (f : A → List ℕ) (back : Back one f) (room : ℕ) (none : A) (k : ℕ) (bs : List ℕ) → Bytes bs
+    → (next : List ℕ → ℕ → List A → List ℕ → Reading B) (y : B) (end : List ℕ)
+    → after (bytes k bs) (λ name r. after (limited room r) (λ n s. after (entries one room none n s) (λ xs t. next name n xs t))) ≡ value y end
+    → Listed one f room none k bs next (value y end)
+begins one f back room none k bs h next y end e =
+    let s = split (bytes k bs) _ e in
+    let name = bytes-back k bs (s .first) in
+    let hs = rest-bytes (s .x) (s .rest) h (name .0) in
+    let t = split (limited room (s .rest)) _ (s .second) in
+    let count = limited-back room (s .rest) hs (t .x) (t .rest) (t .first) in
+    let ht = rest-bytes (le8 (t .x)) (t .rest) hs count in
+    let u = split (entries one room none (t .x) (t .rest)) _ (t .second) in
+    let list = entries-back one f back room none (t .x) (t .rest) ht (u .x) (u .rest) (u .first) in
+    record {
+      name = s .x;
+      behind-name = s .rest;
+      count = t .x;
+      behind-count = t .rest;
+      list = u .x;
+      rest = u .rest;
+      named = name .0;
+      long = name .1;
+      counted = count;
+      few = limited-within room (s .rest) (t .first);
+      count-bytes = ht;
+      entered = u .first;
+      listed = list;
+      bytes = rest-bytes (joined f (take (t .x) (u .x))) (u .rest) ht list;
+      left = u .second;
+    }
+
 pub instruction-back : Back instruction instructionBytes
 unfolding instruction instructionBytes
 instruction-back bs h x rest e =
-    let s = split (bytes 16 bs) _ e in
-    let name = bytes-back 16 bs (s .first) .0 in
-    let hs = rest-bytes (s .x) (s .rest) h name in
-    let t = split (limited 4 (s .rest)) _ (s .second) in
-    let count = limited-back 4 (s .rest) hs (t .x) (t .rest) (t .first) in
-    let ht = rest-bytes (le8 (t .x)) (t .rest) hs count in
-    let u = split (entries operand 4 noOperand (t .x) (t .rest)) _ (t .second) in
-    let list = entries-back operand operandBytes operand-back 4 noOperand (t .x) (t .rest) ht (u .x) (u .rest) (u .first) in
-    let hu = rest-bytes (joined operandBytes (take (t .x) (u .x))) (u .rest) ht list in
-    let v = split (flag (u .rest)) _ (u .second) in
-    let proof = flag-back (u .rest) hu (v .x) (v .rest) (v .first) in
-    in-front instructionBytes (record { name = s .x; count = t .x; operands = u .x; proof = v .x }) (v .rest) (v .second)
-    (four-in-front (s .x) (le8 (t .x)) (joined operandBytes (take (t .x) (u .x))) (flagByte (v .x) ∷ []) (v .rest) name count list proof)
+    let l = begins operand operandBytes operand-back 4 noOperand 16 bs h _ x rest e in
+    let v = split (flag (l .rest)) _ (l .left) in
+    in-front instructionBytes (record { name = l .name; count = l .count; operands = l .list; proof = v .x }) (v .rest) (v .second)
+    (four-in-front (l .name) (le8 (l .count)) (joined operandBytes (take (l .count) (l .list))) (flagByte (v .x) ∷ []) (v .rest)
+    (l .named) (l .counted) (l .listed) (flag-back (l .rest) (l .bytes) (v .x) (v .rest) (v .first)))
 
 pub head-back : Back head encode
 unfolding head encode
 head-back bs h x rest e =
-    let s = split (bytes 32 bs) _ e in
-    let id = bytes-back 32 bs (s .first) .0 in
-    let hs = rest-bytes (s .x) (s .rest) h id in
-    let t = split (limited 32 (s .rest)) _ (s .second) in
-    let count = limited-back 32 (s .rest) hs (t .x) (t .rest) (t .first) in
-    let ht = rest-bytes (le8 (t .x)) (t .rest) hs count in
-    let u = split (entries instruction 32 noInstruction (t .x) (t .rest)) _ (t .second) in
-    let list = entries-back instruction instructionBytes instruction-back 32 noInstruction (t .x) (t .rest) ht (u .x) (u .rest) (u .first) in
-    let hu = rest-bytes (joined instructionBytes (take (t .x) (u .x))) (u .rest) ht list in
-    let v = split (limited 65536 (u .rest)) _ (u .second) in
-    let declared = limited-back 65536 (u .rest) hu (v .x) (v .rest) (v .first) in
-    in-front encode (record { contract = s .x; count = t .x; instructions = u .x; length = v .x }) (v .rest) (v .second)
-    (four-in-front (s .x) (le8 (t .x)) (joined instructionBytes (take (t .x) (u .x))) (le8 (v .x)) (v .rest) id count list declared)
+    let l = begins instruction instructionBytes instruction-back 32 noInstruction 32 bs h _ x rest e in
+    let v = split (limited 65536 (l .rest)) _ (l .left) in
+    in-front encode (record { contract = l .name; count = l .count; instructions = l .list; length = v .x }) (v .rest) (v .second)
+    (four-in-front (l .name) (le8 (l .count)) (joined instructionBytes (take (l .count) (l .list))) (le8 (v .x)) (v .rest)
+    (l .named) (l .counted) (l .listed) (limited-back 65536 (l .rest) (l .bytes) (v .x) (v .rest) (v .first)))

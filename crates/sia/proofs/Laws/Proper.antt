@@ -14,7 +14,7 @@ use Rattle.sia.specs.Trim.{Each, ProperOperand, ProperInstruction, Prope
 use Rattle.sia.proofs.Laws.Inverse.{split, same-value, as-read, limited-within}
 use Rattle.sia.proofs.Laws.Limits.{is-within}
 use Rattle.sia.proofs.Laws.There.{Fit}
-use Rattle.sia.proofs.Laws.Back.{Back, rest-bytes, front-bytes, bytes-back, number-back, limited-back, operand-back, several-back, instruction-back}
+use Rattle.sia.proofs.Laws.Back.{Back, rest-bytes, front-bytes, bytes-back, number-back, operand-back, several-back, instruction-back, begins}
 
 -- ---- lists
 
@@ -119,18 +119,12 @@ no-instruction = (record { name = refl; operands = refl; each = each-replicate P
 instruction-fit : (bs : List ℕ) → Bytes bs → (x : Instruction) (rest : List ℕ) → instruction bs ≡ value x rest → Fit x
 unfolding instruction
 instruction-fit bs h x rest e =
-    let s = split (bytes 16 bs) _ e in
-    let name = bytes-back 16 bs (s .first) in
-    let hs = rest-bytes (s .x) (s .rest) h (name .0) in
-    let t = split (limited 4 (s .rest)) _ (s .second) in
-    let few = limited-within 4 (s .rest) (t .first) in
-    let ht = rest-bytes (le8 (t .x)) (t .rest) hs (limited-back 4 (s .rest) hs (t .x) (t .rest) (t .first)) in
-    let u = split (entries operand 4 noOperand (t .x) (t .rest)) _ (t .second) in
-    let list = entries-each operand operandBytes operand-back ProperOperand operand-proper 4 noOperand (t .x) (t .rest) ht (u .x)
-    (u .rest) few no-operand (u .first) in
-    let v = split (flag (u .rest)) _ (u .second) in
-    as-read Fit (record { name = s .x; count = t .x; operands = u .x; proof = v .x }) (v .rest) (v .second)
-    (record { name = name .1; operands = list .long; each = list .all }, few)
+    let l = begins operand operandBytes operand-back 4 noOperand 16 bs h _ x rest e in
+    let list = entries-each operand operandBytes operand-back ProperOperand operand-proper 4 noOperand (l .count) (l .behind-count) (l .count-bytes) (l .list)
+    (l .rest) (l .few) no-operand (l .entered) in
+    let v = split (flag (l .rest)) _ (l .left) in
+    as-read Fit (record { name = l .name; count = l .count; operands = l .list; proof = v .x }) (v .rest) (v .second)
+    (record { name = l .long; operands = list .long; each = list .all }, l .few)
 
 -- a head that was read
 pub record Good (h : Head) : Type 0 where
@@ -140,22 +134,16 @@ pub record Good (h : Head) : Type 0 where
 pub head-good : (bs : List ℕ) → Bytes bs → (h : Head) (rest : List ℕ) → head bs ≡ value h rest → Good h
 unfolding head
 head-good bs h x rest e =
-    let s = split (bytes 32 bs) _ e in
-    let id = bytes-back 32 bs (s .first) in
-    let hs = rest-bytes (s .x) (s .rest) h (id .0) in
-    let t = split (limited 32 (s .rest)) _ (s .second) in
-    let few = limited-within 32 (s .rest) (t .first) in
-    let ht = rest-bytes (le8 (t .x)) (t .rest) hs (limited-back 32 (s .rest) hs (t .x) (t .rest) (t .first)) in
-    let u = split (entries instruction 32 noInstruction (t .x) (t .rest)) _ (t .second) in
-    let list = entries-each instruction instructionBytes instruction-back Fit instruction-fit 32 noInstruction (t .x) (t .rest) ht (u .x)
-    (u .rest) few no-instruction (u .first) in
-    let v = split (limited 65536 (u .rest)) _ (u .second) in
-    as-read Good (record { contract = s .x; count = t .x; instructions = u .x; length = v .x }) (v .rest) (v .second) (record {
-      proper = record { contract = id .1; instructions = list .long; each = each-proper (u .x) (list .all) };
-      limits = is-within (record { contract = s .x; count = t .x; instructions = u .x; length = v .x })
-          (record {
-            count = few;
-            declared = limited-within 65536 (u .rest) {n = v .x} {end = v .rest} (v .first);
-            few = each-few (take (t .x) (u .x)) (list .within);
-          });
+    let l = begins instruction instructionBytes instruction-back 32 noInstruction 32 bs h _ x rest e in
+    let list = entries-each instruction instructionBytes instruction-back Fit instruction-fit 32 noInstruction (l .count) (l .behind-count) (l .count-bytes)
+    (l .list) (l .rest) (l .few) no-instruction (l .entered) in
+    let v = split (limited 65536 (l .rest)) _ (l .left) in
+    let read : Head = record { contract = l .name; count = l .count; instructions = l .list; length = v .x } in
+    as-read Good read (v .rest) (v .second) (record {
+      proper = record { contract = l .long; instructions = list .long; each = each-proper (l .list) (list .all) };
+      limits = is-within read (record {
+        count = l .few;
+        declared = limited-within 65536 (l .rest) {n = v .x} {end = v .rest} (v .first);
+        few = each-few (take (l .count) (l .list)) (list .within);
+      });
     })

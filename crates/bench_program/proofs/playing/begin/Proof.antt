@@ -4,25 +4,26 @@ use Rattle.lists.proofs.Kit.{needs}
 use Rattle.bench_program.proofs.playing.begin.Statement.{statement}
 use Rattle.bench_program.proofs.playing.begin.Tie as tie
 
-abbrev at-start : tie.After-open → tie.Start
-at-start c =
-    let at-slice-known2 = c .before .before .before in let at-shared-slice-known = at-slice-known2 .before .before .before in
-    let start = at-shared-slice-known .before in
-    start
+-- ---- the places
+
+abbrev start : tie.After-open → tie.Start
+start c = let areas = c .before .before .before in let given = areas .before .before .before in given .before
+
+abbrev at-give : tie.After-input → tie.After-give
+at-give c = let stage = c .before .before in stage .before .before .before
+
+abbrev else1 : tie.After-give → tie.Else1
+else1 c = let lent = c .before .before .before in lent .before .before
 
 returns : tie.Need-returns
 returns c =
-    let test = c .before in
-    let opened = test .before .before in
-    let a = at-start opened .args in
-    begun-refused (a .host) (a .prices) (a .budget) _ _ _ _ _ _ (opened .«open» .ensures) (c .refused .ensures) (test .if1 .taken)
+    let opened = c .before .before .before in let a = start opened .args in
+    begun-refused (a .host) (a .prices) (a .budget) _ _ _ _ _ _ (opened .«open» .ensures) (c .refused .ensures) (c .before .if1 .taken)
 
 returns-2 : tie.Need-returns-2
 returns-2 c =
-    let at-input = c .before .before .before in let at-stage = at-input .before .before in let given = at-stage .before .before .before in
-    let at-give-arg2 = given .before .before .before in let test = at-give-arg2 .before .before in let opened = test .before .before in
-    let a = at-start opened .args in
-    begun-goes (a .host) (a .prices) (a .budget) _ _ _ _ _ _ (opened .«open» .ensures) (test .if1 .left) (given .give .ensures)
+    let given = at-give (c .before .before .before) in let opened = else1 given .before .before in let a = start opened .args in
+    begun-goes (a .host) (a .prices) (a .budget) _ _ _ _ _ _ (opened .«open» .ensures) (else1 given .if1 .left) (given .give .ensures)
 
 pub begin-spec : {M : Type 1} → statement M
 begin-spec =

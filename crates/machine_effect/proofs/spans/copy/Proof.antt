@@ -6,49 +6,53 @@ use Rattle.machine_effect.proofs.Laws.Spans.{written-fits, moved-fits, 
 use Rattle.machine_effect.proofs.spans.copy.Statement.{statement}
 use Rattle.machine_effect.proofs.spans.copy.Tie as tie
 
+-- ---- the places
+
+abbrev start : tie.After-copied → tie.Start
+start c = let areas = c .before .before .before in areas .before
+
+abbrev at-copied : tie.After-place → tie.After-copied
+at-copied c = c .before .before .before
+
+-- ---- the source on the disk
+
 copy-between-requires : tie.Need-copy-between-requires
 unfolding bare
 copy-between-requires c κs =
-    let then1 = c .before .before in let at-place = then1 .before .before in let at-copied-2 = at-place .before .before .before in
-    let at-shared-slice-known = at-copied-2 .before .before .before in let s = at-shared-slice-known .before in
-    let made = at-copied-2 .copied .ensures in
+    let then1 = c .before .before in let place = then1 .before .before in let s = start (at-copied place) in
+    let made = at-copied place .copied .ensures in
     let none = sym (then1 .before .is-bare .ensures) ∙ then1 .if1 .taken in
     let fits = written-fits _ _ _ _ _ made _ (s .pre .0) (s .pre .1 .0) (s .good .1 .1 .1 .1 .0 .1 .0 .1) in
     let other = fetched-fits _ _ _ _ _ made _ (s .pre .0) (s .pre .1 .0) (s .good .1 .1 .1 .1 .0 .1 .0 .1) _ (s .pre .1 .1) (s .good .1 .1 .0 .1 .0 .1) none in
-    (omega (arith, other, c .before .place2 .ensures), omega (arith, fits, at-place .place .ensures))
-
-move-within-requires : tie.Need-move-within-requires
-unfolding bare
-move-within-requires c κs =
-    let else1 = c .before .before in let at-place = else1 .before .before in let at-copied-2 = at-place .before .before .before in
-    let at-shared-slice-known = at-copied-2 .before .before .before in let s = at-shared-slice-known .before in
-    let made = at-copied-2 .copied .ensures in
-    let some = sym (else1 .before .is-bare .ensures) ∙ else1 .if1 .left in
-    let fits = written-fits _ _ _ _ _ made _ (s .pre .0) (s .pre .1 .0) (s .good .1 .1 .1 .1 .0 .1 .0 .1) in
-    let other = moved-fits _ _ _ _ _ made _ (s .pre .0) (s .pre .1 .0) (s .good .1 .1 .1 .1 .0 .1 .0 .1) _ (s .pre .1 .1) some in
-    (omega (arith, other, c .place3 .ensures), omega (arith, fits, at-place .place .ensures))
+    (omega (arith, other, c .before .place2 .ensures), omega (arith, fits, place .place .ensures))
 
 returns : tie.Need-returns
 unfolding bare
 returns c =
-    let at-copy-between = c .before .before in let at-place2 = at-copy-between .before .before in let at-if1 = at-place2 .before in
-    let at-place = at-if1 .before .before in let at-copied = at-place .before .before .before in
-    let at-shared-slice-known = at-copied .before .before .before in let s = at-shared-slice-known .before in
-    let none = sym (at-if1 .before .is-bare .ensures) ∙ at-if1 .if1 .taken in
-    let target = at-place .place .ensures in
-    fetched _ _ _ _ _ (at-copied .copied .ensures) _ (s .pre .0) (s .pre .1 .0) (s .good .1 .1 .1 .1 .0 .1 .0 .1) _ (s .pre .1 .1)
-    (s .good .1 .1 .0 .1 .0 .1) none target (at-place2 .place2 .ensures) (at-copy-between .copy-between .ensures)
+    let laid = c .before .before in let source = laid .before .before in let then1 = source .before in let place = then1 .before .before in
+    let s = start (at-copied place) in
+    fetched _ _ _ _ _ (at-copied place .copied .ensures) _ (s .pre .0) (s .pre .1 .0) (s .good .1 .1 .1 .1 .0 .1 .0 .1) _ (s .pre .1 .1)
+    (s .good .1 .1 .0 .1 .0 .1) (sym (then1 .before .is-bare .ensures) ∙ then1 .if1 .taken) (place .place .ensures) (source .place2 .ensures)
+    (laid .copy-between .ensures)
+
+-- ---- the source in the stage
+
+move-within-requires : tie.Need-move-within-requires
+unfolding bare
+move-within-requires c κs =
+    let else1 = c .before .before in let place = else1 .before .before in let s = start (at-copied place) in
+    let made = at-copied place .copied .ensures in
+    let some = sym (else1 .before .is-bare .ensures) ∙ else1 .if1 .left in
+    let fits = written-fits _ _ _ _ _ made _ (s .pre .0) (s .pre .1 .0) (s .good .1 .1 .1 .1 .0 .1 .0 .1) in
+    let other = moved-fits _ _ _ _ _ made _ (s .pre .0) (s .pre .1 .0) (s .good .1 .1 .1 .1 .0 .1 .0 .1) _ (s .pre .1 .1) some in
+    (omega (arith, other, c .place3 .ensures), omega (arith, fits, place .place .ensures))
 
 returns-2 : tie.Need-returns-2
 unfolding bare
 returns-2 c =
-    let at-place3 = c .before .before .before in let at-if1 = at-place3 .before .before in let at-place = at-if1 .before .before in
-    let at-copied = at-place .before .before .before in let at-shared-slice-known = at-copied .before .before .before in
-    let s = at-shared-slice-known .before in
-    let some = sym (at-if1 .before .is-bare .ensures) ∙ at-if1 .if1 .left in
-    let target = at-place .place .ensures in
-    moved _ _ _ _ _ (at-copied .copied .ensures) _ (s .pre .0) (s .pre .1 .0) (s .good .1 .1 .1 .1 .0 .1 .0 .1) _ (s .pre .1 .1) some
-    target (at-place3 .place3 .ensures) (c .before .before .move-within .ensures)
+    let laid = c .before .before in let else1 = laid .before .before .before in let place = else1 .before .before in let s = start (at-copied place) in
+    moved _ _ _ _ _ (at-copied place .copied .ensures) _ (s .pre .0) (s .pre .1 .0) (s .good .1 .1 .1 .1 .0 .1 .0 .1) _ (s .pre .1 .1)
+    (sym (else1 .before .is-bare .ensures) ∙ else1 .if1 .left) (place .place .ensures) (laid .before .place3 .ensures) (laid .move-within .ensures)
 
 pub copy-spec : {M : Type 1} → statement M
 copy-spec =

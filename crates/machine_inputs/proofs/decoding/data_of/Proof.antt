@@ -3,7 +3,7 @@ use Rattle.lists.proofs.Kit.{refl, lt-leb, needs}
 use Rattle.lists.proofs.Laws.Pick.{no, both-not-left}
 use Rattle.machine_rules.specs.Inputs.{isData}
 use Rattle.machine_inputs.specs.Given.{dataOf}
-use Rattle.machine_inputs.proofs.Laws.Given.{data-other, data-right}
+use Rattle.machine_inputs.proofs.Laws.Decoders.{data-other, data-right}
 use Rattle.machine_inputs.proofs.decoding.data_of.Statement.{statement}
 use Rattle.machine_inputs.proofs.decoding.data_of.Tie as tie
 

@@ -1,67 +1,62 @@
 -- `machine_inputs::decoding::read_args` meets its contract: the three inputs in turn. Assumes nothing.
-use Rattle.lists.proofs.Kit.{sym, ap, _∙_, arith, not-true, not-false, needs}
+use Rattle.lists.proofs.Kit.{sym, _∙_, _+_, _≤_, _<_, ℕ, arith, length, getD, not-true, not-false, needs}
 use Rattle.lists.proofs.Laws.Pick.{both-not-left, both-not-right}
-use Rattle.sia.specs.Number.{numberGiven}
+use Rattle.sia.specs.Empty.{noOperand}
 use Rattle.machine_rules.specs.Inputs.{wellFormed}
-use Rattle.machine_inputs.specs.Given.{inputAt, three}
-use Rattle.machine_inputs.proofs.Laws.Given.{key-told, number-refused, read-accepted, refused, ends-within}
+use Rattle.machine_inputs.specs.Given.{three}
+use Rattle.machine_inputs.proofs.Laws.Decoders.{tells, key-told, number-refused}
+use Rattle.machine_inputs.proofs.Laws.Given.{read-accepted, refused, ends-within}
 use Rattle.sia.specs.declared.Op.the-variants.{Read}
 use Rattle.machine_inputs.proofs.decoding.read_args.Statement.{statement}
 use Rattle.machine_inputs.proofs.decoding.read_args.Tie as tie
 
-key-at-requires : tie.Need-key-at-requires
-key-at-requires c κs =
-    let at-one = c .before .before in let s = at-one .before .before in
-    ends-within _ (s .args .t2) 3 0 (s .good .1 .0 .1 .0 .1) (s .pre) (omega arith) (omega arith)
+-- ---- the places
+
+abbrev start : tie.After-key-at → tie.Start
+start c = let list = c .before .before .before in list .before .before
+
+abbrev at-key : tie.Else1 → tie.After-key-at
+at-key c = c .before .before
+
+abbrev at-first : tie.After-known-told → tie.After-number-at
+at-first c = c .before .before .before
+
+-- operand k ends within the input
+ends : (s : tie.Start) (k : ℕ) → k < 3 → getD (s .args .t2) k noOperand .offset + getD (s .args .t2) k noOperand .len ≤ length (s .args .input .now)
+ends s k h = ends-within _ (s .args .t2) 3 k (s .good .1 .0 .1 .0 .1) (s .pre) h (omega arith)
+
+-- ---- the first that is not what it is to be, or all three
 
 returns : tie.Need-returns
 unfolding wellFormed three
 returns c =
-    let at-key-at = c .before .before .before in let at-one = at-key-at .before .before .before in let s = at-one .before .before in
-    c .malformed .ensures ∙ refused Read (three (s .args .input .now) (s .args .t2)) 0
-    (both-not-left _ _ (sym (key-told _ _ (at-key-at .key-at .ensures)) ∙ not-true _ (c .before .if1 .taken)))
-
-number-at-requires : tie.Need-number-at-requires
-number-at-requires c κs =
-    let at-three = c .before .before .before in let at-one = at-three .before .before in let s = at-one .before .before in
-    ends-within _ (s .args .t2) 3 1 (s .good .1 .0 .1 .0 .1) (s .pre) (omega arith) (omega arith)
+    c .malformed .ensures ∙ refused Read _ 0 (both-not-left _ _ (sym (key-told _ _ (c .before .before .before .key-at .ensures))
+    ∙ not-true _ (c .before .if1 .taken)))
 
 returns-2 : tie.Need-returns-2
 unfolding wellFormed three
 returns-2 c =
-    let at-number-at = c .before .before .before in let else1 = at-number-at .before in let at-three = else1 .before .before .before in
-    let at-one = at-three .before .before in let s = at-one .before .before in
-    c .malformed2 .ensures ∙ refused Read (three (s .args .input .now) (s .args .t2)) 0
-    (both-not-right _ _ (both-not-left _ _ (number-refused (inputAt (s .args .input .now) (s .args .t2) 1)
-    (sym (at-number-at .number-at .ensures) ∙ ap numberGiven (c .before .enum-told .given .1)))))
-
-number-at-requires-2 : tie.Need-number-at-requires-2
-number-at-requires-2 c κs =
-    let at-match-keys1 = c .before .before in let else1 = at-match-keys1 .before .before in let at-three = else1 .before .before .before in
-    let at-one = at-three .before .before in let s = at-one .before .before in
-    ends-within _ (s .args .t2) 3 2 (s .good .1 .0 .1 .0 .1) (s .pre) (omega arith) (omega arith)
+    c .malformed2 .ensures ∙ refused Read _ 0 (both-not-right _ _ (both-not-left _ _ (number-refused _
+    (tells (c .before .before .before .number-at .ensures) (c .before .enum-told .given .1)))))
 
 returns-3 : tie.Need-returns-3
 unfolding wellFormed three
 returns-3 c =
-    let at-number-at2 = c .before .before .before in let at-match-keys1 = at-number-at2 .before .before .before in
-    let else1 = at-match-keys1 .before .before in let at-three = else1 .before .before .before in let at-one = at-three .before .before in
-    let s = at-one .before .before in
-    c .malformed3 .ensures ∙ refused Read (three (s .args .input .now) (s .args .t2)) 0
-    (both-not-right _ _ (both-not-right _ _ (number-refused (inputAt (s .args .input .now) (s .args .t2) 2)
-    (sym (at-number-at2 .number-at2 .ensures) ∙ ap numberGiven (c .before .enum-told2 .given .1)))))
+    c .malformed3 .ensures ∙ refused Read _ 0 (both-not-right _ _ (both-not-right _ _ (number-refused _
+    (tells (c .before .before .before .number-at2 .ensures) (c .before .enum-told2 .given .1)))))
 
 returns-4 : tie.Need-returns-4
 returns-4 c =
-    let at-len = c .before .before in let at-number-at2 = at-len .before .before in let at-first = at-number-at2 .before .before in
-    let at-number-at = at-first .before .before in let at-if1 = at-number-at .before in let at-key-at = at-if1 .before .before in
-    let at-one = at-key-at .before .before .before in let s = at-one .before .before in
-    read-accepted (s .args .input .now) (s .args .t2) _ _ _ (at-key-at .key-at .ensures) (not-false _ (at-if1 .if1 .left))
-    (sym (at-number-at .number-at .ensures) ∙ ap numberGiven (at-first .first .given .1))
-    (sym (at-number-at2 .number-at2 .ensures) ∙ ap numberGiven (at-len .len .given .1))
+    let third = c .before .before in let second = third .before .before in let first = at-first (second .before) in
+    let key = at-key (first .before) in let s = start key in
+    read-accepted (s .args .input .now) (s .args .t2) _ _ _ (key .key-at .ensures) (not-false _ (first .before .if1 .left))
+    (tells (first .number-at .ensures) (second .before .before .first .given .1)) (tells (second .number-at2 .ensures) (third .len .given .1))
 
 pub read-args-spec : {M : Type 1} → statement M
 read-args-spec =
-    tie.close (tie.spec (λ c. search needs) (λ c. search needs) (λ c. search needs) key-at-requires (λ c κs. search needs) returns
-    number-at-requires (λ c. search needs) (λ c. search needs) (λ c κs. search needs) returns-2 number-at-requires-2 (λ c. search needs)
-    (λ c. search needs) (λ c κs. search needs) returns-3 returns-4)
+    tie.close (tie.spec (λ c. search needs) (λ c. search needs) (λ c. search needs)
+    (λ c κs. let list = c .before .before in ends (list .before .before) 0 (omega arith))
+    (λ c κs. search needs) returns
+    (λ c κs. ends (start (at-key c)) 1 (omega arith)) (λ c. search needs) (λ c. search needs) (λ c κs. search needs) returns-2
+    (λ c κs. ends (start (at-key (at-first c .before))) 2 (omega arith)) (λ c. search needs) (λ c. search needs) (λ c κs. search needs) returns-3
+    returns-4)

@@ -1,9 +1,9 @@
 -- `machine_inputs::decoding::size_args` meets its contract. Assumes nothing.
-use Rattle.lists.proofs.Kit.{sym, ap, _∙_, arith, needs}
-use Rattle.sia.specs.Number.{numberGiven}
+use Rattle.lists.proofs.Kit.{_∙_, arith, needs}
 use Rattle.machine_rules.specs.Inputs.{wellFormed}
-use Rattle.machine_inputs.specs.Given.{inputAt, one}
-use Rattle.machine_inputs.proofs.Laws.Given.{number-refused, size-accepted, refused, ends-within}
+use Rattle.machine_inputs.specs.Given.{one}
+use Rattle.machine_inputs.proofs.Laws.Decoders.{tells, number-refused}
+use Rattle.machine_inputs.proofs.Laws.Given.{size-accepted, refused, ends-within}
 use Rattle.sia.specs.declared.Op.the-variants.{Truncate}
 use Rattle.machine_inputs.proofs.decoding.size_args.Statement.{statement}
 use Rattle.machine_inputs.proofs.decoding.size_args.Tie as tie
@@ -16,16 +16,13 @@ number-at-requires c κs =
 returns : tie.Need-returns
 unfolding wellFormed one
 returns c =
-    let at-number-at = c .before .before .before in
-    let s = at-number-at .before .before .before in
-    c .malformed .ensures ∙ refused Truncate (one (s .args .input .now) (s .args .t2)) 0
-    (number-refused (inputAt (s .args .input .now) (s .args .t2) 0) (sym (at-number-at .number-at .ensures) ∙ ap numberGiven (c .before .enum-told .given .1)))
+    c .malformed .ensures ∙ refused Truncate _ 0 (number-refused _ (tells (c .before .before .before .number-at .ensures)
+    (c .before .enum-told .given .1)))
 
 returns-2 : tie.Need-returns-2
 returns-2 c =
-    let at-number-at = c .before .before .before in
-    let s = at-number-at .before .before .before in
-    size-accepted (s .args .input .now) (s .args .t2) _ (sym (at-number-at .number-at .ensures) ∙ ap numberGiven (c .before .first .given .1))
+    let number = c .before .before .before in let s = number .before .before .before in
+    size-accepted (s .args .input .now) (s .args .t2) _ (tells (number .number-at .ensures) (c .before .first .given .1))
 
 pub size-args-spec : {M : Type 1} → statement M
 size-args-spec =

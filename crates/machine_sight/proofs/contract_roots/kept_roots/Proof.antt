@@ -1,5 +1,5 @@
 -- `kept_roots` meets its contract. The loop's invariant: the roots kept beside the first i sectors stand in the array. Assumes nothing.
-use Rattle.lists.proofs.Kit.{_≡_, refl, sym, ap, _∙_, ℕ, _-_, _*_, _≤_, arith, length, take}
+use Rattle.lists.proofs.Kit.{_≡_, refl, sym, ap, _∙_, ℕ, _+_, _-_, _*_, _≤_, arith, length, take}
 use Rattle.lists.specs.Tab.{tab}
 use Rattle.sia.specs.Encode.{joined}
 use Rattle.machine_rules.specs.View.{spotOf}
@@ -17,64 +17,34 @@ Inv-loop diskroots stageroots slots staged count roots₀ i₀ roots i =
 abbrev μ-loop : tie.MeasureT-loop
 μ-loop diskroots stageroots slots staged count roots₀ i₀ roots i = count - i
 
-spot-of-requires : tie.Need-spot-of-requires Inv-loop μ-loop
-spot-of-requires c κs =
-    let at-loop = c .before in let at-slots = at-loop .before .before in let start = at-slots .before .before .before in
-    omega (arith, start .pre .few)
+-- ---- the places, and what they know
 
-kept-root-requires : tie.Need-kept-root-requires Inv-loop μ-loop
-kept-root-requires c κs =
-    let at-loop = c .before .before in let at-slots = at-loop .before .before in let s = at-slots .before .before .before in
-    seen-lies _ _ _ _ _ (s .pre .spots) (c .before .loop-test .taken) (c .spot-of .ensures)
+abbrev start : tie.At-loop Inv-loop μ-loop → tie.Start Inv-loop μ-loop
+start c = let slots = c .before .before in slots .before .before .before
 
-slice-aggregate-copy-between : tie.Need-slice-aggregate-copy-between Inv-loop μ-loop
-slice-aggregate-copy-between c =
-    let in-loop = c .before .before .before in let at-loop = in-loop .before in
-    sym (at-loop .loop .inv .1)
+abbrev at-loop : tie.After-kept-root Inv-loop μ-loop → tie.At-loop Inv-loop μ-loop
+at-loop c = c .before .before .before
 
-mul-copy-between : tie.Need-mul-copy-between Inv-loop μ-loop
-mul-copy-between c =
-    let at-test = c .before .before .before in let at-loop = at-test .before in let at-slots = at-loop .before .before in
-    let start = at-slots .before .before .before in
-    omega (arith, at-test .loop-test .taken, start .pre .few)
-
-copy-between-requires : tie.Need-copy-between-requires Inv-loop μ-loop
-copy-between-requires c κs =
-    let at-test = c .before .before .before in let at-loop = at-test .before in let at-slots = at-loop .before .before in
-    let start = at-slots .before .before .before in
-    let few = start .pre .few in
-    (omega (arith, c .before .kept-root .ensures .1), omega (arith, at-loop .loop .inv .1, at-test .loop-test .taken, few))
-
-add-i : tie.Need-add-i Inv-loop μ-loop
-add-i c =
-    let at-kept-root = c .before .before .before in let at-test = at-kept-root .before .before in let at-loop = at-test .before in
-    let at-slots = at-loop .before .before in let start = at-slots .before .before .before in
-    omega (arith, at-test .loop-test .taken, start .pre .few)
-
-loop-less : tie.Need-loop-less Inv-loop μ-loop
-loop-less c =
-    let at-kept-root = c .before .before .before in let in-loop = at-kept-root .before .before in
-    omega (arith, in-loop .loop-test .taken)
+-- this root has its place in the array
+room : (c : tie.In-loop Inv-loop μ-loop) → 32 * c .before .loop .i + 32 ≤ length (c .before .loop .roots)
+room c = omega (arith, c .before .loop .inv .1, c .loop-test .taken, start (c .before) .pre .few)
 
 loop-again : tie.Need-loop-again Inv-loop μ-loop
 loop-again c =
-    let at-kept-root = c .before .before .before in let at-spot = at-kept-root .before in let at-test = at-spot .before in
-    let at-loop = at-test .before in let at-slots = at-loop .before .before in let s = at-slots .before .before .before in
-    let root = at-kept-root .kept-root .ensures in
-    let l = at-loop .loop in
+    let kept = c .before .before .before in let spotted = kept .before in let l = at-loop kept .loop in let s = start (at-loop kept) in
+    let root = kept .kept-root .ensures in
     let f = keptRoot (s .args .diskroots .now) (s .args .stageroots .now) in (
-      omega (arith, at-test .loop-test .taken),
+      omega (arith, spotted .before .loop-test .taken),
       c .before .copy-between .kept .1 .1 .0 ∙ l .inv .1,
       one-gathered f (spotOf (s .args .seen .slots) (s .args .seen .staged)) (l .roots) 32 (l .i) (root .1)
-          (omega (arith, l .inv .1, at-test .loop-test .taken, s .pre .few)) (root .0 ∙ ap f (at-spot .spot-of .ensures)) (l .inv .2)
+          (omega (arith, room (spotted .before))) (root .0 ∙ ap f (spotted .spot-of .ensures)) (l .inv .2)
           (c .before .copy-between .ensures),
     )
 
 returns : tie.Need-returns Inv-loop μ-loop
 unfolding spotsOf
 returns c =
-    let at-loop = c .before in let at-slots = at-loop .before .before in let s = at-slots .before .before .before in
-    let l = at-loop .loop in
+    let l = c .before .loop in let s = start (c .before) in
     let f = keptRoot (s .args .diskroots .now) (s .args .stageroots .now) in
     let e : s .args .seen .count ≡ l .i = omega (arith, c .loop-test .left, l .inv .0) in
     ap (λ (n : ℕ). take (32 * n) (l .roots)) e ∙ l .inv .2
@@ -84,5 +54,11 @@ pub kept-roots-spec : {M : Type 1} → statement M
 kept-roots-spec =
     tie.close (tie.spec Inv-loop μ-loop
     (λ c. (omega arith, refl, none-gathered _ _))
-    spot-of-requires kept-root-requires slice-aggregate-copy-between mul-copy-between copy-between-requires add-i loop-less loop-again
-    returns)
+    (λ c κs. omega (arith, start (c .before) .pre .few))
+    (λ c κs. seen-lies _ _ _ _ _ (start (c .before .before) .pre .spots) (c .before .loop-test .taken) (c .spot-of .ensures))
+    (λ c. sym (at-loop (c .before) .loop .inv .1))
+    (λ c. omega (arith, room (c .before .before .before), at-loop (c .before) .loop .inv .1))
+    (λ c κs. (omega (arith, c .before .kept-root .ensures .1), omega (arith, room (c .before .before .before))))
+    (λ c. let kept = c .before .before .before in omega (arith, kept .before .before .loop-test .taken, start (at-loop kept) .pre .few))
+    (λ c. let kept = c .before .before .before in omega (arith, kept .before .before .loop-test .taken))
+    loop-again returns)
