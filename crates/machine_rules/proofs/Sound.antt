@@ -31,7 +31,7 @@ use Rattle.machine_rules.proofs.Laws.Worked.{contract-worked, proof-wor
 use Rattle.machine_rules.proofs.Laws.Taking.{order-solid, order-good, areas-stage}
 use Rattle.machine_rules.proofs.Laws.Spots.{disk-valid, whose-every, few-whose, parent-valid}
 use Rattle.machine_rules.proofs.Arrays.{fresh, kept as keeps}
-use Rattle.machine_rules.proofs.Laws.Readers.{agree, root-agree, all-committed, withWay, known-disk}
+use Rattle.machine_rules.proofs.Laws.Readers.{root-agree, all-committed, withWay, known-disk}
 use Rattle.machine_rules.proofs.Laws.Effects.{few-sectors}
 use Rattle.host.specs.Order.{inOrder}
 use Rattle.host.specs.declared.Host.{Host}

@@ -2,7 +2,7 @@
 use mathlib.Core.Bool.{Bool, true, not}
 use mathlib.Core.List.{List}
 use Prim.Native.Nat.{ℕ, zero, suc, _+_}
-use lib.ListN.{length, getD}
+use lib.ListN.{getD}
 use lib.Dec.{leb, ltb, eqb}
 use Rattle.lists.specs.Pick.{pick, both}
 use Rattle.area.specs.Area.{put}

@@ -13,7 +13,7 @@ use Rattle.machine_rules.specs.View.{Way, kept, Turn, turnOf, withRun, p
 use Rattle.machine_rules.specs.declared.Setting.{Setting}
 use Rattle.machine_rules.specs.Roots.{rootOf, rootAt, rootOnDisk}
 use Rattle.machine_rules.specs.Inputs.{need, inputsOf}
-use Rattle.machine_rules.specs.Plan.{cost, planned}
+use Rattle.machine_rules.specs.Plan.{planned}
 use Rattle.machine_rules.specs.Record.{pairOf, startingPair, runningPair}
 use Rattle.machine_rules.specs.Run.{stepped, current, step, ready, run}
 use Rattle.machine_rules.specs.Calls.{Pieced, pieced, pieceBy, piece}

@@ -1,7 +1,7 @@
 -- Walking down checks 21 to 25, and on to the plan. Assumes nothing.
 use Rattle.lists.proofs.Laws.Pick.{yes, no}
 use Rattle.machine_rules.specs.declared.Args.{Args}
-use Rattle.lists.proofs.Kit.{_≡_, refl, sym, ap, _∙_, true, false, not, List, length, suc, ℕ, _≤_, arith, eq-eqb, ne-eqb}
+use Rattle.lists.proofs.Kit.{_≡_, refl, sym, ap, _∙_, true, false, not, List, suc, ℕ, _≤_, arith, eq-eqb, ne-eqb}
 use Rattle.sia.specs.Names.{opOf}
 use Rattle.sia.proofs.Laws.Limits.{within-is}
 use Rattle.host.proofs.Laws.Order.{terms-facts}

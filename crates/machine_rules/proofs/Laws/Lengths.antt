@@ -16,7 +16,7 @@ use Rattle.sia.specs.Names.{opOf}
 use Rattle.sia.specs.Encode.{joined}
 use Rattle.machine_rules.specs.View.{Way, kept, worked, Turn, sector, parent, committedSpots, Volume}
 use Rattle.machine_rules.specs.declared.Setting.{Setting}
-use Rattle.machine_rules.specs.Roots.{sectorRoot, keptRoot, rootBy, rootOf, contractRoot, segments, rangeProof, rootAt, rootOnDisk}
+use Rattle.machine_rules.specs.Roots.{sectorRoot, keptRoot, rootBy, rootOf, contractRoot, rangeProof, rootAt, rootOnDisk}
 use Rattle.machine_rules.specs.declared.Plan.{Plan}
 use Rattle.machine_rules.proofs.Laws.Passed.{Passed, can, asked-reads, asked-right, stepped-either}
 use Rattle.machine_rules.proofs.Laws.Worked.{proof-counted}

@@ -14,7 +14,6 @@ use Rattle.host.specs.With.{withPlaces, withProgram}
 use Rattle.host.specs.Places.{hasId, committed, taken}
 use Rattle.host.specs.Calls.{freshed, formedAt, formed, replaced, dropped}
 use Rattle.host.specs.Calls as Contracts
-use Rattle.machine_rules.specs.View.{sector}
 use Rattle.machine_rules.specs.Sound.{right, stagedRight, rootsRight, sound}
 use Rattle.machine_rules.specs.Calls.{answered, begun, openedHead, opened}
 use Rattle.machine_rules.specs.Visit.{Declared}

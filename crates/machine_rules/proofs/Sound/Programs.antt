@@ -9,7 +9,7 @@ use Rattle.area.specs.Area.{put}
 use Rattle.host.specs.Empty.{noProgram}
 use Rattle.host.specs.With.{withPlaces, withProgram, withDiskRoots, withStageRoots, withCame, withProgress}
 use Rattle.host.specs.Places.{taken}
-use Rattle.machine_rules.specs.View.{kept, worked, Turn, turnOf, withRun, areasRight, parent, sector, parentSpots, committedSpots, settingOf, volumeBy, volumeOf}
+use Rattle.machine_rules.specs.View.{kept, worked, Turn, turnOf, withRun, areasRight, parent, parentSpots, committedSpots, settingOf, volumeBy, volumeOf}
 use Rattle.machine_rules.specs.Roots.{sectorRoot, keptRoot, rootBy, rootOf, rootOnDisk}
 use Rattle.machine_rules.specs.Record.{pairing, samePair, pairOf, startingPair, runningPair}
 use Rattle.machine_rules.specs.Run.{failedProgress, failing, run, Stepped, turned}

@@ -14,7 +14,7 @@ use Rattle.machine_rules.specs.Seats.{seatsOf}
 use Rattle.machine_rules.specs.Roots.{rootOf, rootAt, rootOnDisk}
 use Rattle.machine_rules.specs.Inputs.{dataIn, nth, argsOf, inputsOf}
 use Rattle.machine_rules.specs.declared.Args.{Args}
-use Rattle.machine_rules.specs.Plan.{Source, spots, sourceOf, cost, touched, newSize, outputCount, recordCount}
+use Rattle.machine_rules.specs.Plan.{Source, spots, sourceOf, touched, newSize, outputCount, recordCount}
 use Rattle.machine_rules.specs.Effect.{groundOf, Staging, effect, rehashed}
 use Rattle.machine_rules.specs.Record.{pairOf, startingPair, runningPair, recordBytes, failureBytes, outputOf, successBytes}
 use Rattle.machine_rules.specs.Run.{failedProgress, failing, ranProgress, succeeding, stepped, current, step, going, ready, runs, run, turned, Stepped}

@@ -10,7 +10,7 @@ use Rattle.machine_rules.proofs.Laws.Spots.{few-spots}
 use Rattle.machine_sight.proofs.Laws.Roots.{seen-count}
 use Rattle.machine_rules.specs.declared.Spot.{Spot}
 use Rattle.machine_plan.specs.Source.{Shows}
-use Rattle.machine_plan.specs.Planned.{says, failed, argued}
+use Rattle.machine_plan.specs.Planned.{says, argued}
 use Rattle.machine_plan.proofs.Laws.Planned.{fails, says-can, says-failed, length-most, room-most}
 use Rattle.machine_rules.proofs.Laws.Effects.{few-sectors}
 use Rattle.machine_plan.proofs.chain.argued.Statement.{statement}
