@@ -18,8 +18,9 @@ use Rattle.machine_rules.specs.View.{parent, settingOf, volumeBy, volumeOf}
 use Rattle.machine_rules.specs.Facts.{Good, Solid}
 use Rattle.machine_rules.specs.Commit.{Closed, closed, finalSlots, copiedBack, finalPlace, commit}
 use Rattle.machine_rules.specs.Visit.{Declared}
-use Rattle.machine_rules.proofs.Committing.{final, order-places, order-some, place-twins}
-use Rattle.machine_rules.proofs.Laws.Effects.{whole-sectors}
+use Rattle.machine_rules.proofs.Committing.{order-places, order-some, place-twins}
+use Rattle.machine_rules.proofs.Laws.Final.{final}
+use Rattle.machine_rules.proofs.Laws.Copies.{whole-sectors}
 use Rattle.machine_rules.proofs.Laws.Sizes.{place-size, whose-whole, whose-here, whose-on}
 use Rattle.host.proofs.Laws.Whose.{has-held}
 use Rattle.machine_rules.proofs.Laws.Split.{split}

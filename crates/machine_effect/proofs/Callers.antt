@@ -12,7 +12,7 @@ use Rattle.machine_rules.specs.declared.Args.{Args}
 use Rattle.machine_rules.specs.Plan.{touched}
 use Rattle.machine_rules.specs.Effect.{Ground, Staging, newCopy, copied, laid, spanWritten, resized, effect}
 use Rattle.machine_rules.proofs.Laws.Staged.{slot-none}
-use Rattle.machine_rules.proofs.Laws.Effects.{written-map, length-copied}
+use Rattle.machine_rules.proofs.Laws.Copies.{written-map, length-copied}
 use Rattle.sia.specs.declared.Op.{Op}
 use Rattle.sia.specs.declared.Op.the-variants.{Read, ReadSector, Write, Copy, Swap, Truncate, Unknown}
 use Rattle.machine_effect.specs.Asks.{bare, Lent, Room, Over, Two, Sized, Stands}

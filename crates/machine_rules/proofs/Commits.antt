@@ -31,9 +31,10 @@ use Rattle.machine_rules.specs.Visit.{Areas, Agreement, named, closes, D
 use Rattle.machine_rules.specs.Trace.{sectorsOf, parentIn, pairIn, starting, running, Unchanged}
 use Rattle.machine_rules.specs.Outcome.{Dropped, Committed}
 use Rattle.machine_rules.specs.Demand2.{Agreed}
-use Rattle.machine_rules.proofs.Laws.Effects.{whole-sectors}
+use Rattle.machine_rules.proofs.Laws.Copies.{whole-sectors}
 use Rattle.machine_rules.proofs.Laws.Spots.{whose-every, unstaged}
-use Rattle.machine_rules.proofs.Laws.Split.{Split, split, replaced-none, replaced-split, taken-split, none-of}
+use Rattle.machine_rules.proofs.Laws.Split.{Split, split, replaced-none, replaced-split, taken-split}
+use Rattle.machine_rules.proofs.Laws.KeptSlots.{none-of}
 use Rattle.machine_rules.proofs.Laws.Taking.{order-good, order-solid, areas-stage}
 use Rattle.machine_rules.proofs.Laws.Filling.{held, filling-length, filling-outside, filling-inside, joined-each, joined-tab, roots-alike}
 use Rattle.machine_rules.proofs.Laws.Others.{whose-new, not-other, whose-other, joined-alike}
@@ -42,7 +43,8 @@ use Rattle.machine_rules.proofs.Laws.Pairs.{same-pairs, pairs-differ, n
 use Rattle.machine_rules.proofs.Laws.Sizes.{nothing-reached}
 use Rattle.machine_rules.proofs.Nothing.{given-up, close-ways}
 use Rattle.machine_rules.proofs.Unchanged.{same-closes, right-closes}
-use Rattle.machine_rules.proofs.Committing.{Final, final, order-places, order-some, place-twins}
+use Rattle.machine_rules.proofs.Committing.{order-places, order-some, place-twins}
+use Rattle.machine_rules.proofs.Laws.Final.{Final, final}
 use Rattle.host.specs.declared.Place.{Place}
 use Rattle.host.specs.declared.Host.{Host}
 use Rattle.machine_rules.specs.declared.Pair.{Pair}

@@ -3,7 +3,7 @@ use Rattle.area.proofs.Laws.Same.{same-eq}
 use Rattle.sia.proofs.Theorems.{reading-what-was-written, writing-what-was-read, same-bytes}
 use Rattle.machine_rules.specs.Demands.{Demands}
 use Rattle.machine_rules.proofs.Refusing.{refusals}
-use Rattle.machine_rules.proofs.Forming.{unmade}
+use Rattle.machine_rules.proofs.Making.{unmade}
 use Rattle.machine_rules.proofs.Ordering.{damaged}
 use Rattle.machine_rules.proofs.Arrays.{fresh, kept}
 use Rattle.machine_rules.proofs.Nothing.{nothing, closing}
@@ -16,7 +16,7 @@ use Rattle.machine_rules.proofs.Unchanged.{nothing-to-agree}
 use Rattle.machine_rules.proofs.Sectors.{full-sectors}
 use Rattle.machine_rules.proofs.Sound.{kept-roots}
 use Rattle.machine_rules.proofs.StageFirst.{stage-first}
-use Rattle.machine_rules.proofs.Laws.Sought.{sought-root}
+use Rattle.machine_rules.proofs.Laws.Found.{sought-root}
 
 pub demands : Demands
 demands = record {

@@ -1,6 +1,6 @@
 -- Making a host, forming a contract and dropping one leave a host in order: a new place takes no slot and no id that is there, and a place
 -- that is left out leaves the others as they were. Assumes nothing.
-use Rattle.lists.proofs.Kit.{_≡_, refl, sym, ap, _∙_, subst, Bool, true, false, not, List, [], _∷_, _++_, ℕ, _/_, zero-div, zero-mod, arith, replicate}
+use Rattle.lists.proofs.Kit.{_≡_, refl, sym, ap, _∙_, subst, Bool, true, false, not, List, [], _∷_, _++_, ℕ, _/_, zero-div, zero-mod, arith}
 use Rattle.lists.proofs.Kit.{ltb, eqb, not-true, not-false, eq-eqb, le-leb}
 use Rattle.lists.specs.Pick.{pick, both}
 use Rattle.lists.specs.Tests.{every, some, apart}
@@ -12,16 +12,14 @@ use Rattle.lists.proofs.Laws.Apart.{tail-apart, join-apart, apart-out}
 use Rattle.area.specs.Area.{same}
 use Rattle.area.proofs.Laws.Same.{same-eq, same-refl}
 use Rattle.sia.specs.Names.{readOnly}
-use Rattle.sia.specs.Encode.{joined}
-use Rattle.host.specs.Sizes.{isSize}
-use Rattle.host.specs.Empty.{noPlace, noProgram, newPlace, bare}
+use Rattle.host.specs.Empty.{noPlace, newPlace, bare}
 use Rattle.host.specs.With.{withPlaces}
 use Rattle.host.specs.Places.{hasId, whose, committed, taken}
-use Rattle.host.specs.Order.{lent, placeInOrder, twins, placesInOrder, inOrder}
-use Rattle.host.specs.Calls.{lengthRight, freshed, padded, formedAt, formed, replaced, dropped}
+use Rattle.host.specs.Order.{placeInOrder, twins, placesInOrder, inOrder}
+use Rattle.host.specs.Calls.{padded, formedAt, formed, replaced, dropped}
 use Rattle.host.proofs.Laws.Order.{contracts-facts, facts-contracts}
-use Rattle.host.proofs.Theorems.{no-slots-refused}
-use Rattle.machine_rules.proofs.Laws.Split.{split, replaced-split, taken-split, none-of}
+use Rattle.machine_rules.proofs.Laws.Split.{split, replaced-split, taken-split}
+use Rattle.machine_rules.proofs.Laws.KeptSlots.{none-of}
 use Rattle.host.proofs.Laws.Whose.{none-bare, none-order, new-bare}
 use Rattle.host.specs.declared.Place.{Place}
 use Rattle.host.specs.declared.Host.{Host}
@@ -47,7 +45,7 @@ apart-with (p ∷ l) x m h s e =
 -- what a place is that stands for another: in order, without a slot, and no twin of the others
 record Stands (z : ℕ) (l : List Place) (x : Place) (m : List Place) : Type 0 where
   order : placeInOrder z x ≡ true
-  bare : committed z x ≡ []
+  pub bare : committed z x ≡ []
   behind : some (twins x) m ≡ false
   before : every (λ q. not (twins q x)) l ≡ true
 
@@ -174,7 +172,7 @@ dropped-places z disk id ps there o =
     ap (placesInOrder z disk) (replaced-split id noPlace ps s)
     ∙ stand z disk (s .before) (s .it) noPlace (s .behind) (none-stands z (s .before) (s .behind)) (ap (placesInOrder z disk) (sym (s .is)) ∙ o)
 
-abbrev Fine : Made → Type 0
+abbrev pub Fine : Made → Type 0
 Fine r = inOrder (r .host) ≡ true
 
 pub forming : (h : Host) (id : List ℕ) → inOrder h ≡ true → Fine (formed h id)
@@ -196,35 +194,3 @@ dropping h id o =
     either-way Fine (same id readOnly) _ _ (λ e. o) (λ word.
     either-way Fine (not (whose id (h .places) .held)) _ _ (λ e. o) (λ there.
     idle h _ o idling (dropped-places (h .sector) (h .disk) id (h .places) (not-false _ there) (in-places h o))))))
-
--- ---- making
-
-none-places : (z disk : ℕ) → placesInOrder z disk (replicate 8 noPlace) ≡ true
-unfolding placesInOrder placeInOrder every apart some twins taken joined committed noPlace pick
-none-places z disk = refl
-
-bare-order : (z disk stage : ℕ) → isSize z ≡ true → lent 64 disk ≡ true → lent 16 stage ≡ true → inOrder (bare z disk stage) ≡ true
-unfolding inOrder bare noProgram
-bare-order z disk stage e d s =
-    both-join _ _ e (both-join _ _ d (both-join _ _ s (both-join _ _ (none-places z disk) (picks (not false) true _ refl))))
-
-abbrev MadeFine : Made → Type 0
-MadeFine r = r .number ≡ 0 → Fine r
-
-abbrev Unmade : Made → Type 0
-Unmade r = (r .number ≡ 0 → ⊥) → (r .number ≡ 2) × (inOrder (r .host) ≡ false)
-
-pub making : (z disk stage : ℕ) → freshed z disk stage .number ≡ 0 → Fine (freshed z disk stage)
-unfolding freshed lengthRight
-making z disk stage =
-    either-way MadeFine (not (isSize z)) _ _ (λ _ n. absurd (omega arith)) (λ e.
-    either-way MadeFine (not (lengthRight z 64 disk)) _ _ (λ _ n. absurd (omega arith)) (λ d.
-    either-way MadeFine (not (lengthRight z 16 stage)) _ _ (λ _ n. absurd (omega arith)) (λ s n.
-    bare-order z (disk / z) (stage / z) (not-false _ e) (both-right _ _ (not-false _ d)) (both-right _ _ (not-false _ s)))))
-
-pub unmade : (z disk stage : ℕ) → (freshed z disk stage .number ≡ 0 → ⊥) → (freshed z disk stage .number ≡ 2) × (inOrder (freshed z disk stage .host) ≡ false)
-unfolding freshed
-unmade z disk stage =
-    either-way Unmade (not (isSize z)) _ _ (λ _ _. (refl, no-slots-refused)) (λ _.
-    either-way Unmade (not (lengthRight z 64 disk)) _ _ (λ _ _. (refl, no-slots-refused)) (λ _.
-    either-way Unmade (not (lengthRight z 16 stage)) _ _ (λ _ _. (refl, no-slots-refused)) (λ _ n. absurd (n refl))))

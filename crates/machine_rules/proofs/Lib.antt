@@ -3,6 +3,7 @@ pub mod Laws
 pub mod Bench
 pub mod Refusing
 pub mod Forming
+pub mod Making
 pub mod Failing
 pub mod Cutting
 pub mod Records

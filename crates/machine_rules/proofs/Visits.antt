@@ -16,7 +16,7 @@ use Rattle.machine_rules.specs.Demand2.{Ran, Closes}
 use Rattle.machine_rules.specs.Demand3.{Cut}
 use Rattle.machine_rules.proofs.Failing.{summed, within}
 use Rattle.machine_rules.proofs.Nothing.{nothing, unchanged}
-use Rattle.machine_rules.proofs.Arrays.{same-opens, same-fed}
+use Rattle.machine_rules.proofs.Laws.Declared.{same-opens, same-fed}
 use Rattle.machine_rules.proofs.Opening.{Opened, opening-takes, opening-begins}
 use Rattle.machine_rules.proofs.Cutting.{all-taken, cut-state, cut-alike}
 use Rattle.machine_rules.proofs.Records.{after-count, after-output, after-written}

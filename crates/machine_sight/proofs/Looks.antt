@@ -5,7 +5,7 @@ use Rattle.machine_rules.specs.View.{parent, parentSpots, Volume}
 use Rattle.machine_rules.specs.declared.Setting.{Setting}
 use Rattle.machine_rules.specs.Facts.{Solid, Good}
 use Rattle.machine_rules.proofs.Laws.Spots.{parent-valid}
-use Rattle.machine_rules.proofs.Laws.Effects.{few-sectors}
+use Rattle.machine_rules.proofs.Laws.Copies.{few-sectors}
 use Rattle.machine_sight.proofs.Callers.{slots-hold, every-lies}
 use Rattle.host.specs.declared.Progress.{Progress}
 use Rattle.machine_sight.specs.Lookup.{Stand, Seeks}

@@ -15,7 +15,7 @@ use Rattle.host.specs.Places.{freeCopy}
 use Rattle.host.specs.Order.{slotInOrder}
 use Rattle.machine_rules.specs.Effect.{Ground, Staging, newCopy, sectorAt, copied, laid}
 use Rattle.machine_rules.proofs.Laws.Staged.{slot-none, slot-below}
-use Rattle.machine_rules.proofs.Laws.Effects.{free-slot}
+use Rattle.machine_rules.proofs.Laws.Copies.{free-slot}
 use Rattle.machine_effect.specs.Asks.{bare, Lent, Free, Lies, Room}
 use Rattle.machine_effect.proofs.Laws.Slots.{New, new-slot}
 use Rattle.machine_effect.proofs.Laws.Copies.{onDisk, reads-disk, reads-stage, copied-new, copied-old}

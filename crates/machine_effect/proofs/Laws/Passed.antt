@@ -13,8 +13,9 @@ use Rattle.machine_rules.specs.declared.Args.{Args}
 use Rattle.machine_rules.specs.Plan.{badSpan, badSpans, touched, wanted, newSize}
 use Rattle.machine_rules.specs.Facts.{Good, Solid}
 use Rattle.machine_rules.specs.Effect.{groundOf, Staging, copied}
-use Rattle.machine_rules.proofs.Laws.Effects.{sector-below, asks, asks-some, asks-two, copied-map, wanted-one, few-sectors}
-use Rattle.machine_rules.proofs.Laws.Effects.{swap-asks, span-in, past-first}
+use Rattle.machine_rules.proofs.Laws.Copies.{sector-below, asks, asks-some, asks-two, copied-map, wanted-one, few-sectors}
+use Rattle.machine_rules.proofs.Laws.Resizes.{swap-asks, past-first}
+use Rattle.machine_rules.proofs.Laws.Copies.{span-in}
 use Rattle.machine_rules.proofs.Laws.Passed.{Passed}
 use Rattle.machine_rules.proofs.Laws.Spots.{unstaged, committed-slot}
 use Rattle.machine_rules.proofs.Laws.Wrote.{span-few}

@@ -7,7 +7,7 @@ use Rattle.area.proofs.Laws.Slots.{slot-ends}
 use Rattle.host.specs.Empty.{none}
 use Rattle.host.specs.Places.{freeCopy}
 use Rattle.machine_rules.specs.Effect.{Ground, Staging}
-use Rattle.machine_rules.proofs.Laws.Effects.{free-slot}
+use Rattle.machine_rules.proofs.Laws.Copies.{free-slot}
 use Rattle.machine_effect.specs.Parts.{placeOf}
 use Rattle.machine_effect.specs.Asks.{Lent, Free}
 

@@ -16,7 +16,7 @@ use Rattle.machine_rules.specs.View.{committedSpots}
 use Rattle.machine_rules.specs.declared.Setting.{Setting}
 use Rattle.machine_rules.specs.Seats.{seated, committedSeats, seats, nobody, allSeats}
 use Rattle.machine_rules.specs.StageFirst.{writing, reading}
-use Rattle.machine_rules.proofs.Laws.Search.{Apart}
+use Rattle.machine_rules.proofs.Laws.Earlier.{Apart}
 use Rattle.machine_rules.proofs.Laws.Split.{none-has}
 use Rattle.host.specs.declared.Place.{Place}
 use Rattle.host.specs.declared.Progress.{Progress}

@@ -17,7 +17,8 @@ use Rattle.machine_rules.specs.Run.{failedProgress, failing, ranProgress
 use Rattle.machine_rules.specs.Facts.{Good, Lent, startOf}
 use Rattle.machine_rules.proofs.Laws.Passed.{Passed, stepped-either, can, planFine}
 use Rattle.machine_rules.proofs.Laws.Steps.{not-failed, left-going, ready-going, runs-go, runs-stop}
-use Rattle.machine_rules.proofs.Laws.Effects.{effect-kept, effect-length, size-whole, size-read, few-sectors}
+use Rattle.machine_rules.proofs.Laws.Effects.{effect-kept, effect-length, size-whole, size-read}
+use Rattle.machine_rules.proofs.Laws.Copies.{few-sectors}
 use Rattle.sia.specs.declared.Op.{Op}
 use Rattle.sia.specs.declared.Instruction.{Instruction}
 use Rattle.host.specs.declared.Place.{Place}

@@ -1,7 +1,7 @@
 -- Two readers of roots that agree on what is seen give the same roots, look-ups, proofs and checks. Assumes nothing.
-use Rattle.lists.proofs.Kit.{_≡_, refl, sym, ap, ap₂, _∙_, subst, Bool, true, false, not, List, [], _∷_, _++_, ℕ, _+_, _/_, _%_, _≤_, _<_, zero-div, arith}
+use Rattle.lists.proofs.Kit.{_≡_, refl, sym, ap, ap₂, _∙_, subst, Bool, true, false, List, [], _∷_, _++_, ℕ, _+_, _/_, _%_, _≤_, _<_, zero-div, arith}
 use Rattle.lists.proofs.Kit.{length, take, getD, length-take, length-replicate, getD-take, eqb}
-use Rattle.lists.specs.Pick.{pick, both}
+use Rattle.lists.specs.Pick.{pick}
 use Rattle.lists.specs.Tests.{every}
 use Rattle.lists.proofs.Laws.Pick.{by, picks, skips, both-left, both-right}
 use Rattle.lists.proofs.Laws.Tab.{every-tab}
@@ -10,20 +10,16 @@ use Rattle.area.specs.Area.{same}
 use Rattle.area.proofs.Laws.Same.{same-eq}
 use Rattle.tree.specs.Tree.{join}
 use Rattle.tree.specs.Walk.{proofIn}
-use Rattle.sia.specs.Names.{opOf}
 use Rattle.sia.specs.Encode.{joined}
 use Rattle.host.specs.Empty.{none, noPlace}
 use Rattle.host.specs.Places.{hasId, whose, taken}
 use Rattle.host.specs.Facts.{Staged}
 use Rattle.host.proofs.Laws.Whose.{committed-held}
-use Rattle.machine_rules.specs.View.{Way, kept, worked, Turn, readOnlyMode, parent, freeCopies, sector, spotOf, parentSpots, committedSpots, Volume}
+use Rattle.machine_rules.specs.View.{Way, kept, worked, Turn, parent, sector, spotOf, parentSpots, committedSpots, Volume}
 use Rattle.machine_rules.specs.declared.Setting.{Setting}
 use Rattle.machine_rules.specs.Roots.{sectorRoot, keptRoot, rootBy, rootOf, contractRoot, rangeProof}
 use Rattle.machine_rules.specs.Seats.{seatsOf, firstSeat}
-use Rattle.machine_rules.specs.Inputs.{argsOf, illFormed, pastEnd, wellFormed}
-use Rattle.machine_rules.specs.Plan.{Source, missing, seen, isThere, spots, contractSource, soughtSource, sectorSource, sourceOf}
-use Rattle.machine_rules.specs.Kinds.{changes}
-use Rattle.machine_rules.specs.Plan.{refused, fitted, weighed, plannedInputs, plannedArgs, planned, judged}
+use Rattle.machine_rules.specs.Plan.{missing, seen, spots, contractSource, sectorSource, sourceOf}
 use Rattle.machine_rules.specs.Facts.{Solid, startOf}
 use Rattle.machine_rules.specs.Visit.{Shaped}
 use Rattle.machine_rules.specs.Sound.{right, stagedRight}
@@ -31,7 +27,6 @@ use Rattle.machine_rules.proofs.Laws.Spots.{whose-every, whose-nobody, 
 use Rattle.machine_rules.proofs.Laws.Rehashed.{right-at}
 use Rattle.sia.specs.declared.Op.{Op}
 use Rattle.sia.specs.declared.Op.the-variants.{Read, ReadSector, Write, Copy, Swap, Truncate, Unknown}
-use Rattle.sia.specs.declared.Instruction.{Instruction}
 use Rattle.host.specs.declared.Place.{Place}
 use Rattle.host.specs.declared.Progress.{Progress}
 use Rattle.machine_rules.specs.declared.Spot.{Spot}
@@ -39,7 +34,6 @@ use Rattle.machine_rules.specs.declared.Spot.the-variants.{OnDisk, InSta
 use Rattle.machine_rules.specs.declared.Seat.{Seat}
 use Rattle.machine_rules.specs.declared.Sought.{Sought}
 use Rattle.machine_rules.specs.declared.Sought.the-variants.{At}
-use Rattle.machine_rules.specs.declared.Plan.{Plan}
 
 -- ---- readers that agree
 
@@ -173,49 +167,3 @@ pub known-stage : (s : Setting) (vol : Volume) (stage copies staged : List ℕ) 
     → eqb (getD staged j none) none ≡ false
     → agree (rootOf s (withWay kept vol) stage copies) (rootOf s (withWay worked vol) stage copies) (InStage (getD staged j none)) ≡ true
 known-stage s vol stage copies staged h j n = sym (stage-agrees s vol stage copies (getD staged j none)) ∙ right-at (s .sector) stage copies staged j h n
-
--- ---- checks
-
--- which way makes no difference but by the reader
-source-way : (way : Way) (s : Setting) (f : Spot → List ℕ) (p : Progress) (op : Op) (key : List ℕ) → sourceOf s f p op key
-    ≡ sourceOf s f p op key
-unfolding sourceOf contractSource sectorSource seatsOf readOnlyMode parentSpots parent withWay
-source-way way s f p Read key = refl
-source-way way s f p ReadSector key = refl
-source-way way s f p Write key = refl
-source-way way s f p Copy key = refl
-source-way way s f p Swap key = refl
-source-way way s f p Truncate key = refl
-source-way way s f p Unknown key = refl
-
-source-agree : (s : Setting) (f g : Spot → List ℕ) (p : Progress) (op : Op) (key : List ℕ)
-    → every (λ x. agree f g (x .spot)) (seatsOf s p) ≡ true
-    → sourceOf s f p op key ≡ sourceOf s g p op key
-unfolding sourceOf sectorSource
-source-agree s f g p Read key h = refl
-source-agree s f g p ReadSector key h = ap soughtSource (first-agree f g key (seatsOf s p) h)
-source-agree s f g p Write key h = refl
-source-agree s f g p Copy key h = refl
-source-agree s f g p Swap key h = refl
-source-agree s f g p Truncate key h = refl
-source-agree s f g p Unknown key h = refl
-
-pub source-alike : (s : Setting) (f g : Spot → List ℕ) (p : Progress) (op : Op) (key : List ℕ) → every (λ x. agree f g (x .spot)) (seatsOf s p) ≡ true
-    → sourceOf s f p op key ≡ sourceOf s g p op key
-source-alike s f g p op key h = source-way kept s f p op key ∙ source-agree s f g p op key h ∙ sym (source-way worked s g p op key)
-
-inputs-alike : (s : Setting) (f g : Spot → List ℕ) (p : Progress) (i : Instruction) (op : Op) (l : List (List ℕ))
-    → every (λ x. agree f g (x .spot)) (seatsOf s p) ≡ true
-    → plannedInputs s f p i op l ≡ plannedInputs s g p i op l
-unfolding plannedInputs plannedArgs weighed fitted readOnlyMode freeCopies withWay
-inputs-alike s f g p i op l h =
-    ap (λ (from : Source). pick (not (wellFormed op l)) (refused 23) (pick (both (changes op) (readOnlyMode (s .terms))) (refused 24)
-    (pick (not (isThere from)) (refused 25) (weighed s p (i .proof) (length (spots from)) op (argsOf op l)))))
-    (source-alike s f g p op (argsOf op l .key) h)
-
-pub judged-alike : (s : Setting) (f g : Spot → List ℕ) (p : Progress) (i : Instruction) (l : List (List ℕ))
-    → every (λ x. agree f g (x .spot)) (seatsOf s p) ≡ true
-    → judged s f p i l ≡ judged s g p i l
-unfolding judged planned withWay
-judged-alike s f g p i l h = ap (λ (r : Plan). pick (illFormed i) (refused 21) (pick (pastEnd (s .terms .head .length) i) (refused 22) r) .number)
-    (inputs-alike s f g p i (opOf (i .name)) l h)

@@ -13,7 +13,7 @@ use Rattle.host.specs.Places.{hasId, whose, ownSize, others, committed, taken}
 use Rattle.host.specs.Order.{placeInOrder, parentInOrder}
 use Rattle.host.proofs.Laws.Whose.{has-none, has-held}
 use Rattle.machine_rules.specs.Visit.{Shaped}
-use Rattle.machine_rules.proofs.Laws.Effects.{whole-sectors}
+use Rattle.machine_rules.proofs.Laws.Copies.{whole-sectors}
 use Rattle.machine_rules.proofs.Laws.Spots.{whose-nobody}
 use Rattle.host.specs.declared.Place.{Place}
 

@@ -13,8 +13,9 @@ use Rattle.machine_rules.specs.View.{sector}
 use Rattle.machine_rules.specs.declared.Args.{Args}
 use Rattle.machine_rules.specs.Plan.{badSpan, badSpans, touched, newSize}
 use Rattle.machine_rules.specs.Effect.{Ground, Staging, newCopy, sectorAt, copied, spanRead, laid, spanWritten, resized, effect}
-use Rattle.machine_rules.proofs.Laws.Effects.{span-in, sector-below, Sized, sized, copiedMap, copied-map, written-map, copied-new}
-use Rattle.machine_rules.proofs.Laws.Effects.{copied-old, length-copied}
+use Rattle.machine_rules.proofs.Laws.Resizes.{Sized, sized}
+use Rattle.machine_rules.proofs.Laws.Copies.{span-in, sector-below, copiedMap, copied-map, written-map, copied-new}
+use Rattle.machine_rules.proofs.Laws.Copies.{copied-old, length-copied}
 use Rattle.area.proofs.Laws.Slots.{other-span, other-slot}
 use Rattle.area.proofs.Laws.Parts.{few-part}
 use Rattle.sia.specs.declared.Op.{Op}

@@ -17,7 +17,8 @@ use Rattle.host.specs.Calls as Contracts
 use Rattle.machine_rules.specs.Sound.{right, stagedRight, rootsRight, sound}
 use Rattle.machine_rules.specs.Calls.{answered, begun, openedHead, opened}
 use Rattle.machine_rules.specs.Visit.{Declared}
-use Rattle.machine_rules.proofs.Forming.{making, forming, dropping}
+use Rattle.machine_rules.proofs.Forming.{forming, dropping}
+use Rattle.machine_rules.proofs.Making.{making}
 use Rattle.machine_rules.proofs.Ordering.{opening as opening-order}
 use Rattle.machine_rules.proofs.Sound.Programs.{sound-order, sound-disk}
 use Rattle.host.specs.declared.Host.{Host}

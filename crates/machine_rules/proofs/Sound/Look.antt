@@ -14,11 +14,11 @@ use Rattle.machine_rules.specs.Roots.{sectorRoot, rootBy, rootOf}
 use Rattle.machine_rules.specs.Seats.{nobody, allSeats, seatsOf, seatsIn, notLocated, locatedAt, locatedBy}
 use Rattle.machine_rules.specs.Plan.{Source, seen, spots, sectorSource}
 use Rattle.machine_rules.specs.Visit.{Sound}
-use Rattle.machine_rules.proofs.Laws.Sought.{source-root}
+use Rattle.machine_rules.proofs.Laws.Found.{source-root}
 use Rattle.machine_rules.proofs.Laws.Spots.{seats-every, program-every, sought-every}
 use Rattle.machine_rules.proofs.Laws.Readers.{agree, first-agree, all-parent, withWay, known-disk, known-stage}
 use Rattle.machine_rules.proofs.Laws.Taking.{blank-right, order-solid, order-good}
-use Rattle.machine_rules.proofs.Laws.Effects.{few-sectors}
+use Rattle.machine_rules.proofs.Laws.Copies.{few-sectors}
 use Rattle.machine_rules.proofs.Sound.Programs.{sound-order, sound-disk, sound-stage}
 use Rattle.host.specs.declared.Host.{Host}
 use Rattle.machine_rules.specs.declared.Spot.{Spot}

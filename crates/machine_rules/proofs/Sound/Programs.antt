@@ -24,11 +24,12 @@ use Rattle.machine_rules.proofs.Ordering.{accepted-order, stopped-order
 use Rattle.machine_rules.proofs.Committing.{commit-order}
 use Rattle.machine_rules.proofs.Commits.{commit-right}
 use Rattle.machine_rules.proofs.Laws.Readers.{agree, root-agree, all-start, all-parent, withWay, Known, known-disk, known-stage}
-use Rattle.machine_rules.proofs.Laws.Effects.{few-sectors}
+use Rattle.machine_rules.proofs.Laws.Copies.{few-sectors}
 use Rattle.host.specs.Order.{inOrder}
 use Rattle.machine_rules.proofs.Laws.Refusals.{past, piece-areas}
 use Rattle.host.specs.declared.Host.{Host}
-use Rattle.machine_rules.proofs.Sound.Steps.{failing-alike, runs-alike, trail-alike, runs-known}
+use Rattle.machine_rules.proofs.Sound.Steps.{failing-alike}
+use Rattle.machine_rules.proofs.Sound.Runs.{runs-alike, trail-alike, runs-known}
 use Rattle.machine_rules.specs.declared.Pair.{Pair}
 
 -- ---- the calls

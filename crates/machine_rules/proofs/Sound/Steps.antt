@@ -1,9 +1,8 @@
 -- An instruction and a run with roots that are right: the kept ones give what document 01 says, and stay right. Assumes nothing.
-use Rattle.lists.proofs.Kit.{_≡_, refl, sym, ap, ap₂, _∙_, subst, Bool, true, List, [], _∷_, ℕ, zero, suc, _*_, _≤_, mul-le-mul-right, le-trans, arith}
+use Rattle.lists.proofs.Kit.{_≡_, sym, ap, ap₂, _∙_, subst, Bool, true, List, [], ℕ, _*_, _≤_, mul-le-mul-right, le-trans, arith}
 use Rattle.lists.proofs.Kit.{length, length-drop, eqb}
 use Rattle.lists.specs.Pick.{pick}
 use Rattle.lists.specs.Tests.{every}
-use Rattle.lists.proofs.Laws.Pick.{by}
 use Rattle.lists.proofs.Laws.Every.{every-none}
 use Rattle.area.proofs.Laws.Slots as Slots
 use Rattle.sia.specs.Names.{opOf}
@@ -12,26 +11,25 @@ use Rattle.machine_rules.specs.View.{kept, worked, Turn, readOnlyMode, p
 use Rattle.machine_rules.specs.declared.Setting.{Setting}
 use Rattle.machine_rules.specs.Seats.{seatsOf}
 use Rattle.machine_rules.specs.Roots.{rootOf, rootAt, rootOnDisk}
-use Rattle.machine_rules.specs.Inputs.{dataIn, nth, argsOf, inputsOf}
+use Rattle.machine_rules.specs.Inputs.{dataIn, nth, argsOf}
 use Rattle.machine_rules.specs.declared.Args.{Args}
 use Rattle.machine_rules.specs.Plan.{Source, spots, sourceOf, touched, newSize, outputCount, recordCount}
 use Rattle.machine_rules.specs.Effect.{groundOf, Staging, effect, rehashed}
 use Rattle.machine_rules.specs.Record.{pairOf, startingPair, runningPair, recordBytes, failureBytes, outputOf, successBytes}
-use Rattle.machine_rules.specs.Run.{failedProgress, failing, ranProgress, succeeding, stepped, current, step, going, ready, runs, run, turned, Stepped}
+use Rattle.machine_rules.specs.Run.{failedProgress, failing, ranProgress, succeeding, stepped, going, run, turned}
 use Rattle.machine_rules.specs.Facts.{Good, Solid}
 use Rattle.machine_rules.specs.Sound.{right, stagedRight}
-use Rattle.machine_rules.specs.Trace.{recorded, trail}
 use Rattle.machine_rules.specs.declared.Plan.{Plan}
 use Rattle.machine_rules.proofs.Laws.Passed.{planFine, Passed, can, stepped-ran, stepped-failed, stepped-either}
-use Rattle.machine_rules.proofs.Laws.Steps.{not-failed, left-going, ready-going, runs-go, runs-stop}
-use Rattle.machine_rules.proofs.Laws.Effects.{few-sectors}
-use Rattle.machine_rules.proofs.Laws.Kept.{ran-good, stepped-good}
-use Rattle.machine_rules.proofs.Laws.Trails.{trail-zero, trail-go, trail-stop}
+use Rattle.machine_rules.proofs.Laws.Steps.{not-failed, left-going}
+use Rattle.machine_rules.proofs.Laws.Copies.{few-sectors}
+use Rattle.machine_rules.proofs.Laws.Kept.{ran-good}
 use Rattle.machine_rules.proofs.Laws.Wrote.{Wrote, wrote-effect}
 use Rattle.machine_rules.proofs.Laws.Rehashed.{rehashed-right}
 use Rattle.machine_rules.proofs.Laws.Areas.{rehashed-length}
 use Rattle.machine_rules.proofs.Laws.Readers.{agree, root-agree, proof-agree, all-start, all-seats, all-parent, all-source}
-use Rattle.machine_rules.proofs.Laws.Readers.{withWay, Known, known-disk, known-stage, source-alike, judged-alike}
+use Rattle.machine_rules.proofs.Laws.Readers.{withWay, Known, known-disk, known-stage}
+use Rattle.machine_rules.proofs.Laws.Checks.{source-alike, judged-alike}
 use Rattle.sia.specs.declared.Op.{Op}
 use Rattle.sia.specs.declared.Op.the-variants.{Read, ReadSector, Write, Copy, Swap, Truncate, Unknown}
 use Rattle.sia.specs.declared.Instruction.{Instruction}
@@ -196,62 +194,3 @@ module _ (s : Setting) (vol : Volume) (t : Turn) (solid : Solid s (withWay kept 
       (λ u. known-ran (opOf (i .name)) (argsOf (opOf (i .name)) l) (dataIn l) (i .proof) _
       (can s (rootAt s (withWay kept vol) t) (t .progress) i l u .passed) (args-full (opOf (i .name)) l) run _)
       (λ _. known-failing _)
-
--- ---- a run
-
-module _ (s : Setting) (vol : Volume) (solid : Solid s (withWay kept vol)) (a : List ℕ) (k : ℕ) where
-  step-alike : (t : Turn) → Good s (t .progress) → Known s (withWay kept vol) t → going (s .terms) (t .progress) ≡ true
-      → step s (withWay kept vol) a t ≡ step s (withWay worked vol) a t
-  unfolding step current withWay
-  step-alike t g q h = ap (turned t) (stepped-alike s vol t solid g q (current s t) (inputsOf (current s t) a) h)
-
-  step-known : (t : Turn) → Good s (t .progress) → Known s (withWay kept vol) t → going (s .terms) (t .progress) ≡ true
-      → Known s (withWay kept vol) (step s (withWay kept vol) a t)
-  unfolding step
-  step-known t g q h = stepped-known s vol t solid g q _ _ h
-
-  step-good : (t : Turn) → Good s (t .progress) → going (s .terms) (t .progress) ≡ true
-      → Good s (step s (withWay kept vol) a t .progress)
-  unfolding step turned withWay
-  step-good t g h = stepped-good s (withWay kept vol) _ _ t (solid .lent) h g
-
-  pub runs-alike : (n : ℕ) (t : Turn) → Good s (t .progress) → Known s (withWay kept vol) t → runs s (withWay kept vol) a k n t
-      ≡ runs s (withWay worked vol) a k n t
-  unfolding runs
-  runs-alike zero t g q = refl
-  runs-alike (suc n) t g q =
-      by (ready s k t)
-      (λ r. let h = ready-going s k t r in
-      runs-go s (withWay kept vol) a k n t r
-      ∙ runs-alike n (step s (withWay kept vol) a t) (step-good t g h) (step-known t g q h)
-      ∙ ap (runs s (withWay worked vol) a k n) (step-alike t g q h)
-      ∙ sym (runs-go s (withWay worked vol) a k n t r))
-      (λ r. runs-stop s (withWay kept vol) a k (suc n) t r ∙ sym (runs-stop s (withWay worked vol) a k (suc n) t r))
-
-  recorded-alike : (t : Turn) → Good s (t .progress) → Known s (withWay kept vol) t → going (s .terms) (t .progress) ≡ true
-      → recorded s (withWay kept vol) a t ≡ recorded s (withWay worked vol) a t
-  unfolding recorded current withWay
-  recorded-alike t g q h = ap (λ (x : Stepped). x .bytes) (stepped-alike s vol t solid g q (current s t) (inputsOf (current s t) a) h)
-
-  pub trail-alike : (n : ℕ) (t : Turn) → Good s (t .progress) → Known s (withWay kept vol) t → trail s (withWay kept vol) a k n t
-      ≡ trail s (withWay worked vol) a k n t
-  trail-alike zero t g q = trail-zero s (withWay kept vol) a k t ∙ sym (trail-zero s (withWay worked vol) a k t)
-  trail-alike (suc n) t g q =
-      by (ready s k t)
-      (λ r. let h = ready-going s k t r in
-      trail-go s (withWay kept vol) a k n t r
-      ∙ ap₂ _∷_ (recorded-alike t g q h) (trail-alike n (step s (withWay kept vol) a t) (step-good t g h) (step-known t g q h)
-      ∙ ap (trail s (withWay worked vol) a k n) (step-alike t g q h))
-      ∙ sym (trail-go s (withWay worked vol) a k n t r))
-      (λ r. trail-stop s (withWay kept vol) a k (suc n) t r ∙ sym (trail-stop s (withWay worked vol) a k (suc n) t r))
-
-  pub runs-known : (n : ℕ) (t : Turn) → Good s (t .progress) → Known s (withWay kept vol) t
-      → Known s (withWay kept vol) (runs s (withWay kept vol) a k n t)
-  unfolding runs
-  runs-known zero t g q = q
-  runs-known (suc n) t g q =
-      by (ready s k t)
-      (λ r. let h = ready-going s k t r in
-      subst (λ (x : Turn). Known s (withWay kept vol) x) (sym (runs-go s (withWay kept vol) a k n t r))
-      (runs-known n (step s (withWay kept vol) a t) (step-good t g h) (step-known t g q h)))
-      (λ r. subst (λ (x : Turn). Known s (withWay kept vol) x) (sym (runs-stop s (withWay kept vol) a k (suc n) t r)) q)

@@ -17,7 +17,7 @@ use Rattle.host.specs.Order.{placeInOrder}
 use Rattle.host.proofs.Laws.Places.{blank}
 use Rattle.machine_rules.specs.View.{spotOf, committedSpots}
 use Rattle.machine_rules.specs.Seats.{seated, committedSeats, seats, allSeats, firstSeat}
-use Rattle.machine_rules.proofs.Laws.Sought.{first-here, first-further, first-none, first-both, orElse}
+use Rattle.machine_rules.proofs.Laws.Found.{first-here, first-further, first-none, first-both, orElse}
 use Rattle.machine_rules.proofs.Laws.Homes.{seats-of-all}
 use Rattle.machine_rules.proofs.Laws.Spots.{disk-every}
 use Rattle.machine_sight.specs.Seen.{spotsOf, holds, lies, Known}

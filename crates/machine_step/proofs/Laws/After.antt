@@ -17,11 +17,13 @@ use Rattle.machine_rules.specs.Effect.{Staging, groundOf, effect, rehashed}
 use Rattle.machine_rules.specs.Run.{ranProgress}
 use Rattle.machine_rules.specs.Facts.{Solid, Good, Within, valid}
 use Rattle.machine_rules.proofs.Laws.Passed.{Passed}
-use Rattle.machine_rules.proofs.Laws.Effects.{few-sectors}
+use Rattle.machine_rules.proofs.Laws.Copies.{few-sectors}
 use Rattle.machine_rules.proofs.Laws.Areas.{effect-bytes, rehashed-length}
 use Rattle.machine_rules.proofs.Laws.Kept.{ran-good}
-use Rattle.machine_rules.proofs.Laws.Lengths.{length-proof, read-span}
-use Rattle.machine_rules.proofs.Laws.Spots.{source-valid, few-spots}
+use Rattle.machine_rules.proofs.Laws.Lengths.{length-proof}
+use Rattle.machine_rules.proofs.Laws.Outputs.{read-span}
+use Rattle.machine_rules.proofs.Laws.Spots.{source-valid}
+use Rattle.machine_rules.proofs.Laws.Few.{few-spots}
 use Rattle.machine_rules.proofs.Laws.Steps.{not-failed, left-going}
 use Rattle.machine_sight.specs.Seen.{spotsOf, Inside, Ranged}
 use Rattle.machine_sight.proofs.Laws.Roots.{seen-count}

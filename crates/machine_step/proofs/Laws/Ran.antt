@@ -11,7 +11,7 @@ use Rattle.machine_rules.specs.Kinds.{reads}
 use Rattle.machine_rules.specs.Effect.{Staging}
 use Rattle.machine_rules.specs.Record.{pairing, runningPair, recordBytes, successBytes, outputOf}
 use Rattle.machine_rules.specs.Run.{ranProgress, succeeding, turned}
-use Rattle.machine_rules.proofs.Laws.Lengths.{count-read, count-change}
+use Rattle.machine_rules.proofs.Laws.Outputs.{count-read, count-change}
 use Rattle.machine_sight.specs.Seen.{spotsOf}
 use Rattle.machine_sight.proofs.Callers.{span-output}
 use Rattle.machine_step.specs.Shown.{shownProof, shownBytes}

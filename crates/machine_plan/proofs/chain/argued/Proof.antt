@@ -6,13 +6,13 @@ use Rattle.machine_rules.specs.View.{readOnlyMode}
 use Rattle.machine_rules.specs.Roots.{keptRoot}
 use Rattle.machine_rules.specs.Plan.{plannedArgs, weighed, Source, isThere, spots, sourceOf}
 use Rattle.machine_rules.specs.Kinds.{changes}
-use Rattle.machine_rules.proofs.Laws.Spots.{few-spots}
+use Rattle.machine_rules.proofs.Laws.Few.{few-spots}
 use Rattle.machine_sight.proofs.Laws.Roots.{seen-count}
 use Rattle.machine_rules.specs.declared.Spot.{Spot}
 use Rattle.machine_plan.specs.Source.{Shows}
 use Rattle.machine_plan.specs.Planned.{says, argued}
 use Rattle.machine_plan.proofs.Laws.Planned.{fails, says-can, says-failed, length-most, room-most}
-use Rattle.machine_rules.proofs.Laws.Effects.{few-sectors}
+use Rattle.machine_rules.proofs.Laws.Copies.{few-sectors}
 use Rattle.machine_plan.proofs.chain.argued.Statement.{statement}
 use Rattle.machine_rules.specs.declared.Plan.{Plan}
 use Rattle.machine_plan.proofs.chain.argued.Tie as tie

@@ -3,7 +3,7 @@ use Rattle.lists.proofs.Kit.{sym, ap, _∙_, List, needs}
 use Rattle.lists.proofs.Laws.Pick.{picks, skips}
 use Rattle.machine_rules.specs.Roots.{keptRoot}
 use Rattle.machine_rules.specs.Seats.{seated, firstSeat}
-use Rattle.machine_rules.proofs.Laws.Sought.{first-none}
+use Rattle.machine_rules.proofs.Laws.Found.{first-none}
 use Rattle.machine_rules.specs.declared.Spot.{Spot}
 use Rattle.machine_sight.proofs.Laws.Lookup.{committed-known}
 use Rattle.machine_sight.proofs.lookup.first_unless.Statement.{statement}
