@@ -20,26 +20,19 @@ use Rattle.bench_program.specs.declared.Outcome.{Outcome}
 pub record Right (all : List ℕ) : Type 0 where
   pub front : 80 ≤ length all
   pub prices : pricesRight all ≡ true
-  pub ids : 80 + numberAt all 72 * 32 + 8 ≤ length all
-  pub head : idsEnd all + 8 + numberAt all (idsEnd all) ≤ length all
-  pub past : 80 ≤ idsEnd all
-  pub sized : idsEnd all + 8 ≤ headEnd all
-  pub ends : headEnd all ≤ length all
+  pub ids : idsEnd all + 8 ≤ length all
+  pub head : headEnd all ≤ length all
 
 pub right : (all : List ℕ) → wrong all ≡ false → Right all
-unfolding wrong cutShort headEnd idsEnd
+unfolding wrong cutShort
 right all e =
-    let second = either-right _ _ e in
-    let third = either-right _ _ second in
-    let fourth = either-right _ _ third in
+    let third = either-right _ _ (either-right _ _ e) in
+    let last = either-right _ _ third in
     record {
       front = ltb-false _ _ (either-left _ _ e);
       prices = not-false _ (either-left _ _ third);
-      ids = ltb-false _ _ (either-left _ _ fourth);
-      head = ltb-false _ _ (either-right _ _ fourth);
-      past = omega arith;
-      sized = omega arith;
-      ends = ltb-false _ _ (either-right _ _ fourth);
+      ids = ltb-false _ _ (either-left _ _ last);
+      head = ltb-false _ _ (either-right _ _ last);
     }
 
 -- where ids and head of such an input end
@@ -49,9 +42,8 @@ pub record Within (all : List ℕ) (ids head : ℕ) : Type 0 where
   pub ends : head ≤ length all
 
 pub within : (all : List ℕ) {ids head : ℕ} → wrong all ≡ false → ids ≡ idsEnd all → head ≡ headEnd all → Within all ids head
-within all e g h =
-    let r = right all e in
-    record { past = omega (arith, r .past); sized = omega (arith, r .sized); ends = omega (arith, r .ends) }
+unfolding headEnd idsEnd
+within all e g h = record { past = omega (arith, g); sized = omega (arith, g, h); ends = omega (arith, h, right all e .head) }
 
 pub price-within : (all : List ℕ) (i : ℕ) → pricesRight all ≡ true → i < 7 → numberAt all (8 + i * 8) ≤ 65535
 unfolding pricesRight
