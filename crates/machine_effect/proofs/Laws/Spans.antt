@@ -5,7 +5,7 @@ use Rattle.area.specs.Area.{part, put, exchanged}
 use Rattle.area.proofs.Laws.Parts.{length-part, part-part}
 use Rattle.host.specs.Empty.{none}
 use Rattle.machine_rules.specs.Effect.{Ground, Staging, copied, spanRead, laid, spanWritten}
-use Rattle.machine_rules.proofs.Laws.Effects.{length-copied as length-map}
+use Rattle.machine_rules.proofs.Laws.Copies.{length-copied as length-map}
 use Rattle.machine_rules.proofs.Laws.Copies.{copied-map}
 use Rattle.machine_effect.specs.Parts.{staging, placeOf, spanCopied, spansSwapped}
 use Rattle.machine_effect.specs.Asks.{bare, Lent, Lies, Room, From, Over, Two}
