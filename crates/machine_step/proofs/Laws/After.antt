@@ -1,21 +1,19 @@
 -- After the effect of an instruction that can run: what rehashing, the parent's root and the record ask. q is the parent, x the stage that the
 -- effect left, roots those kept beside its slots. Assumes nothing.
-use Rattle.lists.proofs.Kit.{_≡_, refl, sym, ap, _∙_, subst, Bool, false, true, List, ℕ, _+_, _*_, _-_, _≤_, _<_, _^_, arith, length, take, drop, length-drop}
-use Rattle.lists.proofs.Kit.{leb-true, not-false, eqb-false, []}
+use Rattle.lists.proofs.Kit.{_≡_, refl, sym, ap, _∙_, subst, Bool, false, true, List, ℕ, _+_, _*_, _-_, _≤_, arith, length, take, drop, length-drop}
+use Rattle.lists.proofs.Kit.{not-false, eqb-false, []}
 use Rattle.lists.specs.Pick.{pick}
 use Rattle.lists.specs.Tests.{every}
-use Rattle.lists.proofs.Laws.Pick.{both-left, both-right, picks, either-left}
+use Rattle.lists.proofs.Laws.Pick.{picks, either-left}
 use Rattle.area.specs.Area.{part}
 use Rattle.area.proofs.Laws.Lent.{rest-take}
-use Rattle.sia.specs.Encode.{within}
-use Rattle.host.specs.Order.{termsInOrder}
 use Rattle.machine_rules.specs.View.{Turn, parent, Volume}
 use Rattle.machine_rules.specs.Roots.{keptRoot, rootAt, rangeProof}
 use Rattle.machine_rules.specs.Plan.{seen, spots, badSpan, badProof, touched, outputCount, recordCount}
 use Rattle.machine_rules.specs.Kinds.{reads}
 use Rattle.machine_rules.specs.Effect.{Staging, groundOf, effect, rehashed}
 use Rattle.machine_rules.specs.Run.{ranProgress}
-use Rattle.machine_rules.specs.Facts.{Solid, Good, Within, valid}
+use Rattle.machine_rules.specs.Facts.{Good, Within, valid}
 use Rattle.machine_rules.proofs.Laws.Passed.{Passed}
 use Rattle.machine_rules.proofs.Laws.Copies.{few-sectors}
 use Rattle.machine_rules.proofs.Laws.Areas.{effect-bytes, rehashed-length}
@@ -27,7 +25,6 @@ use Rattle.machine_rules.proofs.Laws.Few.{few-spots}
 use Rattle.machine_rules.proofs.Laws.Steps.{not-failed, left-going}
 use Rattle.machine_sight.specs.Seen.{spotsOf, Inside, Ranged}
 use Rattle.machine_sight.proofs.Laws.Roots.{seen-count}
-use Rattle.machine_sight.proofs.Looks.{program-seeks}
 use Rattle.machine_sight.proofs.Callers.{seen-valid, seen-known, span-inside, range-ranged}
 use Rattle.machine_effect.specs.Parts.{ground, staging}
 use Rattle.machine_effect.specs.Asks as Effect
@@ -36,11 +33,11 @@ use Rattle.machine_effect.proofs.Callers.{rehashes}
 use Rattle.machine_effect.proofs.Laws.Passed.{stands-with}
 use Rattle.machine_plan.specs.Planned.{said}
 use Rattle.machine_step.specs.Shown.{shownProof, Shows}
-use Rattle.machine_step.specs.Asks.{Reads, Steps, Tasked}
+use Rattle.machine_step.specs.Asks.{Reads, Tasked}
 use Rattle.machine_step.proofs.Laws.Readers.{reads-kept}
+use Rattle.machine_step.proofs.Laws.Sights.{reads-good}
 use Rattle.machine_step.proofs.Laws.Task.{Fits, fits}
 use Rattle.sia.specs.declared.Instruction.{Instruction}
-use Rattle.sia.specs.declared.Op.the-variants.{Write}
 use Rattle.host.specs.declared.Place.{Place}
 use Rattle.host.specs.declared.Progress.{Progress}
 use Rattle.machine_rules.specs.declared.Plan.{Plan}
@@ -48,22 +45,8 @@ use Rattle.machine_rules.specs.declared.Setting.{Setting}
 use Rattle.machine_rules.specs.declared.Spot.{Spot}
 use Rattle.machine_plan.specs.declared.Task.{Task}
 
--- a root is kept beside each sector of the parent of a program in order
-pub reads-good : (s : Setting) (vol : Volume) (g : Progress) (diskroots stageroots : List ℕ) (q : Place) → Solid s vol → Good s g
-    → length diskroots ≡ 2048 → length stageroots ≡ 512 → q ≡ parent s → Reads (s .sector) diskroots stageroots q g
-unfolding parent
-reads-good s vol g diskroots stageroots q solid good d e own =
-    let seeks = program-seeks s vol diskroots solid d stageroots e g good in
-    subst (λ (p : Place). Reads (s .sector) diskroots stageroots p g) (sym own)
-    (record { size = solid .lent .size; few = seeks .few; spots = seeks .own })
-
--- a head within limits has at most 32 instructions
-pub within-count : (s : Setting) (vol : Volume) (t : Turn) {input : List ℕ} → Steps s vol t input → s .terms .head .count ≤ 32
-unfolding termsInOrder within
-within-count s vol t x = leb-true _ _ (both-left _ _ (both-left _ _ (both-right _ _ (x .good .terms))))
-
 module _ (s : Setting) (vol : Volume) (t : Turn) (input : List ℕ) (i : Instruction) (r : Task) (x : Tasked s vol t input i r) where
-  fit : Fits s vol t input i (said r)
+  pub fit : Fits s vol t input i (said r)
   fit = fits s vol t input i r x
 
   -- the stage after the effect, the roots kept beside its slots, and the progress
@@ -92,9 +75,6 @@ module _ (s : Setting) (vol : Volume) (t : Turn) (input : List ℕ) (i : Instruc
     effect-is e =
         e ∙ ap (λ (p : Place). effect (s .sector) (ground (s .stagesectors) (p .slots) (vol .disk)) (t .progress .size) (r .op) (r .args)
         (part input (r .from) (r .args .len)) (staging (t .progress .staged) (t .stage))) own
-
-  pub source-asks : r .op ≡ Write → r .from + r .args .len ≤ length input
-  source-asks = fit .source
 
   -- ---- the roots
 
@@ -192,7 +172,6 @@ module _ (s : Setting) (vol : Volume) (t : Turn) (input : List ℕ) (i : Instruc
   room : 72 + 32 * r .plan .hashes + pick (reads (r .op)) (r .args .len) 0 ≤ length (drop (t .progress .written) (t .output))
   unfolding outputCount recordCount
   room =
-      let fitting = fit .passed .room in
       omega (
         arith,
         fit .passed .room,
@@ -224,14 +203,3 @@ module _ (s : Setting) (vol : Volume) (t : Turn) (input : List ℕ) (i : Instruc
       let out = drop (t .progress .written) (t .output) in
       subst (Shown y l rd) (sym (rest-take (t .output) (t .progress .written)))
       (subst (λ (y : Staging). Shown y l rd out) (sym e) (subst (λ (l : List ℕ). Shown after l rd out) (sym k) (subst (λ (rd : Bool). Shown after roots rd out) (sym b) shows)))
-
-  -- ---- no sum passes 64 bits
-
-  pub counts : (t .progress .ran + 1 < 2 ^ 64) × ((t .progress .tally + r .plan .cost < 2 ^ 64) × (t .progress .written + r .plan .count ≤ length (t .output)))
-  counts = (
-    omega (arith, left-going s t (x .steps .going) .1, within-count s vol t (x .steps)),
-    (
-      omega (arith, fit .passed .paid, ap (λ (w : Plan). w .cost) (fit .plan), x .small),
-      omega (arith, fit .passed .room, x .steps .output),
-    ),
-  )

@@ -16,7 +16,7 @@ use Rattle.machine_sight.specs.Seen.{holds}
 use Rattle.machine_sight.proofs.Callers.{slots-hold}
 use Rattle.machine_sight.specs.Lookup.{Stands}
 use Rattle.machine_step.specs.Asks.{Reads}
-use Rattle.machine_step.proofs.Laws.After.{reads-good}
+use Rattle.machine_step.proofs.Laws.Sights.{reads-good}
 use Rattle.machine_step.specs.Turns.{Ready, Runs}
 use Rattle.host.specs.declared.Place.{Place}
 use Rattle.host.specs.declared.Host.{Host}

@@ -18,7 +18,7 @@ use Rattle.machine_sight.proofs.Looks.{program-seeks}
 use Rattle.machine_plan.specs.Planned.{Plans}
 use Rattle.host.proofs.Laws.Whose.{whose-order}
 use Rattle.machine_step.specs.Asks.{Steps, steppedTurn}
-use Rattle.machine_step.proofs.Laws.After.{within-count}
+use Rattle.machine_step.proofs.Laws.Sights.{within-count}
 use Rattle.machine_step.proofs.Laws.Readers.{reads-kept}
 use Rattle.sia.specs.declared.Instruction.{Instruction}
 use Rattle.host.specs.declared.Progress.{Progress}

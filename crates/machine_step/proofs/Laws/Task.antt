@@ -1,6 +1,6 @@
 -- A task that is what its definition says: its number is what the checks say and, where that is 0, what goes with it is what the step starts from.
 -- Assumes nothing.
-use Rattle.lists.proofs.Kit.{_≡_, refl, sym, ap, _∙_, subst, Bool, false, List, ℕ, _+_, _≤_, _<_, arith, length, drop, length-take, length-drop, eqb, eqb-false}
+use Rattle.lists.proofs.Kit.{_≡_, refl, sym, ap, _∙_, subst, Bool, false, List, ℕ, _+_, _≤_, _<_, _^_, arith, length, drop, length-take, length-drop, eqb, eqb-false}
 use Rattle.lists.proofs.Kit.{eq-eqb}
 use Rattle.lists.specs.Pick.{both}
 use Rattle.lists.proofs.Laws.Pick.{by, picks, skips, either-left}
@@ -14,12 +14,14 @@ use Rattle.machine_rules.specs.Effect.{Staging, groundOf, rehashed}
 use Rattle.machine_rules.specs.Record.{successBytes}
 use Rattle.machine_rules.specs.Run.{Stepped, ranProgress, succeeding, stepped}
 use Rattle.machine_rules.proofs.Laws.Passed.{Passed, planFine, Can, can, stepped-ran}
+use Rattle.machine_rules.proofs.Laws.Steps.{left-going}
 use Rattle.machine_effect.specs.Parts.{staging}
 use Rattle.machine_effect.proofs.Laws.Cases.{effect-data}
 use Rattle.machine_inputs.specs.Given.{fromOf}
 use Rattle.machine_inputs.proofs.Laws.Given.{data-given, count-right}
 use Rattle.machine_plan.specs.Planned.{says, Said, said, failed, planOf}
 use Rattle.machine_step.specs.Asks.{Tasked}
+use Rattle.machine_step.proofs.Laws.Sights.{within-count}
 use Rattle.sia.specs.declared.Instruction.{Instruction}
 use Rattle.sia.specs.declared.Op.{Op}
 use Rattle.sia.specs.declared.Op.the-variants.{Write}
@@ -134,3 +136,15 @@ fits s vol t input i r x =
     let zero = sym (number-is s vol t input i r (x .told)) ∙ x .zero in
     subst (Fits s vol t input i) (sym (x .told ∙ says-is s vol t input i (x .operands) (x .steps .input) zero))
     (done-fits s vol t input i (x .operands) (x .steps .input) zero)
+
+-- no sum passes 64 bits
+pub counts : (s : Setting) (vol : Volume) (t : Turn) (input : List ℕ) (i : Instruction) (r : Task) → Tasked s vol t input i r
+    → (t .progress .ran + 1 < 2 ^ 64) × ((t .progress .tally + r .plan .cost < 2 ^ 64) × (t .progress .written + r .plan .count ≤ length (t .output)))
+counts s vol t input i r x =
+    let f = fits s vol t input i r x in (
+      omega (arith, left-going s t (x .steps .going) .1, within-count s vol t (x .steps)),
+      (
+        omega (arith, f .passed .paid, ap (λ (w : Plan). w .cost) (f .plan), x .small),
+        omega (arith, f .passed .room, x .steps .output),
+      ),
+    )

@@ -2,6 +2,7 @@
 use Rattle.lists.proofs.Kit.{_≤_, arith, length, needs}
 use Rattle.area.proofs.Laws.Lent.{lent}
 use Rattle.machine_rules.specs.View.{Turn, turn, Volume, volume}
+use Rattle.machine_step.proofs.Laws.Task.{counts}
 use Rattle.machine_step.proofs.Laws.After as After
 use Rattle.machine_step.proofs.Laws.Ran.{ran-is}
 use Rattle.machine_step.proofs.running.succeed.Statement.{statement}
@@ -42,7 +43,7 @@ the-turn s = turn (s .args .progress) (s .args .stage .now) (s .args .output .no
 effect-requires : tie.Need-effect-requires
 effect-requires c κs =
     let found = c .before .before .before in let s = at-start found in
-    (After.effect-asks _ (the-volume s) (the-turn s) _ _ _ (s .pre) (found .parent .ensures), After.source-asks _ (the-volume s) (the-turn s) _ _ _ (s .pre))
+    (After.effect-asks _ (the-volume s) (the-turn s) _ _ _ (s .pre) (found .parent .ensures), After.fit _ (the-volume s) (the-turn s) _ _ _ (s .pre) .source)
 
 rehash-requires : tie.Need-rehash-requires
 rehash-requires c κs =
@@ -54,7 +55,7 @@ rehash-requires c κs =
 advanced-requires : tie.Need-advanced-requires
 advanced-requires c κs =
     let s = at-start (at-parent (at-effect (c .before .before))) in
-    let n = After.counts _ (the-volume s) (the-turn s) _ _ _ (s .pre) in
+    let n = counts _ (the-volume s) (the-turn s) _ _ _ (s .pre) in
     (n .0, (n .1 .0, omega (arith, n .1 .1, s .good)))
 
 running-root-requires : tie.Need-running-root-requires
@@ -70,7 +71,7 @@ within : (c : tie.After-put-success-arg2) → let s = at-start (at-parent (at-ef
     s .args .progress .written ≤ length (s .args .output .now)
 within c =
     let s = at-start (at-parent (at-effect (at-rehash (at-advanced (at-root c))))) in
-    omega (arith, After.counts _ (the-volume s) (the-turn s) _ _ _ (s .pre) .1 .1)
+    omega (arith, counts _ (the-volume s) (the-turn s) _ _ _ (s .pre) .1 .1)
 
 put-success-requires : tie.Need-put-success-requires
 put-success-requires c κs =
