@@ -139,14 +139,15 @@ pub fn close(
     ensures { λ r. ⌜ closeLeaves r (now (disk .exit)) ≡ Says.close (now (disk .entry)) host (now (stage .entry)) agree size root ⌝ }
 {
     let lent = host_order::areas_right(host.sector, host.disk, host.stage, &*disk, stage);
-    let number = refusing::refusal(host, lent);
+    let program = host.program;
+    let ordered = host_order::in_order(host);
+    let number = refusing::refusal(ordered, lent, program.active);
     if number != 0 {
         return refused(number, host);
     }
     if !agree {
         return give_up(0, host);
     }
-    let program = host.program;
     if unfinished(program) {
         return refused(13, host);
     }

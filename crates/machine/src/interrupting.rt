@@ -48,11 +48,12 @@ pub fn interrupt(host: Host, disk: &[u8], output: &mut [u8]) -> Answer
     ensures { λ r. ⌜ interruptLeaves r (now (output .exit)) ≡ Says.interrupt (now (disk .entry)) host (now (output .entry)) ⌝ }
 {
     let lent = interrupt_lent(host, disk, &*output);
-    let number = refusing::refusal(host, lent);
+    let program = host.program;
+    let ordered = host_order::in_order(host);
+    let number = refusing::refusal(ordered, lent, program.active);
     if number != 0 {
         return refusing::refused(number, host);
     }
-    let program = host.program;
     if machine_step::going(program) {
         return stop(host, output);
     }

@@ -94,11 +94,12 @@ pub fn piece(
         Says.piece (now (disk .entry)) host (now (stage .entry)) (now (input .entry)) (now (output .entry)) (now (bytes .entry)) ⌝ }
 {
     let lent = piece_lent(host, disk, &*stage, &*input, &*output);
-    let number = refusing::refusal(host, lent);
+    let program = host.program;
+    let ordered = host_order::in_order(host);
+    let number = refusing::refusal(ordered, lent, program.active);
     if number != 0 {
         return refusing::refused(number, host);
     }
-    let program = host.program;
     let terms = program.terms;
     let head = terms.head;
     if passes(program.came, bytes.len(), head.length) {

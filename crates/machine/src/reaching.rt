@@ -51,7 +51,9 @@ pub fn reached(host: Host, disk: &[u8], stage: &[u8]) -> Reached
     ensures { λ r. ⌜ r ≡ Says.reached (now (disk .entry)) host (now (stage .entry)) ⌝ }
 {
     let lent = host_order::areas_right(host.sector, host.disk, host.stage, disk, stage);
-    let number = refusing::refusal(host, lent);
+    let program = host.program;
+    let ordered = host_order::in_order(host);
+    let number = refusing::refusal(ordered, lent, program.active);
     if number != 0 {
         return unreached(number);
     }

@@ -1,21 +1,23 @@
 // The refusal of a call on the open program, for the calls that ask for one: pieces, interrupts, what it has reached, closing.
 ghost use mathlib.Core.Path.{_≡_};
+ghost use mathlib.Core.Bool.{not};
+ghost use Rattle.lists.specs.Pick.{pick};
 ghost use Rattle.machine_rules.specs.Calls as Says;
 use host::Host;
 use machine_rules::Answer;
 
-// Why a call on the open program is refused: 1, 2, 4; 0 if it is not. `lent` says whether what it lends is as long as stated.
-pub fn refusal(host: Host, lent: bool) -> u64
-    ensures { λ r. ⌜ r ≡ Says.refusal host lent ⌝ }
+// Why a call on the open program is refused: 1, 2, 4; 0 if it is not. It is told whether the host is in order, whether what the call lends is as long
+// as stated, and whether a program is open: with the host itself, a call would copy it once more.
+pub fn refusal(ordered: bool, lent: bool, active: bool) -> u64
+    ensures { λ r. ⌜ r ≡ pick (not ordered) 1 (pick (not lent) 2 (pick (not active) 4 0)) ⌝ }
 {
-    if !host_order::in_order(host) {
+    if !ordered {
         return 1;
     }
     if !lent {
         return 2;
     }
-    let program = host.program;
-    if !program.active {
+    if !active {
         return 4;
     }
     0

@@ -1,5 +1,6 @@
 -- What the calls know of a host: its refusal, by the number that the code has; and what a host in order gives. Assumes nothing.
-use Rattle.lists.proofs.Kit.{_≡_, sym, ap, ap₂, _∙_, true, false, not, List, [], ℕ, _+_, _≤_, arith, length, leb-true, not-true, eqb, eqb-true, eq-eqb, ne-eqb}
+use Rattle.lists.proofs.Kit.{_≡_, sym, ap, ap₂, _∙_, Bool, true, false, not, List, [], ℕ, _+_, _≤_, arith, length, eqb}
+use Rattle.lists.proofs.Kit.{leb-true, not-true, eqb-true, eq-eqb, ne-eqb}
 use Rattle.lists.specs.Pick.{pick}
 use Rattle.lists.proofs.Laws.Pick.{yes, no, skips, both-left, both-right}
 use Rattle.area.specs.Area.{put}
@@ -10,7 +11,7 @@ use Rattle.machine_rules.specs.View.{Turn, turn, turnOf, withRun, settingOf, vo
 use Rattle.machine_rules.specs.Record.{recordBytes, failureBytes}
 use Rattle.machine_rules.specs.Run.{failedProgress, failing, going, run, turned}
 use Rattle.machine_rules.specs.Calls.{inputRight, outputRight, Pieced, pieced, acceptedBy, accepted, interrupted, stoppedBy, stopped}
-use Rattle.machine_rules.specs.Calls.{reachedPairBy, reachedPair}
+use Rattle.machine_rules.specs.Calls.{refusal, reachedPairBy, reachedPair}
 use Rattle.machine_step.proofs.Laws.Hosts.{starting-any, running-any}
 use Rattle.machine.specs.Asks.{Stops}
 use Rattle.host.specs.declared.Progress.{Progress}
@@ -18,7 +19,12 @@ use Rattle.machine_rules.specs.declared.Setting.{Setting}
 use Rattle.host.specs.declared.Host.{Host}
 use Rattle.machine_rules.specs.declared.Pair.{Pair}
 
--- ---- a refusal that the code tests by its number
+-- ---- a refusal, and the code that tests it by its number
+
+pub refusal-told : (h : Host) {ordered lent right : Bool} {r : ℕ} → r ≡ pick (not ordered) 1 (pick (not lent) 2 (pick (not (h .program .active)) 4 0))
+    → ordered ≡ inOrder h → lent ≡ right → r ≡ refusal h right
+unfolding refusal
+refusal-told h e p q = e ∙ ap₂ (λ (o l : Bool). pick (not o) 1 (pick (not l) 2 (pick (not (h .program .active)) 4 0))) p q
 
 pub stops : {A : Type 0} {r : A} {n m : ℕ} (answer : ℕ → A) (rest : A) → m ≡ n → (m ≡ 0 → ⊥) → r ≡ answer m
     → r ≡ pick (not (eqb n 0)) (answer n) rest

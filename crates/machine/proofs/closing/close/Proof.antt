@@ -8,14 +8,17 @@ use Rattle.machine_rules.specs.Commit.{Closed, closed, givenUp, closeBy}
 use Rattle.machine_rules.proofs.Laws.Refusals.{Past, past-zero}
 use Rattle.machine.specs.Closes.{closeLeaves}
 use Rattle.machine.specs.declared.closing.Closing.{Closing}
-use Rattle.machine.proofs.Laws.Hosts.{stops, goes-on}
+use Rattle.machine.proofs.Laws.Hosts.{refusal-told, stops, goes-on}
 use Rattle.machine.proofs.closing.close.Statement.{statement}
 use Rattle.machine.proofs.closing.close.Tie as tie
 
 -- ---- the beginning, and what a call leaves that does not write to the disk
 
+abbrev lent : tie.After-refusal → tie.After-areas-right
+lent c = c .before .before .before
+
 abbrev start : tie.After-refusal → tie.Start
-start c = let known = c .before .before .before in known .before .before
+start c = let known = lent c .before .before in known .before .before
 
 abbrev leaves : tie.Start → Closing → Closed
 leaves s r = closeLeaves r (s .args .disk .now)
@@ -24,13 +27,13 @@ leaves s r = closeLeaves r (s .args .disk .now)
 
 number : (c : tie.After-refusal) → let a = start c .args in c .refusal .result ≡ refusal (a .host) (areasRight (a .host) (a .disk .now) (a .stage .now))
 unfolding areasRight diskRight
-number c = c .refusal .ensures ∙ ap (refusal (start c .args .host)) (c .before .areas-right .ensures)
+number c = refusal-told (start c .args .host) (c .refusal .ensures) (c .before .in-order .ensures) (lent c .areas-right .ensures)
 
 past : (c : tie.Else1) → let a = start (c .before) .args in Past (a .host) (areasRight (a .host) (a .disk .now) (a .stage .now))
 past c = past-zero _ _ (sym (number (c .before)) ∙ c .if1 .left)
 
 abbrev agrees : tie.After-unfinished → tie.Else2
-agrees c = c .before .before
+agrees c = c .before
 
 -- ---- the needs
 
@@ -72,6 +75,6 @@ returns-4 c =
 
 pub close-spec : {M : Type 1} → statement M
 close-spec =
-    tie.close (tie.spec (λ c κs. search needs) (λ c κs. search needs) (λ c κs. search needs) (λ c. search needs) returns
+    tie.close (tie.spec (λ c κs. search needs) (λ c κs. search needs) (λ c κs. search needs) (λ c κs. search needs) (λ c. search needs) returns
     (λ c κs. search needs) (λ c. search needs) returns-2 (λ c κs. search needs) (λ c κs. search needs) (λ c. search needs) returns-3
     agree-to-requires (λ c. search needs) returns-4)

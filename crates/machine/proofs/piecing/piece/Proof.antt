@@ -5,15 +5,18 @@ use Rattle.host.proofs.Laws.Order.{came-within}
 use Rattle.machine_rules.specs.Calls.{Pieced, pieced, pieceLent, refusal, pieceBy}
 use Rattle.machine_rules.proofs.Laws.Refusals.{Past, past-zero, piece-areas, piece-own}
 use Rattle.machine.specs.Asks.{pieceLeaves}
-use Rattle.machine.proofs.Laws.Hosts.{stops, goes-on}
+use Rattle.machine.proofs.Laws.Hosts.{refusal-told, stops, goes-on}
 use Rattle.machine_rules.specs.declared.Answer.{Answer}
 use Rattle.machine.proofs.piecing.piece.Statement.{statement}
 use Rattle.machine.proofs.piecing.piece.Tie as tie
 
 -- ---- the beginning, and what a call leaves that changes no area
 
+abbrev lent : tie.After-refusal → tie.After-piece-lent
+lent c = c .before .before .before
+
 abbrev start : tie.After-refusal → tie.Start
-start c = let args = c .before .before in let known = args .before .before .before in let first = known .before .before .before in first .before .before
+start c = let args = lent c .before .before .before in let known = args .before .before .before in known .before .before .before
 
 abbrev leaves : tie.Start → Answer → Pieced
 leaves s r = pieceLeaves r (s .args .stage .now) (s .args .input .now) (s .args .output .now)
@@ -22,14 +25,14 @@ leaves s r = pieceLeaves r (s .args .stage .now) (s .args .input .now) (s .args 
 
 number : (c : tie.After-refusal) → let a = start c .args in
     c .refusal .result ≡ refusal (a .host) (pieceLent (a .host) (a .disk .now) (a .stage .now) (a .input .now) (a .output .now))
-number c = c .refusal .ensures ∙ ap (refusal (start c .args .host)) (c .before .piece-lent .ensures)
+number c = refusal-told (start c .args .host) (c .refusal .ensures) (c .before .in-order .ensures) (lent c .piece-lent .ensures)
 
 past : (c : tie.Else1) → let a = start (c .before) .args in
     Past (a .host) (pieceLent (a .host) (a .disk .now) (a .stage .now) (a .input .now) (a .output .now))
 past c = past-zero _ _ (sym (number (c .before)) ∙ c .if1 .left)
 
 abbrev open-1 : tie.After-passes → tie.Else1
-open-1 c = let read = c .before in read .before .before .before
+open-1 c = c .before .before .before
 
 -- ---- the needs
 
@@ -72,8 +75,8 @@ returns-3 c =
 
 pub piece-spec : {M : Type 1} → statement M
 piece-spec =
-    tie.close (tie.spec (λ c κs. search needs) (λ c κs. search needs) (λ c κs. search needs) (λ c. search needs) (λ c. search needs)
+    tie.close (tie.spec (λ c κs. search needs) (λ c κs. search needs) (λ c κs. search needs) (λ c κs. search needs) (λ c. search needs) (λ c. search needs)
     (λ c. search needs) returns
-    (λ c κs. let p = past (c .before .before .before) in came-within _ (p .order) (p .live))
+    (λ c κs. let p = past (c .before .before) in came-within _ (p .order) (p .live))
     (λ c κs. search needs) (λ c. search needs) (λ c. search needs) (λ c. search needs) returns-2 accept-requires
     (λ c. search needs) (λ c. search needs) (λ c. search needs) returns-3)
