@@ -66,7 +66,8 @@ runs-bytes s vol a k (suc n) t solid g e d c =
     (λ r.
     let rest = together (trail s vol a k n (step s vol a t)) in
     ap (λ (x : Turn). x .output) (runs-go s vol a k n t r)
-    ∙ runs-bytes s vol a k n (step s vol a t) solid (step-good s vol a t (solid .lent) (ready-going s k t r) g) (step-stage s vol a t ∙ e) d (step-roots s vol a t ∙ c)
+    ∙ runs-bytes s vol a k n (step s vol a t) solid (step-good s vol a t (solid .lent) (ready-going s k t r) g) (step-stage s vol a t ∙ e) d
+    (step-roots s vol a t ∙ c)
     ∙ ap₂ (λ (d : List ℕ) (m : ℕ). put d m rest) (step-output s vol a t) (step-written s vol a t solid g e d c)
     ∙ put-append (t .output) (t .progress .written) (recorded s vol a t) rest _ refl
     ∙ ap (λ (l : List (List ℕ)). put (t .output) (t .progress .written) (together l)) (sym (trail-go s vol a k n t r)))

@@ -46,7 +46,8 @@ pub record Faithful (h : Host) (a : Areas) : Type 0 where
 pub record Bytewise (s : Setting) (vol : Volume) (stage : List ℕ) (l : List Spot) : Type 0 where
   pub root : contractRoot (sectorRoot (s .sector) (vol .disk) stage) l ≡ Tree.root (whole (s .sector) (vol .disk) stage l)
   pub proof : (at n : ℕ) → Within (s .sector) (length l) at n
-      → rangeProof (s .sector) (sectorRoot (s .sector) (vol .disk) stage) (vol .disk) stage l at n ≡ Walk.proof (whole (s .sector) (vol .disk) stage l) (at / 64) ((at + n) / 64)
+      → rangeProof (s .sector) (sectorRoot (s .sector) (vol .disk) stage) (vol .disk) stage l at n ≡ Walk.proof (whole (s .sector) (vol .disk) stage l)
+      (at / 64) ((at + n) / 64)
 
 -- of a sound host: every call, refused or not, leaves it sound with the areas as the call leaves them
 pub record Sounds (h : Host) (a : Areas) : Type 0 where

@@ -13,7 +13,8 @@ use Rattle.sia.specs.Names.{opOf}
 use Rattle.host.specs.Empty.{noPlace}
 use Rattle.host.specs.Places.{hasId, taken}
 use Rattle.host.specs.Order.{inOrder}
-use Rattle.machine_rules.specs.View.{kept, worked, Turn, turnOf, readOnlyMode, sector, parent, spotOf, parentSpots, committedSpots, Volume, settingOf, volumeOf}
+use Rattle.machine_rules.specs.View.{kept, worked, Turn, turnOf, readOnlyMode, sector}
+use Rattle.machine_rules.specs.View.{parent, spotOf, parentSpots, committedSpots, Volume, settingOf, volumeOf}
 use Rattle.machine_rules.specs.declared.Setting.{Setting}
 use Rattle.machine_rules.specs.Roots.{rootOf, rootAt}
 use Rattle.machine_rules.specs.Seats.{nobody, seatsOf, firstSeat, seatsIn, isStaged, notLocated, locatedBy, located}

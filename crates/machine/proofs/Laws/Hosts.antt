@@ -49,7 +49,8 @@ unfolding inputRight
 input-long h input e = eqb-true _ _ e
 
 -- a piece, from what its functions left
-pub accepted-is : (disk : List ℕ) (h : Host) (stage input output bytes : List ℕ) {area : List ℕ} {g : Progress} {st out roots : List ℕ} {k : ℕ} {s : Setting} → s ≡ settingOf h
+pub accepted-is : (disk : List ℕ) (h : Host) (stage input output bytes : List ℕ) {area : List ℕ} {g : Progress} {st out roots : List ℕ} {k : ℕ} {s : Setting}
+    → s ≡ settingOf h
     → area ≡ put input (h .program .came) bytes → k ≡ h .program .came + length bytes
     → turn g st out roots ≡ run s (volumeOf h disk) area k (turnOf h stage output)
     → pieced 0 (g .tally) (withRun h k g roots) st area out ≡ accepted disk h stage input output bytes

@@ -57,7 +57,8 @@ module _ (s : Setting) (vol : Volume) (p : Progress) (bytes : List ℕ) (good : 
       record {
         entry = omega (arith, inside, sectors);
         there = λ h.
-            let slot = ltb-true _ _ (committed-slot s vol p solid staged under (at / s .sector) (unstaged s vol p solid staged under (at / s .sector) inside h)) in
+            let slot = ltb-true _ _ (committed-slot s vol p solid staged under (at / s .sector)
+            (unstaged s vol p solid staged under (at / s .sector) inside h)) in
             subst (λ (k : ℕ). getD (whose (s .terms .head .contract) (s .places) .slots) (at / s .sector) 0 * s .sector + (s .sector) ≤ k) (sym (solid .disk))
             (slot-ends (s .sector) (getD (whose (s .terms .head .contract) (s .places) .slots) (at / s .sector) 0) (s .disksectors) slot);
       }
@@ -65,16 +66,22 @@ module _ (s : Setting) (vol : Volume) (p : Progress) (bytes : List ℕ) (good : 
   source : (at n : ℕ) → badSpan (s .sector) (p .size) at n ≡ false → From (s .sector) (groundOf s vol) (staging (p .staged) bytes) at n
   source at n h = record { lies = lies at (span-in (s .sector) (p .size) at n h); within = span-few (s .sector) (p .size) at n h }
 
-  over : (at n : ℕ) → badSpan (s .sector) (p .size) at n ≡ false → asks (p .staged) (at / s .sector) ≤ freeCopies s p → Over (s .sector) (groundOf s vol) (staging (p .staged) bytes) at n
+  over : (at n : ℕ) → badSpan (s .sector) (p .size) at n ≡ false → asks (p .staged) (at / s .sector) ≤ freeCopies s p → Over (s .sector) (groundOf s vol)
+      (staging (p .staged) bytes) at n
   unfolding freeCopies
   over at n h free =
       record {
-        room = record { lies = lies at (span-in (s .sector) (p .size) at n h); free = asked (s .stagesectors) (staging (p .staged) bytes) (at / s .sector) free };
+        room = record {
+          lies = lies at (span-in (s .sector) (p .size) at n h);
+          free = asked (s .stagesectors) (staging (p .staged) bytes)
+              (at / s .sector) free;
+        };
         within = span-few (s .sector) (p .size) at n h;
       }
 
   spans : (one two n : ℕ) → badSpan (s .sector) (p .size) one n ≡ false → badSpan (s .sector) (p .size) two n ≡ false
-      → pick (eqb (one / s .sector) (two / s .sector)) (asks (p .staged) (two / s .sector)) (asks (p .staged) (two / s .sector) + asks (p .staged) (one / s .sector)) ≤ freeCopies s p
+      → pick (eqb (one / s .sector) (two / s .sector)) (asks (p .staged) (two / s .sector))
+      (asks (p .staged) (two / s .sector) + asks (p .staged) (one / s .sector)) ≤ freeCopies s p
       → Two (s .sector) (groundOf s vol) (staging (p .staged) bytes) one two n
   unfolding freeCopies
   spans one two n h k free =
@@ -87,7 +94,8 @@ module _ (s : Setting) (vol : Volume) (p : Progress) (bytes : List ℕ) (good : 
         second = second;
         first = record {
           room = record {
-            lies = lies-copied (s .sector) (groundOf s vol) g (two / s .sector) lent (second .room) (one / s .sector) (lies one (span-in (s .sector) (p .size) one n h));
+            lies = lies-copied (s .sector) (groundOf s vol) g (two / s .sector) lent (second .room) (one / s .sector)
+                (lies one (span-in (s .sector) (p .size) one n h));
             free = asked (s .stagesectors) (copied (s .sector) (groundOf s vol) (two / s .sector) g) (one / s .sector)
                 (subst (λ (m : List ℕ). asks m (one / s .sector) ≤ count (unused m) 0 (s .stagesectors)) (sym map) (both .1));
           };
@@ -102,7 +110,12 @@ module _ (s : Setting) (vol : Volume) (p : Progress) (bytes : List ℕ) (good : 
       record {
         more = λ lt. below (p .size) new lt le;
         less = λ lt. below new (p .size) lt (omega (arith, good .orderly .within));
-        free = λ lt. omega (arith, free lt, asks-some (p .staged) (p .size / s .sector) (past-first (p .size / s .sector) (p .staged) (good .orderly .staged .below)));
+        free = λ lt. omega (
+          arith,
+          free lt,
+          asks-some (p .staged) (p .size / s .sector)
+              (past-first (p .size / s .sector) (p .staged) (good .orderly .staged .below)),
+        );
       }
 
   -- by the instruction
@@ -127,7 +140,8 @@ module _ (s : Setting) (vol : Volume) (p : Progress) (bytes : List ℕ) (good : 
   unfolding badSpans wanted touched
   swaps a n q =
       spans (a .first) (a .second) (a .len) (either-left _ _ (q .spans)) (either-right _ _ (q .spans))
-      (subst (λ (x : ℕ). x ≤ freeCopies s p) (swap-asks (eqb (a .first / s .sector) (a .second / s .sector)) (p .staged) (a .second / s .sector) (a .first / s .sector)) (q .free))
+      (subst (λ (x : ℕ). x ≤ freeCopies s p) (swap-asks (eqb (a .first / s .sector) (a .second / s .sector)) (p .staged) (a .second / s .sector)
+      (a .first / s .sector)) (q .free))
 
   truncates : {f : Spot → List ℕ} (a : Args) (n : ℕ) → Passed s f p Truncate a n
       → Sized (s .sector) (groundOf s vol) (staging (p .staged) bytes) (p .size) (a .first)

@@ -172,14 +172,18 @@ module _ (s : Setting) (p : Progress) (start : ℕ) (pos : 0 < (s .sector)) (few
   pub one-kept : (at : ℕ) → at < p .size → asks (p .staged) (at / s .sector) ≤ freeCopies s p → Staged (s .stagesectors) start (p .size / s .sector)
       (copiedMap (s .stagesectors) (at / s .sector) (p .staged))
   unfolding freeCopies
-  one-kept at lt h = copied-kept (s .stagesectors) start (p .size / s .sector) (at / s .sector) (p .staged) few (sector-below (s .sector) at (p .size) pos whole lt) h f
+  one-kept at lt h = copied-kept (s .stagesectors) start (p .size / s .sector) (at / s .sector) (p .staged) few
+      (sector-below (s .sector) at (p .size) pos whole lt) h f
 
   pub two-kept : (at to : ℕ) → at < p .size → to < p .size → p .size / s .sector ≤ length (p .staged)
-      → pick (eqb (to / s .sector) (at / s .sector)) (asks (p .staged) (at / s .sector)) (asks (p .staged) (at / s .sector) + asks (p .staged) (to / s .sector)) ≤ freeCopies s p
-      → Staged (s .stagesectors) start (p .size / s .sector) (copiedMap (s .stagesectors) (to / s .sector) (copiedMap (s .stagesectors) (at / s .sector) (p .staged)))
+      → pick (eqb (to / s .sector) (at / s .sector)) (asks (p .staged) (at / s .sector))
+      (asks (p .staged) (at / s .sector) + asks (p .staged) (to / s .sector)) ≤ freeCopies s p
+      → Staged (s .stagesectors) start (p .size / s .sector)
+      (copiedMap (s .stagesectors) (to / s .sector) (copiedMap (s .stagesectors) (at / s .sector) (p .staged)))
   unfolding freeCopies
   two-kept at to la lt len h =
       let u = sector-below (s .sector) at (p .size) pos whole la in
       let v = sector-below (s .sector) to (p .size) pos whole lt in
       let q = asks-two (s .stagesectors) (at / s .sector) (to / s .sector) (p .staged) few (omega arith) h in
-      copied-kept (s .stagesectors) start (p .size / s .sector) (to / s .sector) _ few v (q .1) (copied-kept (s .stagesectors) start (p .size / s .sector) (at / s .sector) (p .staged) few u (q .0) f)
+      copied-kept (s .stagesectors) start (p .size / s .sector) (to / s .sector) _ few v (q .1)
+      (copied-kept (s .stagesectors) start (p .size / s .sector) (at / s .sector) (p .staged) few u (q .0) f)

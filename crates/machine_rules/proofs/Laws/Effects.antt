@@ -22,9 +22,11 @@ use Rattle.machine_rules.proofs.Laws.Resizes.{resized-more, resized-les
 
 -- ---- each instruction
 
-module _ (s : Setting) (vol : Volume) (p : Progress) (start : ℕ) (pos : 0 < (s .sector)) (few : s .stagesectors ≤ 16) (most : s .disksectors ≤ length (p .staged))
+module _ (s : Setting) (vol : Volume) (p : Progress) (start : ℕ) (pos : 0 < (s .sector)) (few : s .stagesectors ≤ 16)
+    (most : s .disksectors ≤ length (p .staged))
     (whole : p .size % s .sector ≡ 0)
-    (under : p .size / s .sector ≤ length (p .staged)) (f : Staged (s .stagesectors) start (p .size / s .sector) (p .staged)) (bytes : List ℕ) {r : Spot → List ℕ} where
+    (under : p .size / s .sector ≤ length (p .staged)) (f : Staged (s .stagesectors) start (p .size / s .sector) (p .staged))
+    (bytes : List ℕ) {r : Spot → List ℕ} where
   pub effect-kept : (op : Op) (a : Args) (d : List ℕ) (n : ℕ) → Passed s r p op a n → Staged (s .stagesectors) start (newSize (p .size) op a / s .sector)
       (effect (s .sector) (groundOf s vol) (p .size) op a d (record { staged = p .staged; bytes = bytes }) .staged)
   unfolding effect newSize badSpans wanted touched
@@ -44,7 +46,8 @@ module _ (s : Setting) (vol : Volume) (p : Progress) (start : ℕ) (pos : 0 < (s
       (written-map (s .sector) (groundOf s vol) (a .second) _ _)))
       (two-kept s p start pos few whole f (a .second) (a .first) (span-in (s .sector) (p .size) (a .second) (a .len) (either-right _ _ (q .spans)))
       (span-in (s .sector) (p .size) (a .first) (a .len) (either-left _ _ (q .spans))) under
-      (subst (λ (x : ℕ). x ≤ freeCopies s p) (swap-asks (eqb (a .first / s .sector) (a .second / s .sector)) (p .staged) (a .second / s .sector) (a .first / s .sector)) (q .free)))
+      (subst (λ (x : ℕ). x ≤ freeCopies s p) (swap-asks (eqb (a .first / s .sector) (a .second / s .sector)) (p .staged) (a .second / s .sector)
+      (a .first / s .sector)) (q .free)))
   effect-kept Truncate a d n q =
       resized-kept s vol p start (a .first) bytes pos few whole f (sized (s .sector) (p .size) (a .first) (q .spans))
       (le-trans (omega (arith, q .fits)) (mul-le-mul-right {m = s .disksectors} {n = length (p .staged)} (s .sector) most))

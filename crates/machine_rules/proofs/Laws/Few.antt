@@ -58,7 +58,8 @@ few-contract s p id h u =
     (few-pick _ _ _ (omega (arith, length-tab 0 (p .size / s .sector) (spotOf (parent s .slots) (p .staged)), u))
     (omega (arith, length-each OnDisk (committed (s .sector) (whose id (s .places))), few-whose (s .sector) id (s .places) h)))))
 
-pub few-spots : (s : Setting) (f : Spot → List ℕ) (p : Progress) (op : Op) (key : List ℕ) → every (placeInOrder (s .sector)) (s .places) ≡ true → p .size / s .sector ≤ 64
+pub few-spots : (s : Setting) (f : Spot → List ℕ) (p : Progress) (op : Op) (key : List ℕ) → every (placeInOrder (s .sector)) (s .places) ≡ true
+    → p .size / s .sector ≤ 64
     → length (spots (sourceOf s f p op key)) ≤ 64
 unfolding sourceOf sectorSource spots
 few-spots s f p Read key h u = few-contract s p key h u

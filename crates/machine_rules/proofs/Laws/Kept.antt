@@ -84,7 +84,8 @@ pub stepped-good : (s : Setting) (vol : Volume) (i : Instruction) (l : List (Lis
 unfolding succeeding failing
 stepped-good s vol i l t L h g =
     stepped-either s vol i l t (λ x. Good s (x .progress))
-    (λ e. ran-good s vol (t .progress) (i .proof) _ (opOf (i .name)) (argsOf (opOf (i .name)) l) (dataIn l) (t .stage) L (not-failed s t h) (left-going s t h .1)
+    (λ e. ran-good s vol (t .progress) (i .proof) _ (opOf (i .name)) (argsOf (opOf (i .name)) l) (dataIn l) (t .stage) L (not-failed s t h)
+    (left-going s t h .1)
     (can s (rootAt s vol t) (t .progress) i l e .passed) g)
     (λ _. failed-good s (t .progress) (not-failed s t h) g)
 

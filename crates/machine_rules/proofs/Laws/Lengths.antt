@@ -72,7 +72,8 @@ span-within z n at len pos b first many =
     }
 
 -- the roots that a reader gives have 32 bytes, whether they are right or not
-reader-long : (way : Way) (s : Setting) (vol : Volume) (stage copies : List ℕ) → s .disksectors ≤ 64 → s .stagesectors ≤ 16 → length (vol .roots) ≡ 2048 → length copies ≡ 512
+reader-long : (way : Way) (s : Setting) (vol : Volume) (stage copies : List ℕ) → s .disksectors ≤ 64 → s .stagesectors ≤ 16 → length (vol .roots) ≡ 2048
+    → length copies ≡ 512
     → (x : Spot) → valid s x ≡ true
     → length (rootBy way (s .sector) (vol .disk) stage (vol .roots) copies x) ≡ 32
 unfolding rootBy keptRoot sectorRoot sector valid
@@ -80,7 +81,8 @@ reader-long kept s vol stage copies most few d e (OnDisk n) v = length-part (vol
 reader-long kept s vol stage copies most few d e (InStage n) v = length-part copies (n * 32) 32 (omega (arith, ltb-true n (s .stagesectors) v))
 reader-long worked s vol stage copies most few d e x v = roots .root-long (sector (s .sector) (vol .disk) stage x)
 
-pub length-proof : (s : Setting) (vol : Volume) (stage copies : List ℕ) (from : Source) (a : Args) (asked : Bool) → Solid s vol → length stage ≡ s .stagesectors * s .sector
+pub length-proof : (s : Setting) (vol : Volume) (stage copies : List ℕ) (from : Source) (a : Args) (asked : Bool) → Solid s vol → length stage
+    ≡ s .stagesectors * s .sector
     → length (vol .roots) ≡ 2048 → length copies ≡ 512
     → every (valid s) (spots from) ≡ true → length (spots from) ≤ 64 → (asked ≡ true → Within (s .sector) (length (spots from)) (a .first) (a .len))
     → length (pick asked (rangeProof (s .sector) (rootOf s vol stage copies) (vol .disk) stage (spots from) (a .first) (a .len)) [])

@@ -23,13 +23,15 @@ use Rattle.machine_rules.specs.declared.Spot.the-variants.{OnDisk, InSta
 
 -- ---- what a read hands out is as long as it was asked for
 
-pub sector-length : (s : Setting) (vol : Volume) (stage : List ℕ) (x : Spot) → length (vol .disk) ≡ s .disksectors * s .sector → length stage ≡ s .stagesectors * s .sector → valid s x ≡ true
+pub sector-length : (s : Setting) (vol : Volume) (stage : List ℕ) (x : Spot) → length (vol .disk) ≡ s .disksectors * s .sector → length stage
+    ≡ s .stagesectors * s .sector → valid s x ≡ true
     → length (sector (s .sector) (vol .disk) stage x) ≡ (s .sector)
 unfolding sector valid
 sector-length s vol stage (OnDisk n) d e v = slot-length (vol .disk) n (s .disksectors) (s .sector) (ltb-true _ _ v) d
 sector-length s vol stage (InStage n) d e v = slot-length stage n (s .stagesectors) (s .sector) (ltb-true _ _ v) e
 
-output-length : (s : Setting) (vol : Volume) (stage : List ℕ) (l : List Spot) (a : Args) → length (vol .disk) ≡ s .disksectors * s .sector → length stage ≡ s .stagesectors * s .sector
+output-length : (s : Setting) (vol : Volume) (stage : List ℕ) (l : List Spot) (a : Args) → length (vol .disk) ≡ s .disksectors * s .sector → length stage
+    ≡ s .stagesectors * s .sector
     → every (valid s) l ≡ true
     → badSpan (s .sector) (length l * s .sector) (a .first) (a .len) ≡ false → length (outputOf (s .sector) (vol .disk) stage l a) ≡ a .len
 unfolding outputOf badSpan every
@@ -72,11 +74,13 @@ read-span z size n Swap a e b = never (sym e)
 read-span z size n Truncate a e b = never (sym e)
 read-span z size n Unknown a e b = never (sym e)
 
-pub shown-length : (s : Setting) (vol : Volume) (size : ℕ) (from : Source) (stage : List ℕ) (op : Op) (a : Args) → length (vol .disk) ≡ s .disksectors * s .sector
+pub shown-length : (s : Setting) (vol : Volume) (size : ℕ) (from : Source) (stage : List ℕ) (op : Op) (a : Args) → length (vol .disk)
+    ≡ s .disksectors * s .sector
     → length stage ≡ s .stagesectors * s .sector
     → every (valid s) (spots from) ≡ true → badSpans (s .sector) size (length (spots from)) op a ≡ false
     → length (pick (eqb (outputCount op a) 0) [] (outputOf (s .sector) (vol .disk) stage (spots from) a)) ≡ outputCount op a
 shown-length s vol size from stage op a d e v b =
     by (reads op)
-    (λ u. shown (outputCount op a) _ (output-length s vol stage (spots from) a d e v (read-span (s .sector) size (length (spots from)) op a u b) ∙ sym (count-read op a u)))
+    (λ u. shown (outputCount op a) _ (output-length s vol stage (spots from) a d e v (read-span (s .sector) size (length (spots from)) op a u b)
+    ∙ sym (count-read op a u)))
     (λ u. shown-none (outputCount op a) _ (count-change op a u))

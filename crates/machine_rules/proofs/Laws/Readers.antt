@@ -85,7 +85,8 @@ module _ (s : Setting) (P : Spot → Bool) (onDisk : every (λ n. P (OnDisk n)) 
 
 module _ (s : Setting) (vol : Volume) (p : Progress) (solid : Solid s vol) (f : Staged (s .stagesectors) (startOf s) (p .size / s .sector) (p .staged))
     (few : p .size / s .sector ≤ 64) (long : length (p .staged) ≡ 64) (shaped : Shaped (s .places))
-    (P : Spot → Bool) (onDisk : every (λ n. P (OnDisk n)) (taken (s .sector) (s .places)) ≡ true) (inStage : (j : ℕ) → eqb (getD (p .staged) j none) none ≡ false
+    (P : Spot → Bool) (onDisk : every (λ n. P (OnDisk n)) (taken (s .sector) (s .places)) ≡ true) (inStage : (j : ℕ) → eqb (getD (p .staged) j none) none
+    ≡ false
     → P (InStage (getD (p .staged) j none)) ≡ true) where
   slot-all : (j : ℕ) → j < startOf s → j < 64 → P (OnDisk (getD (whose (s .terms .head .contract) (s .places) .slots) j 0)) ≡ true
   slot-all j lt most =
@@ -100,7 +101,8 @@ module _ (s : Setting) (vol : Volume) (p : Progress) (solid : Solid s vol) (f : 
       ))
       (subst (λ (l : List ℕ). every (λ n. P (OnDisk n)) l ≡ true) (committed-held (s .sector) (whose (s .terms .head .contract) (s .places)) u)
       (whose-every (λ n. P (OnDisk n)) (s .sector) (s .terms .head .contract) (s .places) onDisk))))
-      (λ u. let q : startOf s ≡ 0 = ap (λ (n : ℕ). n / s .sector) (whose-nobody (s .terms .head .contract) (s .places) u) ∙ zero-div (s .sector) in absurd (omega arith))
+      (λ u. let q : startOf s ≡ 0 = ap (λ (n : ℕ). n / s .sector) (whose-nobody (s .terms .head .contract) (s .places) u) ∙ zero-div (s .sector) in absurd
+      (omega arith))
 
   spot-all : (j : ℕ) → j < p .size / s .sector → P (spotOf (parent s .slots) (p .staged) j) ≡ true
   unfolding spotOf parent
@@ -159,8 +161,10 @@ pub record Known (s : Setting) (vol : Volume) (t : Turn) : Type 0 where
   pub kept : length (t .roots) ≡ 512
   pub shaped : Shaped (s .places)
 
-pub known-disk : (s : Setting) (vol : Volume) (stage copies : List ℕ) → every (right (s .sector) (vol .disk) (vol .roots)) (taken (s .sector) (s .places)) ≡ true
-    → every (λ n. agree (rootOf s (withWay kept vol) stage copies) (rootOf s (withWay worked vol) stage copies) (OnDisk n)) (taken (s .sector) (s .places)) ≡ true
+pub known-disk : (s : Setting) (vol : Volume) (stage copies : List ℕ) → every (right (s .sector) (vol .disk) (vol .roots)) (taken (s .sector) (s .places))
+    ≡ true
+    → every (λ n. agree (rootOf s (withWay kept vol) stage copies) (rootOf s (withWay worked vol) stage copies) (OnDisk n)) (taken (s .sector) (s .places))
+    ≡ true
 known-disk s vol stage copies h = every-alike _ _ _ (disk-agrees s vol stage copies) h
 
 pub known-stage : (s : Setting) (vol : Volume) (stage copies staged : List ℕ) → stagedRight (s .sector) stage copies staged ≡ true → (j : ℕ)

@@ -68,7 +68,8 @@ sized z now to e =
     let b = neither _ _ (a .1) in
     record { whole = eqb-true _ _ (not-false _ (a .0)); up = ltb-false _ _ (b .0); down = ltb-false _ _ (b .1) }
 
-pub resized-kept : (s : Setting) (vol : Volume) (p : Progress) (start to : ℕ) (bytes : List ℕ) → 0 < (s .sector) → s .stagesectors ≤ 16 → p .size % s .sector ≡ 0
+pub resized-kept : (s : Setting) (vol : Volume) (p : Progress) (start to : ℕ) (bytes : List ℕ) → 0 < (s .sector) → s .stagesectors ≤ 16 → p .size % s .sector
+    ≡ 0
     → Staged (s .stagesectors) start (p .size / s .sector) (p .staged)
     → Sized (s .sector) (p .size) to → to ≤ length (p .staged) * s .sector → (ltb (p .size) to ≡ true → asks (p .staged) (p .size / s .sector) ≤ freeCopies s p)
     → Staged (s .stagesectors) start (to / s .sector) (resized (s .sector) (groundOf s vol) (p .size) to (record { staged = p .staged; bytes = bytes }) .staged)
@@ -79,7 +80,8 @@ resized-kept s vol p start to bytes pos few whole f sz len free =
     (λ e. let lt = ltb-true (p .size) to e in
     let nx = next-sector (s .sector) (p .size) to pos whole (sz .whole) lt (sz .up) in
     let at : p .size / s .sector < length (p .staged) = div-lt-iff-lt-mul {k = (s .sector)} {x = p .size} {y = length (p .staged)} pos .1 (omega arith) in
-    let fr = free-slot (s .stagesectors) (p .staged) (omega (arith, free e, asks-some (p .staged) (p .size / s .sector) (past-first (p .size / s .sector) (p .staged) (f .below)))) in
+    let fr = free-slot (s .stagesectors) (p .staged)
+    (omega (arith, free e, asks-some (p .staged) (p .size / s .sector) (past-first (p .size / s .sector) (p .staged) (f .below)))) in
     subst (λ (n : ℕ). Staged (s .stagesectors) start n (resized (s .sector) (groundOf s vol) (p .size) to g .staged)) (sym nx)
     (subst (λ (m : List ℕ). Staged (s .stagesectors) start (suc (p .size / s .sector)) m) (sym (resized-more (s .sector) (groundOf s vol) (p .size) to g e))
     (grow-kept (s .stagesectors) start few (p .size / s .sector) _ (p .staged) at fr f)))

@@ -144,7 +144,8 @@ module _ (s : Setting) (vol : Volume) (p : Progress) (solid : Solid s vol) (f : 
       (subst (λ (l : List ℕ). every (λ n. ltb n (s .disksectors)) l ≡ true) (committed-held (s .sector) (whose (s .terms .head .contract) (s .places)) u)
       (whose-every _ (s .sector) (s .terms .head .contract) (s .places) (solid .slots)))
       (lt-ltb 0 (s .disksectors) (solid .one))))
-      (λ u. let q : startOf s ≡ 0 = ap (λ (n : ℕ). n / s .sector) (whose-nobody (s .terms .head .contract) (s .places) u) ∙ zero-div (s .sector) in absurd (omega arith))
+      (λ u. let q : startOf s ≡ 0 = ap (λ (n : ℕ). n / s .sector) (whose-nobody (s .terms .head .contract) (s .places) u) ∙ zero-div (s .sector) in absurd
+      (omega arith))
 
   spot-valid : (j : ℕ) → j < p .size / s .sector → valid s (spotOf (parent s .slots) (p .staged) j) ≡ true
   unfolding spotOf valid parent slotInOrder

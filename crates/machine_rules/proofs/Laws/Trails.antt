@@ -47,7 +47,8 @@ module _ (s : Setting) (vol : Volume) (a : List ℕ) where
       (λ r. rw (runs-stop s vol a k (suc n) t r) (omega arith))
 
   -- the records with m bytes come are those with k, and then those of the run that goes on
-  pub trail-on : (k m n : ℕ) (t : Turn) → k ≤ m → left s t ≤ n → (j : ℕ) → n ≤ j → trail s vol a m j t ≡ trail s vol a k n t ++ trail s vol a m j (runs s vol a k n t)
+  pub trail-on : (k m n : ℕ) (t : Turn) → k ≤ m → left s t ≤ n → (j : ℕ) → n ≤ j → trail s vol a m j t ≡ trail s vol a k n t ++ trail s vol a m j
+      (runs s vol a k n t)
   trail-on k m zero t le h j g =
       let q = none-left s k t (omega arith) in
       sym (ap₂ _++_ (trail-stop k 0 t q) (ap (λ (x : Turn). trail s vol a m j x) (runs-stop s vol a k 0 t q)))

@@ -36,7 +36,14 @@ module _ (r : List ℕ → List ℕ) (new : Renaming r) where
 
   pub setting-as : (h : Host) → h .program .active ≡ true → settingOf (hostAs r h) ≡ settingAs r new (settingOf h)
   unfolding hostAs
-  setting-as h e = ap (λ (t : Terms). record { sector = h .sector; disksectors = h .disk; stagesectors = h .stage; places = allAs r new (h .places); terms = t }) (terms-of r new h e)
+  setting-as h e = ap (λ (t : Terms). record {
+    sector = h .sector;
+    disksectors = h .disk;
+    stagesectors = h .stage;
+    places = allAs r new
+        (h .places);
+    terms = t;
+  }) (terms-of r new h e)
 
   pub going-as : (h : Host) → going (hostAs r h .program .terms) (hostAs r h .program .progress) ≡ going (h .program .terms) (h .program .progress)
   unfolding going hostAs

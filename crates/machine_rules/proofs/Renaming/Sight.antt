@@ -73,7 +73,13 @@ module _ (r : List ℕ → List ℕ) (new : Renaming r) where
   unfolding seatsOf readOnlyMode
   seats-of-as s p =
       let id = s .terms .head .contract in
-      rw (word-as r new id, all-seats-as (s .sector) (s .places), spots-as s p, seats-as (s .sector) (hasId id) (hasId (r id)) (has-as r new id) (parentSpots s p) (s .places))
+      rw (
+        word-as r new id,
+        all-seats-as (s .sector) (s .places),
+        spots-as s p,
+        seats-as (s .sector) (hasId id) (hasId (r id)) (has-as r new id)
+            (parentSpots s p) (s .places),
+      )
 
   pub sector-as : (s : Setting) (f : Spot → List ℕ) (p : Progress) (key : List ℕ)
       → sectorSource (settingAs s) f p key ≡ sectorSource s f p key

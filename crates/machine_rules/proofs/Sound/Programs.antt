@@ -163,7 +163,8 @@ module _ (disk : List ℕ) (h : Host) (stage : List ℕ) (shape : Declared h) (f
   starting-alike : startingPair (settingOf h) (volumeBy kept h disk) ≡ startingPair (settingOf h) (volumeBy worked h disk)
   unfolding startingPair pairOf parent volumeBy withWay
   starting-alike = ap (λ (r : List ℕ). pairing (parent (settingOf h) .size) r)
-      (root-agree (rootOnDisk (settingOf h) (volumeBy kept h disk)) (rootOnDisk (settingOf h) (volumeBy worked h disk)) (committedSpots z (parent (settingOf h)))
+      (root-agree (rootOnDisk (settingOf h) (volumeBy kept h disk)) (rootOnDisk (settingOf h) (volumeBy worked h disk))
+      (committedSpots z (parent (settingOf h)))
       (all-start (settingOf h) _ (known-disk (settingOf h) (volumeOf h disk) [] [] (sound-disk disk h stage fine))))
 
   pub reached-alike : reachedBy kept disk h stage ≡ reachedBy worked disk h stage

@@ -81,11 +81,13 @@ few-segments : (z n : ℕ) (size : Size z) → n ≤ 64 → n * 2 ^ (size .depth
 few-segments z n size few = let hi = mul-le-mul-right {m = n} {n = 64} (2 ^ size .depth) few in omega (arith, hi, size .segments, size .most)
 
 -- And document 01 is what they give with roots worked out.
-pub bytewise : (s : Setting) (vol : Volume) (stage : List ℕ) (l : List Spot) → Solid s vol → length stage ≡ s .stagesectors * s .sector → every (valid s) l ≡ true → length l ≤ 64
+pub bytewise : (s : Setting) (vol : Volume) (stage : List ℕ) (l : List Spot) → Solid s vol → length stage ≡ s .stagesectors * s .sector → every (valid s) l
+    ≡ true → length l ≤ 64
     → Bytewise s vol stage l
 bytewise s vol stage l solid e v few =
     let size = solid .lent .size in
-    let long : (x : Spot) → valid s x ≡ true → length (sector (s .sector) (vol .disk) stage x) ≡ (s .sector) = λ x u. sector-length s vol stage x (solid .disk) e u in
+    let long : (x : Spot) → valid s x ≡ true → length (sector (s .sector) (vol .disk) stage x) ≡ (s .sector) = λ x u. sector-length s vol stage x
+    (solid .disk) e u in
     let most = few-segments (s .sector) (length l) size few in
     record {
       root = contract-worked (s .sector) (size .depth) (size .segments) (vol .disk) stage (valid s) long l v most;

@@ -45,12 +45,14 @@ args-full op l e = subst (λ (o : Op). length (dataIn l) ≡ argsOf o l .len) (s
 
 -- ---- a failure
 
-failure-alike : (s : Setting) (vol : Volume) (n : ℕ) → every (right (s .sector) (vol .disk) (vol .roots)) (taken (s .sector) (s .places)) ≡ true → failureBytes s (withWay kept vol) n
+failure-alike : (s : Setting) (vol : Volume) (n : ℕ) → every (right (s .sector) (vol .disk) (vol .roots)) (taken (s .sector) (s .places)) ≡ true
+    → failureBytes s (withWay kept vol) n
     ≡ failureBytes s (withWay worked vol) n
 unfolding failureBytes startingPair pairOf parent withWay
 failure-alike s vol n h =
     ap (λ (r : List ℕ). recordBytes n 0 (record { size = parent s .size; root = r }) 0 [] 0 [])
-    (root-agree (rootOnDisk s (withWay kept vol)) (rootOnDisk s (withWay worked vol)) (committedSpots (s .sector) (parent s)) (all-start s _ (known-disk s vol [] [] h)))
+    (root-agree (rootOnDisk s (withWay kept vol)) (rootOnDisk s (withWay worked vol)) (committedSpots (s .sector) (parent s))
+    (all-start s _ (known-disk s vol [] [] h)))
 
 pub failing-alike : (s : Setting) (vol : Volume) (n : ℕ) (t : Turn) → every (right (s .sector) (vol .disk) (vol .roots)) (taken (s .sector) (s .places)) ≡ true
     → failing s (withWay kept vol) n t ≡ failing s (withWay worked vol) n t
@@ -179,7 +181,8 @@ module _ (s : Setting) (vol : Volume) (t : Turn) (solid : Solid s (withWay kept 
       stepped-either s (withWay kept vol) i l t (λ x. x ≡ stepped s (withWay worked vol) i l t)
       (λ u. succeeding-alike op a (dataIn l) (i .proof) _ (can s (rootAt s (withWay kept vol) t) (t .progress) i l u .passed) (args-full op l) run _
       (source-after op a (dataIn l) (rootAt s (withWay kept vol) t) (a .key))
-      ∙ ap (λ (x : Source). succeeding s (withWay worked vol) (planFine s (t .progress) (i .proof) (length (spots x)) op a) (i .proof) (spots x) op a (dataIn l) t)
+      ∙ ap (λ (x : Source). succeeding s (withWay worked vol) (planFine s (t .progress) (i .proof) (length (spots x)) op a) (i .proof) (spots x) op a
+      (dataIn l) t)
       (source-same op (a .key))
       ∙ sym (stepped-ran s (withWay worked vol) i l t (sym e ∙ u)))
       (λ u. failing-alike s vol _ t disk-known

@@ -51,7 +51,8 @@ module _ (s : Setting) (vol : Volume) (t : Turn) (input : List ℕ) (i : Instruc
 
   -- the stage after the effect, the roots kept beside its slots, and the progress
   unfoldable pub after : Staging
-  after = effect (s .sector) (groundOf s vol) (t .progress .size) (r .op) (r .args) (part input (r .from) (r .args .len)) (staging (t .progress .staged) (t .stage))
+  after = effect (s .sector) (groundOf s vol) (t .progress .size) (r .op) (r .args) (part input (r .from) (r .args .len))
+      (staging (t .progress .staged) (t .stage))
 
   unfoldable pub roots : List ℕ
   roots = rehashed (s .sector) after (touched (s .sector) (t .progress .size) (r .op) (r .args)) (t .roots)
@@ -66,7 +67,8 @@ module _ (s : Setting) (vol : Volume) (t : Turn) (input : List ℕ) (i : Instruc
         (staging (t .progress .staged) (t .stage))
     effect-asks =
         let p = x .steps in
-        stands-with s vol (t .progress) (t .stage) (p .good) (p .solid) (p .stage) (q .slots) (ap (λ (p : Place). p .slots) own) (r .op) (r .args) _ (fit .passed)
+        stands-with s vol (t .progress) (t .stage) (p .good) (p .solid) (p .stage) (q .slots) (ap (λ (p : Place). p .slots) own) (r .op) (r .args) _
+        (fit .passed)
 
     pub effect-is : {y : Staging}
         → y ≡ effect (s .sector) (ground (s .stagesectors) (q .slots) (vol .disk)) (t .progress .size) (r .op) (r .args) (part input (r .from) (r .args .len))
@@ -81,7 +83,8 @@ module _ (s : Setting) (vol : Volume) (t : Turn) (input : List ℕ) (i : Instruc
   pub rehash-asks : {y : Staging} → y ≡ after → Rehashes (s .sector) (t .progress .size) (r .op) (r .args) y (t .roots)
   unfolding after
   rehash-asks e =
-      rehashes (s .sector) (groundOf s vol) (t .progress .size) (r .op) (r .args) (part input (r .from) (r .args .len)) (staging (t .progress .staged) (t .stage)) _
+      rehashes (s .sector) (groundOf s vol) (t .progress .size) (r .op) (r .args) (part input (r .from) (r .args .len))
+      (staging (t .progress .staged) (t .stage)) _
       (t .roots) (x .steps .good .entries) (x .steps .stageroots) (effect-asks refl) e
 
   pub roots-are : {y : Staging} {l : List ℕ} → y ≡ after → l ≡ rehashed (s .sector) y (touched (s .sector) (t .progress .size) (r .op) (r .args)) (t .roots)
@@ -158,7 +161,8 @@ module _ (s : Setting) (vol : Volume) (t : Turn) (input : List ℕ) (i : Instruc
       ≡ 32 * r .plan .hashes
   unfolding shownProof spots
   proof-long =
-      ap (λ (f : Spot → List ℕ). length (pick (i .proof) (rangeProof (s .sector) f (vol .disk) (after .bytes) (spotsOf (r .seen)) (r .args .first) (r .args .len)) []))
+      ap (λ (f : Spot → List ℕ). length
+      (pick (i .proof) (rangeProof (s .sector) f (vol .disk) (after .bytes) (spotsOf (r .seen)) (r .args .first) (r .args .len)) []))
       (sym (reads-kept s vol (after .bytes) roots (x .steps .way)))
       ∙ length-proof s vol (after .bytes) roots (seen (spotsOf (r .seen))) (r .args) (i .proof) (x .steps .solid) stage-long (x .steps .diskroots) roots-long
       read-valid few-read within-read
@@ -202,4 +206,5 @@ module _ (s : Setting) (vol : Volume) (t : Turn) (input : List ℕ) (i : Instruc
   record-asks {y} {l} {rd} e k b =
       let out = drop (t .progress .written) (t .output) in
       subst (Shown y l rd) (sym (rest-take (t .output) (t .progress .written)))
-      (subst (λ (y : Staging). Shown y l rd out) (sym e) (subst (λ (l : List ℕ). Shown after l rd out) (sym k) (subst (λ (rd : Bool). Shown after roots rd out) (sym b) shows)))
+      (subst (λ (y : Staging). Shown y l rd out) (sym e)
+      (subst (λ (l : List ℕ). Shown after l rd out) (sym k) (subst (λ (rd : Bool). Shown after roots rd out) (sym b) shows)))

@@ -55,7 +55,8 @@ reads h long d s e o live =
     (order-solid h disk stage o (blank-right h)) (order-good h o live long) d s e
 
 -- instructions in turn on a host in order, with its areas as stated
-pub turns-right : (h : Host) (disk stage input output : List ℕ) {x : Setting} → x ≡ settingOf h → length (h .program .progress .staged) ≡ 64 → length (h .diskroots) ≡ 2048
+pub turns-right : (h : Host) (disk stage input output : List ℕ) {x : Setting} → x ≡ settingOf h → length (h .program .progress .staged) ≡ 64
+    → length (h .diskroots) ≡ 2048
     → length (h .stageroots) ≡ 512 → Ready disk h stage → length input ≡ h .program .terms .head .length → outputRight h output ≡ true
     → Runs x (volumeOf h disk) (turnOf h stage output) input
 unfolding outputRight turnOf volumeBy

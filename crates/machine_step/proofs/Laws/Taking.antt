@@ -1,4 +1,5 @@
--- What a program that is going on a host in order gives the functions that take its instruction, and how a step comes to its failure. z is the sector size. Assumes nothing.
+-- What a program that is going on a host in order gives the functions that take its instruction, and how a step comes to its failure. z is the sector size.
+-- Assumes nothing.
 use Rattle.lists.proofs.Kit.{_≡_, sym, ap, ap₂, _∙_, List, [], ℕ, _+_, _≤_, _<_, arith, length}
 use Rattle.lists.proofs.Laws.Pick.{skips}
 use Rattle.area.specs.Area.{put}

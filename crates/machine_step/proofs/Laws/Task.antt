@@ -1,6 +1,7 @@
 -- A task that is what its definition says: its number is what the checks say and, where that is 0, what goes with it is what the step starts from.
 -- Assumes nothing.
-use Rattle.lists.proofs.Kit.{_≡_, refl, sym, ap, _∙_, subst, Bool, false, List, ℕ, _+_, _≤_, _<_, _^_, arith, length, drop, length-take, length-drop, eqb, eqb-false}
+use Rattle.lists.proofs.Kit.{_≡_, refl, sym, ap, _∙_, subst, Bool, false, List, ℕ}
+use Rattle.lists.proofs.Kit.{_+_, _≤_, _<_, _^_, arith, length, drop, length-take, length-drop, eqb, eqb-false}
 use Rattle.lists.proofs.Kit.{eq-eqb}
 use Rattle.lists.specs.Pick.{both}
 use Rattle.lists.proofs.Laws.Pick.{by, picks, skips, either-left}

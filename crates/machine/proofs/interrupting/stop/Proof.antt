@@ -24,7 +24,8 @@ unfolding parent
 fail-requires c κs =
     let set = at-setting (c .before) in let s = set .before .before in
     let h = s .args .host in (
-      subst (λ (x : Setting). Stands (x .sector) (h .diskroots) (parent x)) (sym (set .setting-of .ensures)) (stands h _ (disk-rooted h _ (s .good .0)) refl (s .pre .order)),
+      subst (λ (x : Setting). Stands (x .sector) (h .diskroots) (parent x)) (sym (set .setting-of .ensures))
+          (stands h _ (disk-rooted h _ (s .good .0)) refl (s .pre .order)),
       room-left h (s .pre),
     )
 

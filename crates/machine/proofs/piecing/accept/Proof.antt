@@ -17,7 +17,7 @@ abbrev start : tie.After-setting-of → tie.Start
 start c = let at-known = c .before .before .before in at-known .before .before .before
 
 abbrev at-setting : tie.After-copy-between → tie.After-setting-of
-at-setting c = c .before .before .before .before
+at-setting c = let at-start = c .before .before in at-start .before .before
 
 abbrev at-copied : tie.After-diskroots2 → tie.After-copy-between
 at-copied c = let at-known = c .before .before .before in at-known .before .before
@@ -51,7 +51,8 @@ unfolding volumeBy turnOf withRun withStageRoots withProgram withProgress withCa
 returns c =
     let at-stage = c .before .before .before in let done = at-stage .before .before in
     let came = at-copied (at-lent done) in let set = at-setting came in
-    accepted-is _ (start set .args .host) _ _ _ _ (set .setting-of .ensures) (came .copy-between .ensures ∙ ap (put _ _) (part-whole _ _ refl)) refl (done .run .ensures)
+    accepted-is _ (start set .args .host) _ _ _ _ (set .setting-of .ensures) (came .copy-between .ensures ∙ ap (put _ _) (part-whole _ _ refl)) refl
+    (done .run .ensures)
 
 pub accept-spec : {M : Type 1} → statement M
 accept-spec =

@@ -41,4 +41,5 @@ pub running-pair-spec : {M : Type 1} → statement M
 running-pair-spec =
     tie.close (tie.spec (λ c κs. search needs) (λ c κs. search needs)
     (λ c. let s = start (c .before .before .before) in sym (disk-rooted (s .args .host) _ (s .good .0)))
-    (λ c. let at-stageroots = c .before .before in let s = start (at-stageroots .before .before) in sym (stage-rooted (s .args .host) _ (s .good .0))) running-root-requires returns)
+    (λ c. let at-stageroots = c .before .before in let s = start (at-stageroots .before .before) in sym (stage-rooted (s .args .host) _ (s .good .0)))
+    running-root-requires returns)
