@@ -95,6 +95,7 @@ fn count_of(reads: bool, n: usize) -> u64
 }
 
 // The record of an instruction that ran: the remainder behind its front is lent on to the writer of hashes, and behind them that of bytes.
+#[rattlefmt::skip]
 pub fn put_success<'a>(
     z: usize,
     cost: u64,
@@ -121,16 +122,7 @@ pub fn put_success<'a>(
 {
     put_front(0, cost, size, root, hashes, out);
     put_proof(
-        z,
-        asked,
-        diskroots,
-        stageroots,
-        disk,
-        stage,
-        seen,
-        at,
-        n,
-        &mut out[64..],
+        z, asked, diskroots, stageroots, disk, stage, seen, at, n, &mut out[64..]
     );
     let behind = 64 + 32 * (hashes as usize);
     let count = count_of(reads, n);

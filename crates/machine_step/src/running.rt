@@ -31,6 +31,7 @@ fn advanced(progress: Progress, plan: Plan, staged: [u8; 64]) -> Progress
 }
 
 // What an instruction with such a task leaves.
+#[rattlefmt::skip]
 pub fn succeed<'a>(
     setting: Setting,
     diskroots: &'a [u8],
@@ -57,17 +58,8 @@ pub fn succeed<'a>(
     let slots = parent.slots;
     let before = progress.staged;
     let staged = machine_effect::effect(
-        sector,
-        op,
-        setting.stagesectors,
-        slots,
-        disk,
-        before,
-        stage,
-        size,
-        args,
-        input,
-        task.from as usize,
+        sector, op, setting.stagesectors, slots, disk, before, stage, size, args, input,
+        task.from as usize
     );
     machine_effect::rehash(sector, op, staged, &*stage, size, args, stageroots);
     let after = advanced(progress, plan, staged);
@@ -76,21 +68,8 @@ pub fn succeed<'a>(
     let reads = machine_inputs::reads(op);
     let seen = task.seen;
     records::put_success(
-        sector,
-        plan.cost,
-        plan.size,
-        root,
-        plan.hashes,
-        i.proof,
-        reads,
-        diskroots,
-        &*stageroots,
-        disk,
-        &*stage,
-        seen,
-        args.first as usize,
-        args.len as usize,
-        &mut output[at..],
+        sector, plan.cost, plan.size, root, plan.hashes, i.proof, reads, diskroots, &*stageroots,
+        disk, &*stage, seen, args.first as usize, args.len as usize, &mut output[at..]
     );
     after
 }

@@ -9,6 +9,7 @@ use machine_rules::Setting;
 use sia::Instruction;
 
 // One instruction.
+#[rattlefmt::skip]
 pub fn step<'a>(
     setting: Setting,
     diskroots: &'a [u8],
@@ -31,15 +32,6 @@ pub fn step<'a>(
         return roots::fail(setting, plan.number, diskroots, progress, output);
     }
     running::succeed(
-        setting,
-        diskroots,
-        disk,
-        input,
-        i,
-        task,
-        progress,
-        stageroots,
-        stage,
-        output,
+        setting, diskroots, disk, input, i, task, progress, stageroots, stage, output
     )
 }

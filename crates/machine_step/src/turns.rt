@@ -30,6 +30,7 @@ fn ready(declared: u64, i: Instruction, k: u64) -> bool
 }
 
 // At most as many as the head has.
+#[rattlefmt::skip]
 pub fn run<'a>(
     setting: Setting,
     diskroots: &'a [u8],
@@ -55,15 +56,7 @@ pub fn run<'a>(
             return progress;
         }
         progress = taking::step(
-            setting,
-            diskroots,
-            disk,
-            input,
-            i,
-            progress,
-            stageroots,
-            stage,
-            output,
+            setting, diskroots, disk, input, i, progress, stageroots, stage, output
         );
     }
     progress
