@@ -11,7 +11,7 @@ use Rattle.tree.specs.Walk.{count}
 use Rattle.sia.specs.Names.{nameOf}
 use Rattle.sia.specs.Empty.{noOperand, noInstruction, filled}
 use Rattle.sia.specs.Encode.{encode}
-use Rattle.host.specs.With.{withPlaces}
+use Rattle.host.specs.With.{withPlaces, programOf}
 use Rattle.host.specs.Calls.{freshed, formed}
 use Rattle.machine_rules.specs.Calls.{opened, Pieced, pieced, piece}
 use Rattle.sia.specs.declared.Op.the-variants.{Read, Write, Copy, Swap, Truncate}
@@ -74,13 +74,13 @@ unfoldable pub ran : Host → ℕ → Head → List ℕ → Pieced
 ran h budget hd bytes = given (start h budget hd) bytes
 
 unfoldable pub failed : Pieced → ℕ
-failed w = pick (w .host .program .progress .failed) 1 0
+failed w = pick (programOf (w .host) .progress .failed) 1 0
 
 unfoldable pub written : Pieced → ℕ
-written w = w .host .program .progress .written
+written w = programOf (w .host) .progress .written
 
 unfoldable pub records : Pieced → ℕ
-records w = w .host .program .progress .ran + failed w
+records w = programOf (w .host) .progress .ran + failed w
 
 -- records after so many bytes, which come as one piece: by `cutting` it does not matter how they come
 unfoldable pub counts : Head → List ℕ → List ℕ → List ℕ

@@ -6,6 +6,7 @@ use mathlib.Core.Bool.{true, false}
 use mathlib.Core.List.{List}
 use Prim.Native.Nat.{ℕ}
 use lib.IntN.{pos}
+use Rattle.host.specs.With.{programOf}
 use Rattle.host.specs.Order.{inOrder}
 use Rattle.host.specs.Calls.{freshed, formed, dropped}
 use Rattle.host.specs.Calls as Contract
@@ -38,16 +39,16 @@ pub record Nothing (h : Host) (a : Areas) : Type 0 where
   -- every close but an agreement answered with 0
   pub uncommitted : (g : Agreement) → (closes h a g .number ≡ 0 → g .agree ≡ true → ⊥) → Untouched a h (closes h a g)
   -- "A program that fails leaves every contract's size, sectors and root as they were.": whatever its close says
-  pub failed : (g : Agreement) → h .program .progress .failed ≡ true → Untouched a h (closes h a g)
+  pub failed : (g : Agreement) → programOf h .progress .failed ≡ true → Untouched a h (closes h a g)
   -- the same of a program that has not ended
-  pub unended : (g : Agreement) → going (h .program .terms) (h .program .progress) ≡ true → Untouched a h (closes h a g)
+  pub unended : (g : Agreement) → going (programOf h .terms) (programOf h .progress) ≡ true → Untouched a h (closes h a g)
 
 -- a close that is answered with 0 or 14 leaves no program open; "Every close frees all stage slots."
 pub record Closing (h : Host) (a : Areas) (g : Agreement) : Type 0 where
   pub done : closes h a g .number ≡ 0 → Shut (closes h a g .host)
   pub dropped : closes h a g .number ≡ 14 → Shut (closes h a g .host)
   -- "Giving up always closes and commits nothing.": the whole answer
-  pub up : inOrder h ≡ true → areasRight h (a .disk) (a .stage) ≡ true → h .program .active ≡ true → g .agree ≡ false
+  pub up : inOrder h ≡ true → areasRight h (a .disk) (a .stage) ≡ true → programOf h .active ≡ true → g .agree ≡ false
       → closes h a g ≡ givenUp 0 (a .disk) h
   -- "save that a wrong agreement closes the program and drops its changes": the whole answer
   pub wrong : closes h a g .number ≡ 14 → closes h a g ≡ givenUp 14 (a .disk) h

@@ -1,5 +1,5 @@
 -- Demand 2: "It does what SIP-0001 and document 01 say: each record, root, cost and commit is the defined one, and cost stays within
--- budget." z is the sector size. Assumes nothing.
+-- budget." Assumes nothing.
 use mathlib.Core.Path.{_≡_}
 use mathlib.Core.Bool.{true, false}
 use mathlib.Core.List.{List, [], _∷_, _++_}
@@ -10,6 +10,7 @@ use Rattle.area.specs.Little.{le8, Bytes}
 use Rattle.sia.specs.Encode.{encode, within}
 use Rattle.sia.specs.Decode.{decode, told}
 use Rattle.sia.specs.Trim.{trimmed, Proper}
+use Rattle.host.specs.With.{programOf}
 use Rattle.machine_rules.specs.View.{Turn, Volume}
 use Rattle.machine_rules.specs.declared.Setting.{Setting}
 use Rattle.machine_rules.specs.Seats.{firstSeat}
@@ -33,13 +34,13 @@ pub record Ran (h : Host) (o : Opening) (a : Areas) (all : List ℕ) (k : ℕ) (
   pub tally : w .tally ≡ o .prices .init + charged h a all k
   pub within : w .tally ≤ o .budget
   -- if the program has not failed, its last record shows, behind number and cost, the running pair, which an agreement names
-  pub shows : 0 < length (firstRecords h a all k) → w .host .program .progress .failed ≡ false
+  pub shows : 0 < length (firstRecords h a all k) → programOf (w .host) .progress .failed ≡ false
       → let pair = running (w .host) (leftBy a w) in part (lastOf [] (firstRecords h a all k)) 16 40 ≡ le8 (pair .size) ++ pair .root
 
 -- the call `reached` tells the running pair of a program that has not failed
 abbrev pub Tells : Host → Areas → Type 0
 Tells h a = let r = reaches h a in
-    r .number ≡ 0 → h .program .progress .failed ≡ false → pairing (r .size) (r .root) ≡ running h a
+    r .number ≡ 0 → programOf h .progress .failed ≡ false → pairing (r .size) (r .root) ≡ running h a
 
 -- an agreement that a host answers
 pub record Agreed (h : Host) (a : Areas) (g : Agreement) : Type 0 where
@@ -64,8 +65,8 @@ pub record Closes (h : Host) (a : Areas) (w : Pieced) (g : Agreement) : Type 0 w
       → Committed (w .host) (leftBy a w) (closesAfter a w g)
   pub unchanged : Unchanged (w .host) (leftBy a w) → Untouched a h (closesAfter a w g)
   pub nothing : (closesAfter a w g .number ≡ 0 → g .agree ≡ true → ⊥) → Untouched a h (closesAfter a w g)
-  pub failed : w .host .program .progress .failed ≡ true → Untouched a h (closesAfter a w g)
-  pub unended : going (w .host .program .terms) (w .host .program .progress) ≡ true → Untouched a h (closesAfter a w g)
+  pub failed : programOf (w .host) .progress .failed ≡ true → Untouched a h (closesAfter a w g)
+  pub unended : going (programOf (w .host) .terms) (programOf (w .host) .progress) ≡ true → Untouched a h (closesAfter a w g)
 
 pub record Demand2 : Type 0 where
   pub instructions : (s : Setting) (vol : Volume) (i : Instruction) (l : List (List ℕ)) (t : Turn) → Instructed s vol i l t

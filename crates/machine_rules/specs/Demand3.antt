@@ -5,6 +5,7 @@ use mathlib.Core.List.{List, _∷_, _++_}
 use Prim.Native.Nat.{ℕ}
 use lib.ListN.{length}
 use Rattle.area.specs.Area.{put}
+use Rattle.host.specs.With.{programOf}
 use Rattle.machine_rules.specs.Calls.{Pieced}
 use Rattle.machine_rules.specs.Visit.{Areas, Opening, opens, Visit}
 use Rattle.machine_rules.specs.Trace.{together, lentTo, AllAccepted, visited, after, met, firstRecords, recordsIn}
@@ -18,7 +19,7 @@ pub record Cut (h : Host) (a : Areas) (all : List ℕ) (bs : List (List ℕ)) (k
   -- output area changes
   pub output : w .output ≡ put (a .output) 0 (together (firstRecords h a all k))
   pub count : recordsIn (w .host) ≡ met h a all k
-  pub written : w .host .program .progress .written ≡ length (together (firstRecords h a all k))
+  pub written : programOf (w .host) .progress .written ≡ length (together (firstRecords h a all k))
   -- host, tally and all areas are those of the run on the whole data, stopped at the first need that has not come
   pub state : w ≡ after h a all k
 

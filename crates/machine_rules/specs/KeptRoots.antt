@@ -9,6 +9,7 @@ use Rattle.lists.specs.Tests.{every}
 use Rattle.area.specs.Little.{Bytes}
 use Rattle.tree.specs.Tree as Tree
 use Rattle.tree.specs.Walk as Walk
+use Rattle.host.specs.With.{programOf}
 use Rattle.host.specs.Places.{whose}
 use Rattle.host.specs.Order.{inOrder}
 use Rattle.host.specs.Calls.{freshed, formed, dropped}
@@ -33,10 +34,10 @@ pub record Faithful (h : Host) (a : Areas) : Type 0 where
   pub pieces : (bs : List (List ℕ)) → fedBy kept (a .disk) (lentTo h a) bs ≡ fedBy worked (a .disk) (lentTo h a) bs
   pub visits : (o : Opening) → Bytes (o .bytes) → (bs : List (List ℕ)) → visitedBy kept h o a bs ≡ visitedBy worked h o a bs
   -- demand 2's records
-  pub records : (all : List ℕ) → areasRight h (a .disk) (a .stage) ≡ true → h .program .active ≡ true
+  pub records : (all : List ℕ) → areasRight h (a .disk) (a .stage) ≡ true → programOf h .active ≡ true
       → wholeRunBy kept h a all ≡ wholeRunBy worked h a all
   -- and so the root that an agreement must name is the tree's over all bytes of the parent as it is read now
-  pub running : areasRight h (a .disk) (a .stage) ≡ true → h .program .active ≡ true
+  pub running : areasRight h (a .disk) (a .stage) ≡ true → programOf h .active ≡ true
       → running h a .root ≡ Tree.root (runningSectors h a)
   -- and the root of each contract, as records of failures show it and a commit leaves it, is that over all its bytes
   pub committed : areasRight h (a .disk) (a .stage) ≡ true → (id : List ℕ)

@@ -1,4 +1,4 @@
--- What a call leaves, as facts with names that the demands speak of. z is the sector size. Assumes nothing.
+-- What a call leaves, as facts with names that the demands speak of. Assumes nothing.
 use mathlib.Core.Path.{_≡_}
 use mathlib.Core.Bool.{Bool, true, false, not}
 use mathlib.Core.List.{List, []}
@@ -12,7 +12,7 @@ use Rattle.area.specs.Area.{same, part, put}
 use Rattle.area.specs.Little.{Bytes}
 use Rattle.tree.specs.Tree.{root}
 use Rattle.sia.specs.Names.{opOf}
-use Rattle.host.specs.With.{withWritten, withFailed}
+use Rattle.host.specs.With.{withWritten, withFailed, programOf}
 use Rattle.host.specs.Empty.{none, noProgram}
 use Rattle.host.specs.Places.{whose}
 use Rattle.host.specs.Calls.{formed, dropped}
@@ -96,20 +96,20 @@ pub record Untouched (a : Areas) (h : Host) (after : Closed) : Type 0 where
 -- the stage slots that a host has taken: those of the staged positions of an open program
 unfoldable pub stageTaken : Host → List ℕ
 stageTaken h =
-    let staged = those (λ n. not (eqb n none)) (h .program .progress .staged) in
-    pick (h .program .active) staged []
+    let staged = those (λ n. not (eqb n none)) (programOf h .progress .staged) in
+    pick (programOf h .active) staged []
 
 -- no program is open, its fields are zeros again, and no stage slot is taken
 pub record Shut (h : Host) : Type 0 where
-  pub program : h .program ≡ noProgram
-  pub active : h .program .active ≡ false
+  pub program : programOf h ≡ noProgram
+  pub active : programOf h .active ≡ false
   pub slots : stageTaken h ≡ []
 
 -- a close commits nothing: disk and contracts as they were, no stage slot taken any more; the tally, and growth 0
 pub record Dropped (a : Areas) (h : Host) (after : Closed) : Type 0 where
   pub untouched : Untouched a h after
   pub shut : Shut (after .host)
-  pub tally : after .tally ≡ h .program .progress .tally
+  pub tally : after .tally ≡ programOf h .progress .tally
   pub growth : after .growth ≡ pos 0
 
 -- a close commits: the parent has the size, root and bytes that it was read with; every other contract is as it was, and so is each slot
@@ -118,16 +118,16 @@ pub record Dropped (a : Areas) (h : Host) (after : Closed) : Type 0 where
 pub record Committed (h : Host) (a : Areas) (after : Closed) : Type 0 where
   pub parent : pairIn (h .sector) (after .host) (after .disk) (parentIn h (after .host .places)) ≡ running h a
   pub sectors : sectorsOf (h .sector) (after .disk) (parentIn h (after .host .places)) ≡ runningSectors h a
-  pub others : (id : List ℕ) → same (h .program .terms .head .contract) id ≡ false
+  pub others : (id : List ℕ) → same (programOf h .terms .head .contract) id ≡ false
       → (whose id (after .host .places) ≡ whose id (h .places))
       × ((sectorsOf (h .sector) (after .disk) (whose id (h .places)) ≡ sectorsOf (h .sector) (a .disk) (whose id (h .places)))
       × (pairIn (h .sector) (after .host) (after .disk) (whose id (h .places)) ≡ pairIn (h .sector) h (a .disk) (whose id (h .places))))
   pub slots : (n : ℕ)
-      → ((at : ℕ) → at < h .program .progress .size / h .sector → eqb (getD (h .program .progress .staged) at none) none ≡ false
+      → ((at : ℕ) → at < programOf h .progress .size / h .sector → eqb (getD (programOf h .progress .staged) at none) none ≡ false
       → getD (parentIn h (after .host .places) .slots) at 0 ≡ n → ⊥)
       → (part (after .disk) (n * h .sector) (h .sector) ≡ part (a .disk) (n * h .sector) (h .sector))
       × (part (after .host .diskroots) (n * 32) 32 ≡ part (h .diskroots) (n * 32) 32)
   pub stage : after .host .stageroots ≡ h .stageroots
   pub long : length (after .disk) ≡ length (a .disk)
-  pub tally : after .tally ≡ h .program .progress .tally
-  pub growth : after .growth ≡ pos (h .program .progress .size) -ℤ pos (parentIn h (h .places) .size)
+  pub tally : after .tally ≡ programOf h .progress .tally
+  pub growth : after .growth ≡ pos (programOf h .progress .size) -ℤ pos (parentIn h (h .places) .size)

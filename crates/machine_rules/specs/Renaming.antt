@@ -7,6 +7,7 @@ use lib.ListN.{length, take, drop, getD}
 use Rattle.area.specs.Area.{put}
 use Rattle.sia.specs.Names.{opOf}
 use Rattle.sia.specs.Empty.{noInstruction}
+use Rattle.host.specs.With.{programOf}
 use Rattle.host.specs.Order.{inOrder}
 use Rattle.host.specs.Renaming.{hostAs}
 use Rattle.host.specs.Calls.{padded, formed, dropped}
@@ -59,7 +60,7 @@ pub record Alike (r : List ℕ → List ℕ) (h : Host) (a : Areas) : Type 0 whe
       opens (hostAs r h) (openingAs r o) ≡ answered (x .number) (x .tally) (hostAs r (x .host))
   -- the input areas aside, which hold what they were given
   pub piece : (input bytes bytes′ : List ℕ) → length input ≡ length (a .input) → length bytes′ ≡ length bytes
-      → AsksAs r (h .program .terms .head) (put (a .input) (h .program .came) bytes) (put input (h .program .came) bytes′)
+      → AsksAs r (programOf h .terms .head) (put (a .input) (programOf h .came) bytes) (put input (programOf h .came) bytes′)
       → let x = gives h a bytes in
       let y = gives (hostAs r h) (record { disk = a .disk; stage = a .stage; input = input; output = a .output }) bytes′ in
       y ≡ pieced (x .number) (x .tally) (hostAs r (x .host)) (x .stage) (y .input) (x .output)

@@ -1,4 +1,4 @@
--- One instruction, and instructions in turn while their need has come. z is the sector size. Assumes nothing.
+-- One instruction, and instructions in turn while their need has come. Assumes nothing.
 use mathlib.Core.Bool.{Bool, true, not}
 use mathlib.Core.List.{List}
 use Prim.Native.Nat.{ℕ, zero, suc, _+_}

@@ -10,6 +10,7 @@ use Rattle.lists.specs.Tests.{each, firstOf}
 use Rattle.area.specs.Area.{same}
 use Rattle.tree.specs.Tree as Tree
 use Rattle.sia.specs.Names.{opOf}
+use Rattle.host.specs.With.{programOf}
 use Rattle.host.specs.Empty.{noPlace}
 use Rattle.host.specs.Places.{hasId, taken}
 use Rattle.host.specs.Order.{inOrder}
@@ -133,8 +134,8 @@ pub record Locates (h : Host) (key : List ℕ) : Type 0 where
       → located h key ≡ record { number = 0; found = true; place = x .place; position = x .position; staged = isStaged (x .spot) }
   pub nowhere : inOrder h ≡ true → looked h key ≡ Nowhere → located h key ≡ notLocated 0
   -- of an open program, failed or not, it looks through what ReadSector looks through, with no program through all committed sectors
-  pub program : h .program .active ≡ true → seatsIn h ≡ seatsOf (settingOf h) (h .program .progress)
-  pub none : h .program .active ≡ false
+  pub program : programOf h .active ≡ true → seatsIn h ≡ seatsOf (settingOf h) (programOf h .progress)
+  pub none : programOf h .active ≡ false
       → Finds (reading (h .sector) (h .places)) (rootOf (settingOf h) (volumeOf h []) [] (h .stageroots)) key (looked h key)
 
 -- "whether the stage held it": then a sector's bytes are the stage's, else the disk's
@@ -147,13 +148,13 @@ pub record Soundly (h : Host) (a : Areas) (key : List ℕ) : Type 0 where
   -- kept roots find what roots worked out from the bytes find
   pub located : locatedBy kept (a .disk) h (a .stage) key ≡ locatedBy worked (a .disk) h (a .stage) key
   -- and the sector that ReadSector reads has that root, worked out from its bytes
-  pub bytes : h .program .active ≡ true → (x : Spot)
+  pub bytes : programOf h .active ≡ true → (x : Spot)
       → let f = rootAt (settingOf h) (volumeOf h (a .disk)) (turnOf h (a .stage) (a .output)) in
-      sourceOf (settingOf h) f (h .program .progress) ReadSector key ≡ seen (x ∷ [])
+      sourceOf (settingOf h) f (programOf h .progress) ReadSector key ≡ seen (x ∷ [])
       → Tree.root (sector (h .sector) (a .disk) (a .stage) x) ≡ key
 
 pub record StageFirst : Type 0 where
-  pub looks : (h : Host) → inOrder h ≡ true → h .program .active ≡ true → (disk : List ℕ) (f : Spot → List ℕ) (p : Progress) (key : List ℕ)
+  pub looks : (h : Host) → inOrder h ≡ true → programOf h .active ≡ true → (f : Spot → List ℕ) (p : Progress) (key : List ℕ)
       → Looks (settingOf h) f p key
   pub reads : (s : Setting) (vol : Volume) (t : Turn) (key : List ℕ) → Reads s vol t key
   pub refuses : (s : Setting) (vol : Volume) (t : Turn) → NotFound s vol t

@@ -8,6 +8,7 @@ use lib.Dec.{leb}
 use Rattle.lists.specs.Pick.{pick}
 use Rattle.area.specs.Area.{put}
 use Rattle.sia.specs.Empty.{noInstruction}
+use Rattle.host.specs.With.{programOf}
 use Rattle.host.specs.Places.{whose}
 use Rattle.machine_rules.specs.View.{Way, kept, Turn, turnOf, withRun, parentSpots, committedSpots, whole, Volume, settingOf, volumeBy, volumeOf}
 use Rattle.machine_rules.specs.declared.Setting.{Setting}
@@ -32,7 +33,7 @@ together (b ∷ bs) = b ++ together bs
 
 -- a host and its areas before the first piece
 abbrev pub lentTo : Host → Areas → Pieced
-lentTo h a = pieced 0 (h .program .progress .tally) h (a .stage) (a .input) (a .output)
+lentTo h a = pieced 0 (programOf h .progress .tally) h (a .stage) (a .input) (a .output)
 
 -- what pieces leave that are given in turn: "Areas are lent back as they were left, with no interrupt and no other call between."
 unfoldable pub fedBy : Way → List ℕ → Pieced → List (List ℕ) → Pieced
@@ -95,7 +96,7 @@ ripe s k i (suc n) =
 -- the records of the whole run: what the data gives when all of it has come
 unfoldable pub wholeRunBy : Way → Host → Areas → List ℕ → List (List ℕ)
 wholeRunBy way h a all =
-    let d = h .program .terms .head in
+    let d = programOf h .terms .head in
     trail (settingOf h) (volumeBy way h (a .disk)) all (d .length) (d .count) (turnOf h (a .stage) (a .output))
 
 abbrev pub wholeRun : Host → Areas → List ℕ → List (List ℕ)
@@ -105,7 +106,7 @@ wholeRun h a all = wholeRunBy kept h a all
 -- come"
 unfoldable pub met : Host → Areas → List ℕ → ℕ → ℕ
 met h a all k =
-    min (ripe (settingOf h) k (h .program .progress .ran) (h .program .terms .head .count)) (length (wholeRun h a all))
+    min (ripe (settingOf h) k (programOf h .progress .ran) (programOf h .terms .head .count)) (length (wholeRun h a all))
 
 -- "the first m": the records once k bytes have come
 abbrev pub firstRecords : Host → Areas → List ℕ → ℕ → List (List ℕ)
@@ -113,7 +114,7 @@ firstRecords h a all k = take (met h a all k) (wholeRun h a all)
 
 -- how many instructions of an open program have left a record
 abbrev pub recordsIn : Host → ℕ
-recordsIn h = h .program .progress .ran + pick (h .program .progress .failed) 1 0
+recordsIn h = programOf h .progress .ran + pick (programOf h .progress .failed) 1 0
 
 -- the last of records, r where there are none
 unfoldable pub lastOf : List ℕ → List (List ℕ) → List ℕ
@@ -133,7 +134,7 @@ charges s vol input k (suc n) t =
 
 -- of a program with k bytes come, from its opening
 abbrev pub charged : Host → Areas → List ℕ → ℕ → ℕ
-charged h a all k = charges (settingOf h) (volumeOf h (a .disk)) all k (h .program .terms .head .count) (turnOf h (a .stage) (a .output))
+charged h a all k = charges (settingOf h) (volumeOf h (a .disk)) all k (programOf h .terms .head .count) (turnOf h (a .stage) (a .output))
 
 -- ---- contracts
 
@@ -143,7 +144,7 @@ sectorsOf z disk p = whole z disk [] (committedSpots z p)
 
 -- the contract of that place list that an open program's head names
 abbrev pub parentIn : Host → List Place → Place
-parentIn h ps = whose (h .program .terms .head .contract) ps
+parentIn h ps = whose (programOf h .terms .head .contract) ps
 
 -- a contract's size and root, as a host and the disk have it; z is the host's sector size
 abbrev pub pairIn : ℕ → Host → List ℕ → Place → Pair
@@ -157,10 +158,10 @@ starting h a = startingPair (settingOf h) (volumeOf h (a .disk))
 abbrev pub running : Host → Areas → Pair
 running h a =
     let f = rootOf (settingOf h) (volumeOf h (a .disk)) (a .stage) (h .stageroots) in
-    runningPair (settingOf h) f (h .program .progress)
+    runningPair (settingOf h) f (programOf h .progress)
 
 abbrev pub runningSectors : Host → Areas → List ℕ
-runningSectors h a = whole (h .sector) (a .disk) (a .stage) (parentSpots (settingOf h) (h .program .progress))
+runningSectors h a = whole (h .sector) (a .disk) (a .stage) (parentSpots (settingOf h) (programOf h .progress))
 
 -- "final size and root equal the starting ones": a matter of the two pairs, not of which instructions ran
 abbrev pub Unchanged : Host → Areas → Type 0

@@ -3,6 +3,7 @@
 use mathlib.Core.Path.{_≡_}
 use mathlib.Core.Bool.{true}
 use lib.IntN.{pos}
+use Rattle.host.specs.With.{programOf}
 use Rattle.host.specs.Order.{inOrder}
 use Rattle.machine_rules.specs.View.{areasRight, readOnlyMode}
 use Rattle.machine_rules.specs.Record.{samePair}
@@ -16,9 +17,9 @@ use Rattle.machine_rules.specs.declared.Pair.{Pair}
 
 -- 13, "agreement to a program not ended, or failed", comes before all that is asked of pairs: the whole answer
 pub record Thirteen (h : Host) (a : Areas) (g : Agreement) : Type 0 where
-  pub first : inOrder h ≡ true → areasRight h (a .disk) (a .stage) ≡ true → h .program .active ≡ true
-      → unfinished (h .program) ≡ true → closes h a g ≡ closed 13 0 (pos 0) h (a .disk)
-  pub only : closes h a g .number ≡ 13 → unfinished (h .program) ≡ true
+  pub first : inOrder h ≡ true → areasRight h (a .disk) (a .stage) ≡ true → programOf h .active ≡ true
+      → unfinished (programOf h) ≡ true → closes h a g ≡ closed 13 0 (pos 0) h (a .disk)
+  pub only : closes h a g .number ≡ 13 → unfinished (programOf h) ≡ true
 
 -- an agreement
 pub record Agreeing (h : Host) (a : Areas) (g : Agreement) : Type 0 where
@@ -44,6 +45,6 @@ pub record NothingToAgree : Type 0 where
   pub yes : (one two : Pair) → one ≡ two → samePair one two ≡ true
   pub agreeing : (h : Host) (a : Areas) (g : Agreement) → g .agree ≡ true → Agreeing h a g
   pub reading : (h : Host) (a : Areas) (g : Agreement) → g .agree ≡ true → Finished h a
-      → readOnlyMode (h .program .terms) ≡ true → Reading h a g
+      → readOnlyMode (programOf h .terms) ≡ true → Reading h a g
   -- whatever is said of it at the close, an unchanged program changes no contract
   pub nothing : (h : Host) (a : Areas) (g : Agreement) → Unchanged h a → Untouched a h (closes h a g)

@@ -11,7 +11,7 @@ use Rattle.area.specs.Area.{same, part}
 use Rattle.sia.specs.Names.{readOnly}
 use Rattle.sia.specs.Encode.{joined}
 use Rattle.host.specs.Empty.{none}
-use Rattle.host.specs.With.{withProgram, withStageRoots, withCame, withProgress}
+use Rattle.host.specs.With.{withProgram, withStageRoots, withCame, withProgress, programOf}
 use Rattle.host.specs.Places.{whose, committed}
 use Rattle.host.specs.declared.Place.{Place}
 use Rattle.host.specs.declared.Terms.{Terms}
@@ -51,7 +51,7 @@ turn progress stage output roots = record { progress = progress; stage = stage; 
 
 abbrev pub settingOf : Host → Setting
 settingOf h =
-    record { sector = h .sector; disksectors = h .disk; stagesectors = h .stage; places = h .places; terms = h .program .terms }
+    record { sector = h .sector; disksectors = h .disk; stagesectors = h .stage; places = h .places; terms = programOf h .terms }
 
 unfoldable pub volumeBy : Way → Host → List ℕ → Volume
 volumeBy way h disk = record { disk = disk; roots = h .diskroots; way = way }
@@ -60,11 +60,11 @@ abbrev pub volumeOf : Host → List ℕ → Volume
 volumeOf h disk = volumeBy kept h disk
 
 unfoldable pub turnOf : Host → List ℕ → List ℕ → Turn
-turnOf h stage output = turn (h .program .progress) stage output (h .stageroots)
+turnOf h stage output = turn (programOf h .progress) stage output (h .stageroots)
 
 -- the host when k bytes have come, its program has made this progress, and these roots are kept beside the stage's slots
 unfoldable pub withRun : Host → ℕ → Progress → List ℕ → Host
-withRun h k p roots = withStageRoots (withProgram h (withProgress (withCame (h .program) k) p)) roots
+withRun h k p roots = withStageRoots (withProgram h (withProgress (withCame (programOf h) k) p)) roots
 
 -- "a call that lends them must lend the same lengths"
 unfoldable pub diskRight : Host → List ℕ → Bool

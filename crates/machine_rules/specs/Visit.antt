@@ -7,6 +7,7 @@ use Prim.Native.Nat.{ℕ}
 use lib.ListN.{length}
 use Rattle.area.specs.Little.{Bytes}
 use Rattle.sia.specs.Decode.{decode}
+use Rattle.host.specs.With.{programOf}
 use Rattle.host.specs.Order.{inOrder}
 use Rattle.machine_rules.specs.View.{Way, areasRight}
 use Rattle.machine_rules.specs.Record.{pairing}
@@ -88,7 +89,7 @@ Shaped (p ∷ ps) = (length (p .slots) ≡ 64) × Shaped ps
 -- a host whose arrays are as declared
 pub record Declared (h : Host) : Type 0 where
   pub places : Shaped (h .places)
-  pub staged : length (h .program .progress .staged) ≡ 64
+  pub staged : length (programOf h .progress .staged) ≡ 64
   pub disk : length (h .diskroots) ≡ 2048
   pub stage : length (h .stageroots) ≡ 512
 
@@ -106,9 +107,9 @@ pub record Sound (h : Host) (disk stage : List ℕ) : Type 0 where
 pub record Finished (h : Host) (a : Areas) : Type 0 where
   pub order : inOrder h ≡ true
   pub areas : areasRight h (a .disk) (a .stage) ≡ true
-  pub live : h .program .active ≡ true
-  pub good : h .program .progress .failed ≡ false
-  pub ended : going (h .program .terms) (h .program .progress) ≡ false
+  pub live : programOf h .active ≡ true
+  pub good : programOf h .progress .failed ≡ false
+  pub ended : going (programOf h .terms) (programOf h .progress) ≡ false
 
 -- ---- visits
 

@@ -1,4 +1,4 @@
--- What callers use: what a look-up asks, with a program in order and with none. z is the sector size. Assumes nothing.
+-- What callers use: what a look-up asks, with a program in order and with none. Assumes nothing.
 use Rattle.lists.proofs.Kit.{_≡_, List, ℕ, arith, length}
 use Rattle.host.specs.Places.{taken}
 use Rattle.machine_rules.specs.View.{parent, parentSpots, Volume}

@@ -1,4 +1,4 @@
--- What functions ask of their callers. z is the sector size. Assumes nothing.
+-- What functions ask of their callers. Assumes nothing.
 use mathlib.Core.Path.{_≡_}
 use mathlib.Core.Bool.{true}
 use mathlib.Core.List.{List}

@@ -1,4 +1,4 @@
--- What effects ask, from an instruction that passed its checks on a host in order. z is the sector size. Assumes nothing.
+-- What effects ask, from an instruction that passed its checks on a host in order. Assumes nothing.
 use Rattle.lists.proofs.Kit.{_≡_, sym, ap, subst, true, false, List, [], _∷_, ℕ, _+_, _*_, _/_, _≤_, _<_, div-lt-iff-lt-mul, mul-le-mul-right, arith}
 use Rattle.lists.proofs.Kit.{length, getD, ltb, eqb, ltb-true, lt-ltb}
 use Rattle.lists.specs.Pick.{pick}

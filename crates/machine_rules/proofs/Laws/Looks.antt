@@ -12,7 +12,7 @@ use Rattle.sia.specs.Encode.{joined}
 use Rattle.host.specs.Places.{hasId, whose, committed, taken}
 use Rattle.host.specs.Order.{inOrder, twins, parentInOrder}
 use Rattle.host.proofs.Laws.Order.{order-facts}
-use Rattle.machine_rules.specs.View.{readOnlyMode, parent, spotOf, parentSpots, committedSpots, settingOf, volumeBy}
+use Rattle.machine_rules.specs.View.{readOnlyMode, parent, spotOf, parentSpots, committedSpots, settingOf}
 use Rattle.machine_rules.specs.declared.Setting.{Setting}
 use Rattle.machine_rules.specs.Seats.{seated, committedSeats, seats, nobody, allSeats, seatsOf, firstSeat}
 use Rattle.machine_rules.specs.Plan.{seen, soughtSource, sectorSource}
@@ -157,10 +157,10 @@ module _ (s : Setting) (f : Spot → List ℕ) (p : Progress) (key : List ℕ) w
     unchanged = look-reading;
   }
 
-pub looks : (h : Host) → inOrder h ≡ true → h .program .active ≡ true → (disk : List ℕ) (f : Spot → List ℕ) (p : Progress) (key : List ℕ)
+pub looks : (h : Host) → inOrder h ≡ true → h .program .active ≡ true → (f : Spot → List ℕ) (p : Progress) (key : List ℕ)
     → Looks (settingOf h) f p key
-unfolding volumeBy readOnlyMode parentInOrder
-looks h o live disk f p key =
+unfolding readOnlyMode parentInOrder
+looks h o live f p key =
     let facts = order-facts h o in
     let id = h .program .terms .head .contract in
     looks-in (settingOf h) f p key (facts .contracts .differ)

@@ -1,4 +1,4 @@
--- What a program that is going on a host in order gives the functions that take its instruction, and how a step comes to its failure. z is the sector size.
+-- What a program that is going on a host in order gives the functions that take its instruction, and how a step comes to its failure.
 -- Assumes nothing.
 use Rattle.lists.proofs.Kit.{_≡_, sym, ap, ap₂, _∙_, List, [], ℕ, _+_, _≤_, _<_, arith, length}
 use Rattle.lists.proofs.Laws.Pick.{skips}
