@@ -17,7 +17,8 @@ use Rattle.machine_rules.proofs.Laws.KeptSlots.{none-of}
 use Rattle.machine_rules.proofs.Laws.Taking.{order-good}
 use Rattle.host.specs.declared.Place.{Place}
 use Rattle.host.specs.declared.Host.{Host}
-use Rattle.machine_rules.proofs.Laws.Final.{place, old, committed-order, final-is}
+use Rattle.machine_rules.proofs.Laws.Final.{final}
+use Rattle.machine_rules.proofs.Laws.FinalOrder.{committed-order}
 
 -- ---- committing
 
@@ -57,7 +58,7 @@ final-place z disk size id ps it l e f =
 
 pub commit-order : (disk : List ℕ) (h : Host) (stage : List ℕ) → Declared h → inOrder h ≡ true → h .program .active ≡ true
     → inOrder (commit disk h stage .host) ≡ true
-unfolding volumeBy place old
+unfolding volumeBy
 commit-order disk h stage sound o live =
     let id = h .program .terms .head .contract in
     let size = h .program .progress .size in
@@ -67,8 +68,8 @@ commit-order disk h stage sound o live =
     ∙ idle-order h _ _ o
     (by (whose id (h .places) .held)
     (λ e. let s = split id (h .places) (place-twins (h .sector) (h .disk) (h .places) (q .0)) e in
+    let f = final (h .sector) (h .disk) size id (h .places) s (order-some h o) (q .1) (q .0) (sound .places) (g .whole) (g .within) in
     ap (λ (x : Place). placesInOrder (h .sector) (h .disk) (replaced id x (h .places)))
-    (final-place (h .sector) (h .disk) size id (h .places) (s .it) _ (s .whose-is)
-    (final-is (h .sector) (h .disk) size id (h .places) s (order-some h o) (q .1) (q .0) (sound .places) (g .whole) (g .within)))
-    ∙ committed-order (h .sector) (h .disk) size id (h .places) s (order-some h o) (q .1) (q .0) (sound .places) (g .whole) (g .within))
+    (final-place (h .sector) (h .disk) size id (h .places) (s .it) _ (s .whose-is) (f .is))
+    ∙ committed-order (h .sector) (h .disk) size id (h .places) s f (q .1) (q .0) (g .whole))
     (λ e. ap (placesInOrder (h .sector) (h .disk)) (replaced-none id _ (h .places) (none-of id (h .places) e)) ∙ q .0))

@@ -1,6 +1,5 @@
 -- A commit with a held parent: the parent has the size, root and bytes that it was read with, every other contract is left. Assumes nothing.
-use Rattle.lists.proofs.Kit.{_≡_, refl, sym, ap, _∙_, subst, true, false, List, [], ℕ, _*_, _/_, _≤_, _<_, arith, length, getD, List·getD-append}
-use Rattle.lists.proofs.Kit.{eqb, ltb-true}
+use Rattle.lists.proofs.Kit.{_≡_, refl, sym, ap, _∙_, subst, true, false, List, [], ℕ, _*_, _/_, _≤_, _<_, arith, length, getD, List·getD-append, eqb, ltb-true}
 use lib.IntN.{pos, _-ℤ_}
 use Rattle.lists.specs.Tests.{each, unused}
 use Rattle.lists.specs.Tab.{tab}

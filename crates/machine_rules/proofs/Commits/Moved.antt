@@ -1,7 +1,7 @@
 -- An area with y bytes a slot after a commit, of sectors and of the roots kept beside them alike: the parent's slots hold what its positions
 -- are read as, and every other slot is left. Assumes nothing.
-use Rattle.lists.proofs.Kit.{_≡_, sym, ap, _∙_, subst, true, false, List, [], _++_, append-nil, ℕ, _+_, _*_, _/_, _≤_, _<_, arith, length, getD}
-use Rattle.lists.proofs.Kit.{ltb, eqb, not-true, ltb-true}
+use Rattle.lists.proofs.Kit.{_≡_, sym, ap, _∙_, subst, true, false, List, [], _++_, append-nil, ℕ, _+_, _*_, _/_, _≤_, _<_, arith, length, getD, ltb, eqb}
+use Rattle.lists.proofs.Kit.{not-true, ltb-true}
 use Rattle.lists.specs.Tests.{every, each, apart, unused}
 use Rattle.lists.specs.Tab.{tab}
 use Rattle.lists.proofs.Laws.Pick.{by, picks, skips}

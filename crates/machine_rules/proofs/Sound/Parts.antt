@@ -3,7 +3,7 @@ use Rattle.lists.proofs.Kit.{_≡_, ap, true, not, List, ℕ}
 use Rattle.lists.specs.Tests.{every}
 use Rattle.lists.proofs.Laws.Pick.{by, picks, both-left, both-right, both-join, second-not, or-right}
 use Rattle.host.specs.Places.{taken}
-use Rattle.machine_rules.specs.View.{kept, turnOf, areasRight, settingOf, volumeBy, volumeOf}
+use Rattle.machine_rules.specs.View.{turnOf, areasRight, settingOf, volumeBy, volumeOf}
 use Rattle.machine_rules.specs.Facts.{Good, Solid}
 use Rattle.machine_rules.specs.Sound.{right, stagedRight, rootsRight, sound}
 use Rattle.machine_rules.specs.Visit.{Areas, Sound}

@@ -7,8 +7,7 @@ use Rattle.machine_rules.specs.View.{kept, worked, Turn, turnOf, withRun
 use Rattle.machine_rules.specs.Roots.{rootOf, rootOnDisk}
 use Rattle.machine_rules.specs.Record.{pairing, samePair, pairOf, startingPair, runningPair}
 use Rattle.machine_rules.specs.Run.{run, Stepped, turned}
-use Rattle.machine_rules.specs.Calls.{pieced, acceptedBy, pieceBy, interrupted, stoppedBy, interruptBy}
-use Rattle.machine_rules.specs.Calls.{reachedAt, reachedPairBy, reachedBy}
+use Rattle.machine_rules.specs.Calls.{pieced, acceptedBy, pieceBy, interrupted, stoppedBy, interruptBy, reachedAt, reachedPairBy, reachedBy}
 use Rattle.machine_rules.specs.Commit.{givenUp, commit, agreedBy, closeBy}
 use Rattle.machine_rules.specs.Sound.{right}
 use Rattle.machine_rules.specs.Visit.{Areas, Agreement, Sound, named, givesBy, stopsBy, reachesBy, closesBy}
