@@ -1,10 +1,8 @@
 -- A commit with a held parent: the parent has the size, root and bytes that it was read with, every other contract is left. Assumes nothing.
-use Rattle.lists.proofs.Kit.{_≡_, refl, sym, ap, _∙_, subst, true, false, List, [], ℕ, _*_, _/_, _≤_, _<_, arith, length, getD, List·getD-append, eqb, ltb-true}
+use Rattle.lists.proofs.Kit.{_≡_, refl, sym, ap, _∙_, subst, true, false, List, [], ℕ, _*_, _/_, _≤_, _<_, arith, length, getD, List·getD-append, eqb}
 use lib.IntN.{pos, _-ℤ_}
 use Rattle.lists.specs.Tests.{each, unused}
 use Rattle.lists.specs.Tab.{tab}
-use Rattle.lists.proofs.Laws.Pick.{picks, skips}
-use Rattle.lists.proofs.Laws.Every.{every-at}
 use Rattle.lists.proofs.Laws.Each.{length-each}
 use Rattle.lists.proofs.Laws.Tab.{length-tab}
 use Rattle.area.specs.Area.{same, part}
@@ -12,7 +10,6 @@ use Rattle.area.proofs.Laws.Slots.{slot-within}
 use Rattle.host.specs.Empty.{none}
 use Rattle.host.specs.With.{withPlaces, withProgram, withDiskRoots, withSize, withSlots}
 use Rattle.host.specs.Places.{hasId, whose}
-use Rattle.host.specs.Order.{slotInOrder}
 use Rattle.host.specs.Calls.{replaced}
 use Rattle.machine_rules.specs.View.{parent, sector, spotOf, parentSpots, committedSpots, whole, settingOf, volumeBy, volumeOf}
 use Rattle.machine_rules.specs.Roots.{keptRoot, rootBy, rootOf, contractRoot}
@@ -23,7 +20,7 @@ use Rattle.machine_rules.specs.Trace.{sectorsOf, running, runningSectors
 use Rattle.machine_rules.specs.Outcome.{Committed}
 use Rattle.machine_rules.proofs.Committing.{order-places}
 use Rattle.machine_rules.proofs.Commits.Moved.{Fits, slot-left, other-alike, position, own-alike}
-use Rattle.machine_rules.proofs.Commits.Parent.{Closing, idOf, Parent, Slots, left, back, leftBy, good, solid}
+use Rattle.machine_rules.proofs.Commits.Parent.{Closing, idOf, Parent, Slots, left, back, leftBy, good, solid, staged-below}
 use Rattle.machine_rules.proofs.Laws.Copies.{few-sectors}
 use Rattle.machine_rules.proofs.Laws.Spots.{unstaged}
 use Rattle.machine_rules.proofs.Laws.Split.{replaced-split}
@@ -68,12 +65,6 @@ module _ (h : Host) (a : Areas) (c : Closing h a) (s : Parent h) (f : Slots h s)
 
   -- ---- slots lie within
 
-  staged-below : (j : ℕ) → eqb (getD staged j none) none ≡ false → getD staged j none < h .stage
-  unfolding slotInOrder
-  staged-below j e =
-      ltb-true _ _ (sym (skips (eqb (getD staged j none) none) true _ e)
-      ∙ every-at (slotInOrder (h .stage)) staged j none (good h a c .orderly .staged .slots) (picks (eqb none none) true _ refl))
-
   kept-below : (j : ℕ) → j < size / z → eqb (getD staged j none) none ≡ true → j < s .it .size / z
   kept-below j lt e =
       let g = good h a c in
@@ -85,14 +76,15 @@ module _ (h : Host) (a : Areas) (c : Closing h a) (s : Parent h) (f : Slots h s)
   unfolding volumeBy
   disk-fits = record {
     room = λ n lt. slot-within z n (h .disk) (a .disk) lt (omega (arith, solid h a c .disk));
-    full = λ j e. slot-within z (getD staged j none) (h .stage) (a .stage) (staged-below j e) (omega (arith, areas-stage h (a .disk) (a .stage) (c .areas)));
+    full = λ j e. slot-within z (getD staged j none) (h .stage) (a .stage) (staged-below h a c j e)
+        (omega (arith, areas-stage h (a .disk) (a .stage) (c .areas)));
     kept = kept-below;
   }
 
   roots-fit : Fits f 32 staged (h .stageroots) (h .diskroots)
   roots-fit = record {
     room = λ n lt. omega (arith, c .declared .disk, order-places h (c .order) .1);
-    full = λ j e. omega (arith, c .declared .stage, solid h a c .lent .few, staged-below j e);
+    full = λ j e. omega (arith, c .declared .stage, solid h a c .lent .few, staged-below h a c j e);
     kept = kept-below;
   }
 

@@ -35,7 +35,7 @@ module _ {z disk size : ℕ} {id : List ℕ} {ps : List Place} {s : Split id ps}
   own = subst (λ (l : List ℕ). apart eqb l ≡ true) (append-nil (f .slots)) (apart-out eqb (f .slots) (taken z (s .behind)) []
       (subst (λ (l : List ℕ). apart eqb (f .slots ++ l) ≡ true) (sym (append-nil (taken z (s .behind)))) apart-aft))
 
-  below : (j : ℕ) → j < size / z → getD (f .slots) j 0 < disk
+  pub below : (j : ℕ) → j < size / z → getD (f .slots) j 0 < disk
   below j lt = ltb-true _ _ (every-get (λ n. ltb n disk) (f .slots) j 0 (omega (arith, f .long))
       (every-fore _ (f .slots) _ (every-aft _ (taken z (s .before)) _ (f .below))))
 

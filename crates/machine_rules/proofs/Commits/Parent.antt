@@ -1,21 +1,22 @@
 -- The parent that a commit replaces, and what a commit leaves: with a held parent, and in read-only mode. Assumes nothing.
-use Rattle.lists.proofs.Kit.{_≡_, refl, sym, ap, _∙_, subst, true, false, List, ℕ, _/_, zero-div}
+use Rattle.lists.proofs.Kit.{_≡_, refl, sym, ap, _∙_, subst, true, false, List, ℕ, _/_, zero-div, _<_, getD, eqb, ltb-true}
 use lib.IntN.{pos, _-ℤ_}
-use Rattle.lists.proofs.Laws.Pick.{by, both-left}
-use Rattle.host.specs.Empty.{noProgram}
+use Rattle.lists.proofs.Laws.Pick.{by, picks, skips, both-left}
+use Rattle.lists.proofs.Laws.Every.{every-at}
+use Rattle.host.specs.Empty.{none, noProgram}
 use Rattle.host.specs.With.{withPlaces, withProgram, withDiskRoots}
 use Rattle.host.specs.Places.{whose}
-use Rattle.host.specs.Order.{inOrder, termsInOrder}
+use Rattle.host.specs.Order.{inOrder, slotInOrder, termsInOrder}
 use Rattle.host.specs.Calls.{replaced}
 use Rattle.machine_rules.specs.View.{parent, areasRight, settingOf, volumeOf}
 use Rattle.machine_rules.specs.Facts.{Good, Solid}
 use Rattle.machine_rules.specs.Commit.{Closed, closed, finalSlots, finalPlace, copiedBack, commit}
 use Rattle.machine_rules.specs.Visit.{Areas, Declared}
-use Rattle.machine_rules.proofs.Committing.{order-places, order-some, place-twins}
-use Rattle.machine_rules.proofs.Laws.Final.{Final, final}
+use Rattle.machine_rules.proofs.Committing.{parent-split, parent-final}
+use Rattle.machine_rules.proofs.Laws.Final.{Final}
 use Rattle.machine_rules.proofs.Laws.KeptSlots.{none-of}
 use Rattle.machine_rules.proofs.Laws.Sizes.{nothing-reached}
-use Rattle.machine_rules.proofs.Laws.Split.{Split, split, replaced-none}
+use Rattle.machine_rules.proofs.Laws.Split.{Split, replaced-none}
 use Rattle.machine_rules.proofs.Laws.Taking.{order-good, order-solid}
 use Rattle.host.specs.declared.Place.{Place}
 use Rattle.host.specs.declared.Host.{Host}
@@ -38,7 +39,7 @@ Parent h = Split (idOf h) (h .places)
 abbrev pub Slots : (h : Host) → Parent h → Type 0
 Slots h s = Final (h .sector) (h .disk) (h .program .progress .size) (idOf h) (h .places) s
 
--- what a commit leaves, by the places, the roots kept beside the disk's slots, the growth's second size, and the disk
+-- what a commit leaves, by the parent's starting size, the places, the roots kept beside the disk's slots, and the disk
 unfoldable pub left : Host → ℕ → List Place → List ℕ → List ℕ → Closed
 left h size ps roots disk = closed 0 (h .program .progress .tally) (pos (h .program .progress .size) -ℤ pos size)
     (withDiskRoots (withProgram (withPlaces h ps) noProgram) roots) disk
@@ -47,7 +48,7 @@ left h size ps roots disk = closed 0 (h .program .progress .tally) (pos (h .prog
 abbrev pub back : Host → ℕ → List ℕ → List ℕ → List ℕ → List ℕ
 back h y copies slots area = copiedBack y copies (h .program .progress .staged) slots 0 (h .program .progress .size / h .sector) area
 
--- by the parent's place and its slots
+-- by the parent's place and its final slots
 abbrev pub leftBy : Host → Areas → Place → List ℕ → Closed
 leftBy h a x l = left h (x .size) (replaced (idOf h) (finalPlace x (h .program .progress .size) l) (h .places))
     (back h 32 (h .stageroots) l (h .diskroots)) (back h (h .sector) (a .stage) l (a .disk))
@@ -61,6 +62,14 @@ module _ (h : Host) (a : Areas) (c : Closing h a) where
 
   pub solid : Solid (settingOf h) (volumeOf h (a .disk))
   solid = order-solid h (a .disk) (a .stage) (c .order) (c .areas)
+
+  -- a staged slot is one of the stage's
+  pub staged-below : (j : ℕ) → let n = getD (h .program .progress .staged) j none in eqb n none ≡ false → n < h .stage
+  unfolding slotInOrder
+  staged-below j e =
+      let staged = h .program .progress .staged in
+      ltb-true _ _ (sym (skips (eqb (getD staged j none) none) true _ e)
+      ∙ every-at (slotInOrder (h .stage)) staged j none (good .orderly .staged .slots) (picks (eqb none none) true _ refl))
 
   commit-left : commit (a .disk) h (a .stage) ≡ leftBy h a (whose (idOf h) (h .places)) (slots (whose (idOf h) (h .places)))
   unfolding left commit parent
@@ -85,16 +94,7 @@ module _ (h : Host) (a : Areas) (c : Closing h a) where
         let places = replaced-none (idOf h) (finalPlace x (h .program .progress .size) l) (h .places) (none-of (idOf h) (h .places) free) in
         λ i. left h (x .size) (places i) (nothing-back 32 (h .stageroots) l (h .diskroots) i) (nothing-back (h .sector) (a .stage) l (a .disk) i)
 
-  -- ---- a held parent
-
-  held-parent : whose (idOf h) (h .places) .held ≡ true → Parent h
-  held-parent e = split (idOf h) (h .places) (place-twins (h .sector) (h .disk) (h .places) (order-places h (c .order) .0)) e
-
-  held-slots : (s : Parent h) → Slots h s
-  held-slots s =
-      let q = order-places h (c .order) in
-      final (h .sector) (h .disk) _ (idOf h) (h .places) s (order-some h (c .order)) (q .1) (q .0) (c .declared .places) (good .orderly .whole)
-      (good .orderly .within)
+  -- ---- either way
 
   -- what holds of what is left with a held parent and in read-only mode holds of what a commit leaves
   pub commit-ways : (K : Closed → Type 0) → ((s : Parent h) (f : Slots h s) → K (leftBy h a (s .it) (f .slots)))
@@ -102,7 +102,7 @@ module _ (h : Host) (a : Areas) (c : Closing h a) where
       → K (commit (a .disk) h (a .stage))
   commit-ways K held free =
       by (whose (idOf h) (h .places) .held)
-      (λ e. let s = held-parent e in
-      let f = held-slots s in
+      (λ e. let s = parent-split h (c .order) e in
+      let f = parent-final h (c .declared) (c .order) (c .live) s in
       subst K (sym (commit-left ∙ ap (λ (x : Place). leftBy h a x (slots x)) (s .whose-is) ∙ ap (leftBy h a (s .it)) (f .is))) (held s f))
       (λ e. subst K (sym (commit-left ∙ nothing-left e _ _)) (free e))
