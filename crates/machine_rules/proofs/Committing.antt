@@ -12,12 +12,13 @@ use Rattle.host.proofs.Laws.Order.{facts-contracts, order-facts}
 use Rattle.machine_rules.specs.View.{parent, volumeBy}
 use Rattle.machine_rules.specs.Commit.{finalSlots, finalPlace, copiedBack, commit}
 use Rattle.machine_rules.specs.Visit.{Declared}
-use Rattle.machine_rules.proofs.Laws.Split.{split, replaced-none}
+use Rattle.machine_rules.proofs.Laws.Split.{Split, split, replaced-none}
 use Rattle.machine_rules.proofs.Laws.KeptSlots.{none-of}
 use Rattle.machine_rules.proofs.Laws.Taking.{order-good}
 use Rattle.host.specs.declared.Place.{Place}
 use Rattle.host.specs.declared.Host.{Host}
-use Rattle.machine_rules.proofs.Laws.Final.{place, old, committed-order, final-is}
+use Rattle.machine_rules.proofs.Laws.Final.{Final, final}
+use Rattle.machine_rules.proofs.Laws.FinalOrder.{committed-order}
 
 -- ---- committing
 
@@ -55,9 +56,21 @@ pub final-place : (z disk size : ℕ) (id : List ℕ) (ps : List Place) (it : Pl
 final-place z disk size id ps it l e f =
     ap (λ (x : Place). finalPlace x size (finalSlots z disk ps x size)) e ∙ ap (λ (m : List ℕ). finalPlace it size m) f
 
+-- the place of a held parent, and the slots that a commit gives it
+pub parent-split : (h : Host) → inOrder h ≡ true → whose (h .program .terms .head .contract) (h .places) .held ≡ true
+    → Split (h .program .terms .head .contract) (h .places)
+parent-split h o e = split _ (h .places) (place-twins (h .sector) (h .disk) (h .places) (order-places h o .0)) e
+
+pub parent-final : (h : Host) → Declared h → inOrder h ≡ true → h .program .active ≡ true → (s : Split (h .program .terms .head .contract) (h .places))
+    → Final (h .sector) (h .disk) (h .program .progress .size) (h .program .terms .head .contract) (h .places) s
+parent-final h sound o live s =
+    let q = order-places h o in
+    let g = order-good h o live (sound .staged) .orderly in
+    final (h .sector) (h .disk) _ _ (h .places) s (order-some h o) (q .1) (q .0) (sound .places) (g .whole) (g .within)
+
 pub commit-order : (disk : List ℕ) (h : Host) (stage : List ℕ) → Declared h → inOrder h ≡ true → h .program .active ≡ true
     → inOrder (commit disk h stage .host) ≡ true
-unfolding volumeBy place old
+unfolding volumeBy
 commit-order disk h stage sound o live =
     let id = h .program .terms .head .contract in
     let size = h .program .progress .size in
@@ -66,9 +79,9 @@ commit-order disk h stage sound o live =
     ap inOrder (commit-places disk h stage)
     ∙ idle-order h _ _ o
     (by (whose id (h .places) .held)
-    (λ e. let s = split id (h .places) (place-twins (h .sector) (h .disk) (h .places) (q .0)) e in
+    (λ e. let s = parent-split h o e in
+    let f = parent-final h sound o live s in
     ap (λ (x : Place). placesInOrder (h .sector) (h .disk) (replaced id x (h .places)))
-    (final-place (h .sector) (h .disk) size id (h .places) (s .it) _ (s .whose-is)
-    (final-is (h .sector) (h .disk) size id (h .places) s (order-some h o) (q .1) (q .0) (sound .places) (g .whole) (g .within)))
-    ∙ committed-order (h .sector) (h .disk) size id (h .places) s (order-some h o) (q .1) (q .0) (sound .places) (g .whole) (g .within))
+    (final-place (h .sector) (h .disk) size id (h .places) (s .it) _ (s .whose-is) (f .is))
+    ∙ committed-order (h .sector) (h .disk) size id (h .places) s f (q .1) (q .0) (g .whole))
     (λ e. ap (placesInOrder (h .sector) (h .disk)) (replaced-none id _ (h .places) (none-of id (h .places) e)) ∙ q .0))

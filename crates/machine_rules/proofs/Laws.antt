@@ -38,3 +38,4 @@ pub mod Refusals
 pub mod Declared
 pub mod Looks
 pub mod Final
+pub mod FinalOrder

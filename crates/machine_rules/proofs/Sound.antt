@@ -1,9 +1,11 @@
 -- "Keep the sector roots.": what is proved of kept roots, of a sound host and of any. Assumes nothing.
 pub mod Steps
 pub mod Runs
-pub mod Programs
-pub mod Contracts
+pub mod Parts
 pub mod Look
+pub mod Programs
+pub mod After
+pub mod Contracts
 pub mod Statements
 use Rattle.lists.proofs.Kit.{_≡_, refl, sym, ap, ap₂, _∙_, false, not, List, [], _∷_, ℕ}
 use Rattle.lists.proofs.Laws.Pick.{picks, skips}

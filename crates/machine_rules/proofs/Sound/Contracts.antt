@@ -20,7 +20,7 @@ use Rattle.machine_rules.specs.Visit.{Declared}
 use Rattle.machine_rules.proofs.Forming.{forming, dropping}
 use Rattle.machine_rules.proofs.Making.{making}
 use Rattle.machine_rules.proofs.Ordering.{opening as opening-order}
-use Rattle.machine_rules.proofs.Sound.Programs.{sound-order, sound-disk}
+use Rattle.machine_rules.proofs.Sound.Parts.{sound-order, sound-disk}
 use Rattle.host.specs.declared.Host.{Host}
 use Rattle.host.specs.declared.Place.{Place}
 use Rattle.host.specs.declared.Prices.{Prices}

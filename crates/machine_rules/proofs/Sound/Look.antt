@@ -19,7 +19,7 @@ use Rattle.machine_rules.proofs.Laws.Spots.{seats-every, program-every,
 use Rattle.machine_rules.proofs.Laws.Readers.{agree, first-agree, all-parent, withWay, known-disk, known-stage}
 use Rattle.machine_rules.proofs.Laws.Taking.{blank-right, order-solid, order-good}
 use Rattle.machine_rules.proofs.Laws.Copies.{few-sectors}
-use Rattle.machine_rules.proofs.Sound.Programs.{sound-order, sound-disk, sound-stage}
+use Rattle.machine_rules.proofs.Sound.Parts.{sound-order, sound-disk, sound-stage}
 use Rattle.host.specs.declared.Host.{Host}
 use Rattle.machine_rules.specs.declared.Spot.{Spot}
 use Rattle.machine_rules.specs.declared.Spot.the-variants.{OnDisk}
@@ -41,7 +41,7 @@ module _ (h : Host) (disk stage : List ℕ) (s : Sound h disk stage) where
 
   module _ (live : h .program .active ≡ true) where
     -- what holds of all sectors in use holds of those that the program sees
-    parent-known : every (agree (rootsBy kept) (rootsBy worked)) (parentSpots (settingOf h) (h .program .progress)) ≡ true
+    pub parent-known : every (agree (rootsBy kept) (rootsBy worked)) (parentSpots (settingOf h) (h .program .progress)) ≡ true
     unfolding volumeBy withWay parentSpots parent
     parent-known =
         let blank = zeros (h .disk * h .sector) in

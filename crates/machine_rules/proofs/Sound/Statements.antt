@@ -14,11 +14,11 @@ use Rattle.machine_rules.specs.Roots.{rootBy, rootOf, rootOnDisk}
 use Rattle.machine_rules.specs.Record.{pairOf, runningPair}
 use Rattle.machine_rules.specs.Facts.{Solid, valid}
 use Rattle.machine_rules.specs.Calls.{Pieced, piece, interrupt}
-use Rattle.machine_rules.specs.Sound.{right, sound}
-use Rattle.machine_rules.specs.Visit.{Areas, opens, gives, Declared, Ready, Sound}
+use Rattle.machine_rules.specs.Sound.{right}
+use Rattle.machine_rules.specs.Visit.{Areas, opens, gives, Ready, Sound}
 use Rattle.machine_rules.specs.Depot.{forming, dropping, opening, closing}
 use Rattle.machine_rules.specs.KeptRoots.{Faithful, Bytewise, Sounds}
-use Rattle.machine_rules.specs.Trace.{lentTo, sectorsOf, running, runningSectors, fedBy, wholeRunBy}
+use Rattle.machine_rules.specs.Trace.{lentTo, sectorsOf, running, runningSectors, fedBy}
 use Rattle.machine_rules.proofs.Laws.Outputs.{sector-length}
 use Rattle.machine_rules.proofs.Laws.Worked.{contract-worked, proof-worked}
 use Rattle.machine_rules.proofs.Laws.Taking.{order-solid, order-good, areas-stage}
@@ -28,8 +28,9 @@ use Rattle.machine_rules.proofs.Arrays.{fresh, kept as keeps}
 use Rattle.machine_rules.proofs.Laws.Readers.{root-agree, all-committed, withWay, known-disk}
 use Rattle.machine_rules.proofs.Laws.Copies.{few-sectors}
 use Rattle.host.specs.declared.Host.{Host}
-use Rattle.machine_rules.proofs.Sound.Programs.{sound-order, sound-disk, piece-alike, records-alike, piece-sound, interrupt-alike}
-use Rattle.machine_rules.proofs.Sound.Programs.{pair-alike, reached-alike, close-alike, close-sound, interrupt-sound}
+use Rattle.machine_rules.proofs.Sound.Parts.{sound-order, sound-disk}
+use Rattle.machine_rules.proofs.Sound.Programs.{piece-alike, records-alike, interrupt-alike, pair-alike, reached-alike, close-alike}
+use Rattle.machine_rules.proofs.Sound.After.{piece-sound, interrupt-sound, close-sound}
 use Rattle.machine_rules.proofs.Sound.Contracts.{formed-sound, dropped-sound, opened-sound, fresh-sound}
 use Rattle.host.specs.declared.Progress.{Progress}
 use Rattle.machine_rules.specs.declared.Pair.{Pair}
@@ -37,11 +38,6 @@ use Rattle.machine_rules.specs.declared.Spot.{Spot}
 use Rattle.machine_rules.specs.declared.Spot.the-variants.{OnDisk}
 
 -- ---- the statements
-
-run-alike : (h : Host) (a : Areas) (all : List ℕ) → Declared h → sound (a .disk) h (a .stage) ≡ true → areasRight h (a .disk) (a .stage) ≡ true
-    → h .program .active ≡ true → wholeRunBy kept h a all ≡ wholeRunBy worked h a all
-unfolding wholeRunBy
-run-alike h a all d e areas live = records-alike (a .disk) h (a .stage) d e (a .output) all areas live
 
 -- a sound host can be called
 sound-ready : (h : Host) (disk stage : List ℕ) → Sound h disk stage → Ready h
@@ -60,9 +56,9 @@ sounds h a s =
         declared = k .opening o b .declared;
         right = opened-sound (a .disk) h (a .stage) e (o .bytes) (o .budget) (o .prices) (o .room) d b;
       };
-      piece = λ b. record { declared = k .piece b .declared; right = piece-sound (a .disk) h (a .stage) d e (a .input) (a .output) b };
-      interrupt = record { declared = k .interrupt .declared; right = interrupt-sound (a .disk) h (a .stage) d e (a .output) };
-      closing = λ g. record { declared = k .closing g .declared; right = close-sound (a .disk) h (a .stage) d e (g .agree) (g .size) (g .root) };
+      piece = λ b. record { declared = k .piece b .declared; right = piece-sound h a s b };
+      interrupt = record { declared = k .interrupt .declared; right = interrupt-sound h a s };
+      closing = λ g. record { declared = k .closing g .declared; right = close-sound h a s g };
     }
 
 pub made-sound : (z d s : ℕ) (disk stage : List ℕ) → freshed z d s .number ≡ 0 → Sound (freshed z d s .host) disk stage
@@ -75,7 +71,7 @@ fed-alike disk w [] s = refl
 fed-alike disk w (b ∷ bs) s =
     let a : Areas = record { disk = disk; stage = w .stage; input = w .input; output = w .output } in
     fed-alike disk (gives (w .host) a b) bs (sounds (w .host) a s .piece b)
-    ∙ ap (λ (x : Pieced). fedBy worked disk x bs) (piece-alike disk (w .host) (w .stage) (s .declared) (s .right) (w .input) (w .output) b)
+    ∙ ap (λ (x : Pieced). fedBy worked disk x bs) (piece-alike (w .host) a s b)
 
 few-segments : (z n : ℕ) (size : Size z) → n ≤ 64 → n * 2 ^ (size .depth) ≤ 2 ^ 64
 few-segments z n size few = let hi = mul-le-mul-right {m = n} {n = 64} (2 ^ size .depth) few in omega (arith, hi, size .segments, size .most)
@@ -106,7 +102,7 @@ running-bytes h a s areas live =
     let g = order-good h (sound-order (a .disk) h (a .stage) (s .right)) live (s .declared .staged) in
     let solid = order-solid h (a .disk) (a .stage) (sound-order (a .disk) h (a .stage) (s .right)) areas in
     let few = few-sectors (settingOf h) (h .program .progress) (solid .lent) g in
-    ap (λ (x : Pair). x .root) (pair-alike (a .disk) h (a .stage) (s .declared) (s .right) areas live)
+    ap (λ (x : Pair). x .root) (pair-alike h a s live)
     ∙ bytewise (settingOf h) (volumeOf h (a .disk)) (a .stage) (parentSpots (settingOf h) (h .program .progress)) solid
     (areas-stage h (a .disk) (a .stage) areas)
     (parent-valid (settingOf h) (volumeOf h (a .disk)) (h .program .progress) solid (g .orderly .staged) (omega (arith, few, g .entries)))
@@ -144,16 +140,14 @@ held-bytes h a s areas id =
 -- For a sound host the kept roots give document 01.
 pub faithful : (h : Host) (a : Areas) → Sound h (a .disk) (a .stage) → Faithful h a
 faithful h a s =
-    let d = s .declared in
-    let e = s .right in
     record {
-      piece = λ b. piece-alike (a .disk) h (a .stage) d e (a .input) (a .output) b;
-      interrupt = interrupt-alike (a .disk) h (a .stage) d e (a .output);
-      reached = reached-alike (a .disk) h (a .stage) d e;
-      closing = λ g. close-alike (a .disk) h (a .stage) d e (g .agree) (g .size) (g .root);
+      piece = piece-alike h a s;
+      interrupt = interrupt-alike h a s;
+      reached = reached-alike h a s;
+      closing = close-alike h a s;
       pieces = λ bs. fed-alike (a .disk) (lentTo h a) bs s;
       visits = λ o b bs. fed-alike (a .disk) (lentTo (opens h o .host) a) bs (sounds h a s .opening o b);
-      records = λ all areas live. run-alike h a all d e areas live;
+      records = records-alike h a s;
       running = running-bytes h a s;
       committed = held-bytes h a s;
     }
