@@ -1,36 +1,37 @@
 -- What callers use: what a host in order with an open program gives the functions of this crate, and that what they make together is the
 -- definition's commit. z is the sector size. Assumes nothing.
-use Rattle.lists.proofs.Kit.{_≡_, refl, sym, ap, _∙_, true, false, List, [], _∷_, ℕ, _*_, _/_, _≤_, _<_, zero-div, mul-le-mul-right}
-use Rattle.lists.proofs.Kit.{div-le-of-le-mul, arith, length, getD, ltb, eqb, ltb-true, eqb-true}
+use Rattle.lists.proofs.Kit.{_≡_, ap, _∙_, true, List, [], _∷_, ℕ, _*_, _/_, _≤_, _<_, zero-div, mul-le-mul-right}
+use Rattle.lists.proofs.Kit.{div-le-of-le-mul, arith, length, getD, ltb, ltb-true}
 use lib.IntN.{ℤ, pos, _-ℤ_}
 use Rattle.lists.specs.Tests.{every}
-use Rattle.lists.proofs.Laws.Pick.{by, picks, skips, never, both-left, both-right}
-use Rattle.lists.proofs.Laws.Every.{every-fore, every-aft, every-at, every-get}
-use Rattle.area.specs.Area.{same}
+use Rattle.lists.proofs.Laws.Pick.{by, both-left, both-right}
+use Rattle.lists.proofs.Laws.Every.{every-fore, every-aft, every-get}
 use Rattle.area.proofs.Laws.Slots.{slot-within}
-use Rattle.sia.specs.Names.{readOnly}
 use Rattle.host.specs.Empty.{none, noPlace, noProgram}
 use Rattle.host.specs.With.{withPlaces, withProgram, withDiskRoots, withSize, withSlots}
 use Rattle.host.specs.Places.{hasId, whose, taken}
-use Rattle.host.specs.Order.{placeInOrder, inOrder, slotInOrder, parentInOrder, termsInOrder}
+use Rattle.host.specs.Order.{placeInOrder, inOrder}
 use Rattle.host.specs.Calls.{replaced}
 use Rattle.machine_rules.specs.View.{parent, settingOf, volumeBy, volumeOf}
 use Rattle.machine_rules.specs.Facts.{Good, Solid}
 use Rattle.machine_rules.specs.Commit.{Closed, closed, finalSlots, copiedBack, finalPlace, commit}
 use Rattle.machine_rules.specs.Visit.{Declared}
-use Rattle.machine_rules.proofs.Committing.{order-places, order-some, place-twins}
+use Rattle.machine_rules.proofs.Committing.{order-places, order-some}
 use Rattle.machine_rules.proofs.Laws.Final.{final}
 use Rattle.machine_rules.proofs.Laws.Copies.{whole-sectors}
 use Rattle.machine_rules.proofs.Laws.Sizes.{place-size, whose-whole, whose-here, whose-on}
 use Rattle.host.proofs.Laws.Whose.{has-held}
-use Rattle.machine_rules.proofs.Laws.Split.{split}
-use Rattle.machine_rules.proofs.Laws.Taking.{order-good, order-solid, areas-stage}
+use Rattle.machine_rules.proofs.Laws.Taking.{areas-stage}
 use Rattle.host.specs.declared.Place.{Place}
 use Rattle.host.specs.declared.Host.{Host}
 use Rattle.machine_step.specs.Turns.{Ready}
 use Rattle.machine.specs.Marks.{filled}
 use Rattle.machine.specs.Back.{Back}
 use Rattle.machine.proofs.Laws.Filled.{slot-filled, back-filled, place-filled}
+use Rattle.machine_rules.specs.Visit.{Areas}
+use Rattle.machine_rules.proofs.Committing.{parent-split, parent-final}
+use Rattle.machine_rules.proofs.Commits.Parent.{Closing}
+use Rattle.machine_rules.proofs.Commits.Parent as Parent
 
 -- ---- the sizes of contracts in order
 
@@ -64,11 +65,18 @@ module _ (disk : List ℕ) (h : Host) (stage : List ℕ) (sound : Declared h) (r
   abbrev staged : List ℕ
   staged = h .program .progress .staged
 
+  -- a close on such a host
+  abbrev lent : Areas
+  lent = record { disk = disk; stage = stage; input = []; output = [] }
+
+  closing : Closing h lent
+  closing = record { declared = sound; order = o; areas = r .areas; live = r .live }
+
   good : Good (settingOf h) (h .program .progress)
-  good = order-good h o (r .live) (sound .staged)
+  good = Parent.good h lent closing
 
   solid : Solid (settingOf h) (volumeOf h disk)
-  solid = order-solid h disk stage o (r .areas)
+  solid = Parent.solid h lent closing
 
   -- what `final_slots` asks
   pub few-slots : h .disk ≤ 64
@@ -92,36 +100,20 @@ module _ (disk : List ℕ) (h : Host) (stage : List ℕ) (sound : Declared h) (r
       let whole = whole-sectors z (whose id (h .places) .size) (whose-whole z id (h .places) (solid .small)) in
       omega (arith, ap (λ (p : Place). p .size) e, mul-le-mul-right z small, whole, solid .lent .size .most)
 
-  -- where there is no parent, nothing is committed
-  nobody : whose id (h .places) .held ≡ false → size ≡ 0
-  unfolding parentInOrder termsInOrder volumeBy
-  nobody e =
-      let t = both-left _ _ (good .terms) in
-      by (same id readOnly)
-      (λ u. eqb-true _ _ (sym (picks (same id readOnly) _ _ u) ∙ t))
-      (λ u. never (sym t ∙ skips (same id readOnly) _ _ u ∙ e))
-
-  staged-below : (j : ℕ) → eqb (getD staged j none) none ≡ false → getD staged j none < h .stage
-  unfolding slotInOrder volumeBy
-  staged-below j e =
-      ltb-true _ _ (sym (skips (eqb (getD staged j none) none) true _ e)
-      ∙ every-at (slotInOrder (h .stage)) staged j none (good .orderly .staged .slots) (picks (eqb none none) true _ refl))
-
   -- the final slots are slots of the disk
   pub final-below : (j : ℕ) → j < size / z → getD (finalSlots z (h .disk) (h .places) (whose id (h .places)) size) j 0 < h .disk
   unfolding volumeBy
   final-below j lt =
       by (whose id (h .places) .held)
-      (λ e. let q = order-places h o in
-      let s = split id (h .places) (place-twins z (h .disk) (h .places) (q .0)) e in
-      let f = final z (h .disk) size id (h .places) s (order-some h o) (q .1) (q .0) (sound .places) (good .orderly .whole) (good .orderly .within) in
+      (λ e. let s = parent-split h o e in
+      let f = parent-final h sound o (r .live) s in
       let is = ap (λ (x : Place). finalSlots z (h .disk) (h .places) x size) (s .whose-is) ∙ f .is in
       let all : every (λ n. ltb n (h .disk)) (f .slots) ≡ true =
       every-fore _ (f .slots) (taken z (s .behind)) (every-aft _ (taken z (s .before)) _ (f .below)) in
       let b : getD (f .slots) j 0 < h .disk =
       ltb-true (getD (f .slots) j 0) (h .disk) (every-get (λ n. ltb n (h .disk)) (f .slots) j 0 (omega (arith, f .long)) all) in
       omega (arith, b, ap (λ (l : List ℕ). getD l j 0) is))
-      (λ e. absurd (omega (arith, ap (λ (n : ℕ). n / z) (nobody e) ∙ zero-div z)))
+      (λ e. absurd (omega (arith, Parent.no-sectors h lent closing e)))
 
   -- the staged slots and the final ones lie within areas with slots of y bytes, as many as the stage and the disk have
   backs-at : (y : ℕ) (from to : List ℕ) {p : Place} {slots : List ℕ} → h .stage * y ≤ length from → h .disk * y ≤ length to
@@ -132,7 +124,7 @@ module _ (disk : List ℕ) (h : Host) (stage : List ℕ) (sound : Declared h) (r
       record {
         few = few-sectors;
         each = λ j lt. record {
-          source = λ u. slot-within y (getD staged j none) (h .stage) from (staged-below j u) long;
+          source = λ u. slot-within y (getD staged j none) (h .stage) from (Parent.staged-below h lent closing j u) long;
           target = λ u. slot-within y (getD slots j 0) (h .disk) to
               (omega (arith, final-below j lt, ap (λ (x : List ℕ). getD x j 0) is ∙ slot-filled l j)) wide;
         };

@@ -4,6 +4,7 @@ pub mod Known
 pub mod Sights
 pub mod Readers
 pub mod Task
+pub mod Read
 pub mod After
 pub mod Ran
 pub mod Taking

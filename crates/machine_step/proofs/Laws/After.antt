@@ -1,31 +1,25 @@
 -- After the effect of an instruction that can run: what rehashing, the parent's root and the record ask. q is the parent, x the stage that the
 -- effect left, roots those kept beside its slots. Assumes nothing.
-use Rattle.lists.proofs.Kit.{_≡_, refl, sym, ap, _∙_, subst, Bool, false, true, List, ℕ, _+_, _*_, _-_, _≤_, arith, length, take, drop, length-drop}
-use Rattle.lists.proofs.Kit.{not-false, eqb-false, []}
+use Rattle.lists.proofs.Kit.{_≡_, refl, sym, ap, _∙_, subst, Bool, true, List, ℕ, _+_, _*_, _-_, _≤_, arith, length, take, drop, length-drop}
+use Rattle.lists.proofs.Kit.{[]}
 use Rattle.lists.specs.Pick.{pick}
-use Rattle.lists.specs.Tests.{every}
-use Rattle.lists.proofs.Laws.Pick.{picks, either-left}
 use Rattle.area.specs.Area.{part}
 use Rattle.area.proofs.Laws.Lent.{rest-take}
 use Rattle.machine_rules.specs.View.{Turn, parent, Volume}
 use Rattle.machine_rules.specs.Roots.{keptRoot, rootAt, rangeProof}
-use Rattle.machine_rules.specs.Plan.{seen, spots, badSpan, badProof, touched, outputCount, recordCount}
+use Rattle.machine_rules.specs.Plan.{seen, spots, touched, outputCount, recordCount}
 use Rattle.machine_rules.specs.Kinds.{reads}
 use Rattle.machine_rules.specs.Effect.{Staging, groundOf, effect, rehashed}
 use Rattle.machine_rules.specs.Run.{ranProgress}
-use Rattle.machine_rules.specs.Facts.{Good, Within, valid}
+use Rattle.machine_rules.specs.Facts.{Good, Within}
 use Rattle.machine_rules.proofs.Laws.Passed.{Passed}
-use Rattle.machine_rules.proofs.Laws.Copies.{few-sectors}
 use Rattle.machine_rules.proofs.Laws.Areas.{effect-bytes, rehashed-length}
 use Rattle.machine_rules.proofs.Laws.Kept.{ran-good}
 use Rattle.machine_rules.proofs.Laws.Lengths.{length-proof}
-use Rattle.machine_rules.proofs.Laws.Outputs.{read-span}
-use Rattle.machine_rules.proofs.Laws.Spots.{source-valid}
-use Rattle.machine_rules.proofs.Laws.Few.{few-spots}
 use Rattle.machine_rules.proofs.Laws.Steps.{not-failed, left-going}
-use Rattle.machine_sight.specs.Seen.{spotsOf, Inside, Ranged}
+use Rattle.machine_sight.specs.Seen.{spotsOf}
 use Rattle.machine_sight.proofs.Laws.Roots.{seen-count}
-use Rattle.machine_sight.proofs.Callers.{seen-valid, seen-known, span-inside, range-ranged}
+use Rattle.machine_sight.proofs.Callers.{seen-valid, seen-known}
 use Rattle.machine_effect.specs.Parts.{ground, staging}
 use Rattle.machine_effect.specs.Asks as Effect
 use Rattle.machine_effect.specs.Rehashes.{Rehashes}
@@ -37,6 +31,7 @@ use Rattle.machine_step.specs.Asks.{Reads, Tasked}
 use Rattle.machine_step.proofs.Laws.Readers.{reads-kept}
 use Rattle.machine_step.proofs.Laws.Sights.{reads-good}
 use Rattle.machine_step.proofs.Laws.Task.{Fits, fits}
+use Rattle.machine_step.proofs.Laws.Read.{few-read, read-valid, inside, ranged}
 use Rattle.sia.specs.declared.Instruction.{Instruction}
 use Rattle.host.specs.declared.Place.{Place}
 use Rattle.host.specs.declared.Progress.{Progress}
@@ -122,41 +117,6 @@ module _ (s : Setting) (vol : Volume) (t : Turn) (input : List ℕ) (i : Instruc
 
   -- ---- what is shown
 
-  few-read : length (spotsOf (r .seen)) ≤ 64
-  few-read =
-      let p = x .steps in
-      omega (
-        arith,
-        ap length (fit .sectors),
-        few-spots s (rootAt s vol t) (t .progress) (r .op) (r .args .key) (p .solid .small)
-            (few-sectors s (t .progress) (p .solid .lent) (p .good)),
-      )
-
-  read-valid : every (valid s) (spotsOf (r .seen)) ≡ true
-  read-valid =
-      let p = x .steps in
-      let few = few-sectors s (t .progress) (p .solid .lent) (p .good) in
-      ap (every (valid s)) (fit .sectors)
-      ∙ source-valid s vol (t .progress) (p .solid) (p .good .orderly .staged) (omega (arith, p .good .entries, few)) (rootAt s vol t) (r .op) (r .args .key)
-
-  span-right : reads (r .op) ≡ true → badSpan (s .sector) (r .seen .count * s .sector) (r .args .first) (r .args .len) ≡ false
-  span-right u =
-      ap (λ (n : ℕ). badSpan (s .sector) (n * s .sector) (r .args .first) (r .args .len)) (sym (seen-count (r .seen)) ∙ ap length (fit .sectors))
-      ∙ read-span (s .sector) (t .progress .size) _ (r .op) (r .args) u (fit .passed .spans)
-
-  pub inside : reads (r .op) ≡ true → Inside (s .sector) (r .seen .count) (r .args .first) (r .args .len)
-  inside u = span-inside (s .sector) (x .steps .solid .lent .size) (r .seen .count) (r .args .first) (r .args .len) (span-right u)
-
-  pub some-read : reads (r .op) ≡ true → r .args .len ≡ 0 → ⊥
-  unfolding badSpan
-  some-read u h = eqb-false (r .args .len) 0 (either-left _ _ (span-right u)) h
-
-  ranged : i .proof ≡ true → Ranged (s .sector) (r .seen .count) (r .args .first) (r .args .len)
-  unfolding badProof
-  ranged h =
-      let right = sym (picks (i .proof) _ false h) ∙ fit .provable in
-      range-ranged (s .sector) (x .steps .solid .lent .size) (r .op) (r .args) (r .seen .count) (span-right (not-false _ (either-left _ _ right))) right
-
   proof-long : length (shownProof (s .sector) (i .proof) (keptRoot (vol .roots) roots) (vol .disk) (after .bytes) (r .seen) (r .args .first) (r .args .len))
       ≡ 32 * r .plan .hashes
   unfolding shownProof spots
@@ -165,12 +125,12 @@ module _ (s : Setting) (vol : Volume) (t : Turn) (input : List ℕ) (i : Instruc
       (pick (i .proof) (rangeProof (s .sector) f (vol .disk) (after .bytes) (spotsOf (r .seen)) (r .args .first) (r .args .len)) []))
       (sym (reads-kept s vol (after .bytes) roots (x .steps .way)))
       ∙ length-proof s vol (after .bytes) roots (seen (spotsOf (r .seen))) (r .args) (i .proof) (x .steps .solid) stage-long (x .steps .diskroots) roots-long
-      read-valid few-read within-read
+      (read-valid s vol t input i r x) (few-read s vol t input i r x) within-read
       ∙ ap (λ (w : Plan). 32 * w .hashes) (sym (fit .plan))
     where
       within-read : i .proof ≡ true → Within (s .sector) (length (spotsOf (r .seen))) (r .args .first) (r .args .len)
       within-read h =
-          let g = ranged h in
+          let g = ranged s vol t input i r x h in
           record { below = omega (arith, g .inside .below, seen-count (r .seen)); one = g .inside .one; some = g .some; first = g .first; many = g .whole }
 
   room : 72 + 32 * r .plan .hashes + pick (reads (r .op)) (r .args .len) 0 ≤ length (drop (t .progress .written) (t .output))
@@ -191,12 +151,12 @@ module _ (s : Setting) (vol : Volume) (t : Turn) (input : List ℕ) (i : Instruc
 
   shows : Shown after roots (reads (r .op)) (drop (t .progress .written) (t .output))
   shows = record {
-    known = seen-known s (r .seen) _ refl few-read read-valid (vol .roots) roots (omega (arith, x .steps .diskroots, x .steps .solid .lent .most))
+    known = seen-known s (r .seen) _ refl (few-read s vol t input i r x) (read-valid s vol t input i r x) (vol .roots) roots (omega (arith, x .steps .diskroots, x .steps .solid .lent .most))
         (omega (arith, roots-long, x .steps .solid .lent .few));
-    lies = seen-valid s (r .seen) _ refl few-read read-valid (s .sector) (vol .disk) (after .bytes) (x .steps .solid .lent .size)
+    lies = seen-valid s (r .seen) _ refl (few-read s vol t input i r x) (read-valid s vol t input i r x) (s .sector) (vol .disk) (after .bytes) (x .steps .solid .lent .size)
         (omega (arith, x .steps .solid .disk)) (omega (arith, stage-long));
-    inside = inside;
-    ranged = ranged;
+    inside = inside s vol t input i r x;
+    ranged = ranged s vol t input i r x;
     count = proof-long;
     room = room;
   }

@@ -18,7 +18,8 @@ use Rattle.machine_step.specs.Shown.{shownProof, shownBytes}
 use Rattle.machine_step.specs.Asks.{Tasked, steppedTurn}
 use Rattle.machine_step.proofs.Laws.Readers.{reads-kept}
 use Rattle.machine_step.proofs.Laws.Task.{fits}
-use Rattle.machine_step.proofs.Laws.After.{after, roots, next, inside, some-read}
+use Rattle.machine_step.proofs.Laws.After.{after, roots, next}
+use Rattle.machine_step.proofs.Laws.Read.{inside, some-read}
 use Rattle.sia.specs.declared.Instruction.{Instruction}
 use Rattle.host.specs.declared.Place.{Place}
 use Rattle.host.specs.declared.Progress.{Progress}
