@@ -151,9 +151,11 @@ module _ (s : Setting) (vol : Volume) (t : Turn) (input : List ℕ) (i : Instruc
 
   shows : Shown after roots (reads (r .op)) (drop (t .progress .written) (t .output))
   shows = record {
-    known = seen-known s (r .seen) _ refl (few-read s vol t input i r x) (read-valid s vol t input i r x) (vol .roots) roots (omega (arith, x .steps .diskroots, x .steps .solid .lent .most))
+    known = seen-known s (r .seen) _ refl (few-read s vol t input i r x) (read-valid s vol t input i r x) (vol .roots) roots
+        (omega (arith, x .steps .diskroots, x .steps .solid .lent .most))
         (omega (arith, roots-long, x .steps .solid .lent .few));
-    lies = seen-valid s (r .seen) _ refl (few-read s vol t input i r x) (read-valid s vol t input i r x) (s .sector) (vol .disk) (after .bytes) (x .steps .solid .lent .size)
+    lies = seen-valid s (r .seen) _ refl (few-read s vol t input i r x) (read-valid s vol t input i r x) (s .sector) (vol .disk) (after .bytes)
+        (x .steps .solid .lent .size)
         (omega (arith, x .steps .solid .disk)) (omega (arith, stage-long));
     inside = inside s vol t input i r x;
     ranged = ranged s vol t input i r x;
