@@ -15,10 +15,12 @@ use machine_rules::Setting;
 use sia::Op;
 ghost use mathlib.Core.Path.{_≡_};
 ghost use mathlib.Core.Bool.{true};
-ghost use Prim.Native.Nat.{_≤_};
+ghost use Prim.Native.Nat.{_+_, _*_, _≤_};
+ghost use lib.Dec.{leb};
 ghost use Rattle.lists.specs.Pick.{both};
 ghost use Rattle.machine_rules.specs.Facts.{Lent};
-ghost use Rattle.machine_rules.specs.Plan.{badProof};
+ghost use Rattle.host.specs.Places.{others};
+ghost use Rattle.machine_rules.specs.Plan.{badProof, newSize};
 ghost use Rattle.machine_sight.specs.Seen.{Ranged};
 ghost use Rattle.machine_rules.specs.Plan as Says;
 
@@ -45,7 +47,7 @@ fn asked_badly(asked: bool, op: Op, args: Args) -> bool
     bad_proof(op, args)
 }
 
-// 40 to 42 of an instruction that costs so much; where it can run, its cost, the new size, its hashes and the record's length.
+// 40 to 42 of an instruction that costs so much; `fits` says whether its new size fits the disk beside the other contracts. Where it can run, its cost, the new size, its hashes and the record's length.
 fn fitted(
     setting: Setting,
     p: Progress,
@@ -54,26 +56,24 @@ fn fitted(
     args: Args,
     seen: u64,
     cost: u64,
+    fits: bool,
 ) -> Plan
     requires { ⌜ Lent setting ⌝ }
     requires { ⌜ seen ≤ 64 ⌝ }
     requires { ⌜ setting .terms .room ≤ 65536 ⌝ }
     requires { ⌜ (asked ≡ true → Ranged (setting .sector) seen (args .first) (args .len)) ⌝ }
+    requires { ⌜ fits ≡ leb (newSize (p .size) op args + others (setting .terms .head .contract) (setting .places)) (setting .disksectors * setting .sector) ⌝ }
     ensures { λ r. ⌜ r ≡ Says.fitted setting p asked seen op args cost ⌝ }
 {
     let z = setting.sector;
     if too_few(z, setting.stagesectors, p, op, args) {
         return refused(40);
     }
-    let terms = setting.terms;
-    let head = terms.head;
-    let id = head.contract;
-    let size = new_size(p.size, op, args);
-    let places = setting.places;
-    let sectors = setting.disksectors;
-    if !host::sizes_fit(places, id, size, sectors * z) {
+    if !fits {
         return refused(41);
     }
+    let terms = setting.terms;
+    let size = new_size(p.size, op, args);
     let hashes = proof_count(z, asked, seen, args);
     let output = output_count(op, args);
     if record_above(terms.room, p.written, hashes, output) {
@@ -110,5 +110,10 @@ pub fn weighed(setting: Setting, p: Progress, asked: bool, op: Op, args: Args, s
     if above(terms.budget, p.tally, cost) {
         return refused(28);
     }
-    fitted(setting, p, asked, op, args, seen, cost)
+    let id = head.contract;
+    let size = new_size(p.size, op, args);
+    let places = setting.places;
+    let sectors = setting.disksectors;
+    let fits = host::sizes_fit(places, id, size, sectors * setting.sector);
+    fitted(setting, p, asked, op, args, seen, cost, fits)
 }

@@ -17,28 +17,23 @@ unfolding freeCopies
 slots c = sym (c .too-few .ensures)
 
 -- 41
-abbrev else-1 : tie.After-new-size → tie.Else1
-else-1 c = let at-head = c .before .before in at-head .before .before
-
-abbrev start-2 : tie.After-new-size → tie.Start
-start-2 c = else-1 c .before .before
-
-disk : (c : tie.After-sizes-fit) → let a = start-2 (c .before .before) .args in
+disk : (s : tie.Start) → let a = s .args in
     ltb (a .setting .disksectors * a .setting .sector)
-    (newSize (a .p .size) (a .op) (a .args) + others (a .setting .terms .head .contract) (a .setting .places)) ≡ not (c .sizes-fit .result)
-disk c =
-    let at-new-size = c .before .before in
-    let s = start-2 at-new-size .args .setting in
-    let rest = others (s .terms .head .contract) (s .places) in
-    ap (λ (k : ℕ). ltb (s .disksectors * s .sector) (k + rest)) (sym (at-new-size .new-size .ensures))
-    ∙ not-leb (at-new-size .new-size .result + rest) (s .disksectors * s .sector) ∙ ap not (sym (c .sizes-fit .ensures))
+    (newSize (a .p .size) (a .op) (a .args) + others (a .setting .terms .head .contract) (a .setting .places)) ≡ not (a .fits)
+disk s =
+    let a = s .args in
+    not-leb (newSize (a .p .size) (a .op) (a .args) + others (a .setting .terms .head .contract) (a .setting .places))
+    (a .setting .disksectors * a .setting .sector) ∙ ap not (sym (s .pre .1 .1 .1 .1))
 
 -- 42
+abbrev start-1 : tie.Else1 → tie.Start
+start-1 c = c .before .before
+
 abbrev else-2 : tie.After-record-above → tie.Else2
-else-2 c = c .before .before .before
+else-2 c = let at-new-size = c .before .before .before in at-new-size .before .before
 
 abbrev start-3 : tie.Else2 → tie.Start
-start-3 c = start-2 (c .before .before .before)
+start-3 c = start-1 (c .before)
 
 room : (c : tie.After-record-above) → let a = start-3 (else-2 c) .args in
     ltb (a .setting .terms .room) (a .p .written + recordCount (a .setting .sector) (a .asked) (a .seen) (a .op) (a .args) + 72) ≡ c .record-above .result
@@ -68,34 +63,30 @@ enough c = slots (c .before) ∙ c .if1 .left
 
 -- ---- the needs
 
-mul-sizes-fit : tie.Need-mul-sizes-fit
-mul-sizes-fit c = let s = start-2 (c .before) in omega (arith, mul-le-mul (s .pre .0 .most) (s .pre .0 .size .most))
-
 returns-2 : tie.Need-returns-2
 unfolding fitted
 returns-2 c =
-    let at-sizes-fit = c .before .before in
-    no _ _ _ (enough (else-1 (at-sizes-fit .before .before))) (yes _ _ _ (disk at-sizes-fit ∙ c .before .if2 .taken) (c .refused2 .ensures))
+    let at-if1 = c .before .before in
+    no _ _ _ (enough at-if1) (yes _ _ _ (disk (start-1 at-if1) ∙ c .before .if2 .taken) (c .refused2 .ensures))
 
 returns-3 : tie.Need-returns-3
 unfolding fitted
 returns-3 c =
-    let at-record-above = c .before .before in let at-if2 = else-2 at-record-above in
-    no _ _ _ (enough (else-1 (at-if2 .before .before .before)))
-    (no _ _ _ (disk (at-if2 .before) ∙ at-if2 .if2 .left) (yes _ _ _ (room at-record-above ∙ c .before .if3 .taken) (c .refused3 .ensures)))
+    let at-record-above = c .before .before in let at-if2 = else-2 at-record-above in let at-if1 = at-if2 .before in
+    no _ _ _ (enough at-if1) (no _ _ _ (disk (start-1 at-if1) ∙ at-if2 .if2 .left)
+    (yes _ _ _ (room at-record-above ∙ c .before .if3 .taken) (c .refused3 .ensures)))
 
 returns-4 : tie.Need-returns-4
 unfolding fitted recordCount
 returns-4 c =
-    let at-if2 = else-2 (c .before) in let at-new-size = at-if2 .before .before .before in
+    let at-if2 = else-2 (c .before) in let at-if1 = at-if2 .before in
     let at-output-count = c .before .before in let at-proof-count = at-output-count .before in
-    no _ _ _ (enough (else-1 at-new-size))
-    (no _ _ _ (disk (at-if2 .before) ∙ at-if2 .if2 .left)
+    no _ _ _ (enough at-if1) (no _ _ _ (disk (start-1 at-if1) ∙ at-if2 .if2 .left)
     (no _ _ _ (room (c .before) ∙ c .if3 .left)
     (λ i. record {
       number = 0;
-      cost = start-3 at-if2 .args .cost;
-      size = at-new-size .new-size .ensures i;
+      cost = start-1 at-if1 .args .cost;
+      size = at-proof-count .before .new-size .ensures i;
       hashes = at-proof-count .proof-count .ensures i;
       count = 72 + 32 * at-proof-count .proof-count .ensures i + at-output-count .output-count .ensures i;
     })))
@@ -105,7 +96,7 @@ unfolding fitted
 fitted-spec =
     tie.close (tie.spec (λ c κs. search needs) (λ c κs. search needs)
     (λ c. yes _ _ _ (slots (c .before .before) ∙ c .before .if1 .taken) (c .refused .ensures))
-    (λ c κs. search needs) mul-sizes-fit (λ c κs. search needs) (λ c κs. search needs) returns-2 (λ c κs. search needs)
+    (λ c κs. search needs) returns-2 (λ c κs. search needs) (λ c κs. search needs)
     (λ c κs. search needs) (λ c κs. search needs) (λ c κs. search needs) returns-3
     (λ c. omega (arith, short c)) (λ c. omega (arith, short c)) (λ c. omega (arith, short c))
     returns-4)
