@@ -78,7 +78,8 @@ fitted-requires c κs =
 returns-4 : tie.Need-returns-4
 unfolding weighed
 returns-4 c =
-    let at-fit = c .before in let sized = at-fit .before .before .before in let at-if3 = sized .before .before in let paid = at-if3 .before in let at-if2 = else-2 paid in
+    let at-fit = c .before in let sized = at-fit .before .before .before in let at-if3 = sized .before .before in
+    let paid = at-if3 .before in let at-if2 = else-2 paid in
     let a = start-1 (else-1 at-if2) .args in
     no _ _ _ (right-spans (else-1 at-if2)) (no _ _ _ (asked-well at-if2) (no _ _ _ (budget paid ∙ at-if3 .if3 .left)
     (c .fitted .ensures ∙ ap (fitted (a .setting) (a .p) (a .asked) (a .seen) (a .op) (a .args)) (paid .before .cost .ensures))))
