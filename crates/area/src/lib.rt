@@ -1,5 +1,7 @@
 // Lent bytes. Each function lays bytes over an area that its caller lends, or reads one, and its contract is one equation on
 // lists. Rests on `lists`. These functions serve the layers above, which have tested every length: what they require, their callers prove.
+#![tactic(auto)]
+
 ghost use Rattle.std.specs.Prelude.{◌≡◌, ◌⊎◌, ◌+◌, ◌*◌, ◌^◌, ◌≤◌, ◌<◌, length, replicate};
 ghost use Rattle.area.specs.Area as Says;
 ghost use Rattle.area.specs.Area.{part, put, exchanged};

@@ -1,6 +1,6 @@
 -- Two spans of an area exchanged: piece by piece where they do not overlap; where they do, what both have is moved and the ends are
 -- exchanged. Assumes nothing.
-use Rattle.lists.proofs.Kit.{◌≡◌, sym, ap, ◌∙◌, List, [], ◌∷◌, ℕ, ◌+◌, ◌-◌, ◌≤◌, ◌<◌, le_antisymm, arith, length, get_or, set}
+use Rattle.lists.proofs.Kit.{◌≡◌, sym, ap, ◌∙◌, List, [], ◌∷◌, ℕ, ◌+◌, ◌≤◌, ◌<◌, le_antisymm, arith, length, get_or, set}
 use mathlib.Core.Logic.{◌⊎◌, inl, inr, ⊎_elim}
 use Rattle.area.specs.Area.{part, put, exchanged}
 use Rattle.area.proofs.Laws.Parts.{length_part, part_none, part-one, part-add}

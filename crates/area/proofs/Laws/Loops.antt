@@ -1,5 +1,5 @@
 -- One turn of a loop that lays bytes: ascending and descending, whatever the bytes are; and the loop's end. Assumes nothing.
-use Rattle.lists.proofs.Kit.{◌≡◌, sym, ap, ◌∙◌, List, [], ◌∷◌, ℕ, suc, ◌+◌, ◌-◌, ◌≤◌, ◌<◌, arith, length, take, drop, get_or, set, drop_of_length-le}
+use Rattle.lists.proofs.Kit.{◌≡◌, sym, ap, ◌∙◌, List, [], ◌∷◌, ℕ, suc, ◌+◌, ◌≤◌, ◌<◌, arith, length, take, drop, get_or, set, drop_of_length-le}
 use Rattle.lists.proofs.Kit.{take-suc, take_all, drop-cons, length-take-le}
 use native.Mathlib.Numerals.{add-one}
 use Rattle.area.specs.Area.{put}

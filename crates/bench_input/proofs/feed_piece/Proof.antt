@@ -1,5 +1,5 @@
 -- `bench_input::feed_piece` meets its contract: what it is handed is the piece. Assumes nothing.
-use Rattle.lists.proofs.Kit.{arith, needs}
+use Rattle.lists.proofs.Kit.{arith, rules}
 use Rattle.area.specs.Little.{Bytes}
 use Rattle.bench_input.proofs.feed_piece.Statement.{statement}
 use Rattle.bench_input.proofs.feed_piece.Tie as tie
@@ -16,4 +16,4 @@ returns c =
 
 pub feed-piece-spec : {M : Type 1} → statement M
 feed-piece-spec =
-    tie.close (tie.spec (λ c κs. search needs) (λ c. search needs) returns)
+    tie.close (tie.spec (λ c κs. search rules) (λ c. search rules) returns)

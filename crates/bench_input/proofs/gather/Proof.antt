@@ -1,5 +1,5 @@
 -- `bench_input::gather` meets its contract. The invariant of its loop: pieces that came lead from a new reader to this one. Assumes nothing.
-use Rattle.lists.proofs.Kit.{◌≡◌, sym, ◌∙◌, ltb-true, needs, length}
+use Rattle.lists.proofs.Kit.{◌≡◌, sym, ◌∙◌, ltb-true, rules, length}
 use Rattle.lists.proofs.Laws.Pick.{both_left}
 use Rattle.bench_input.specs.Reader.{state}
 use Rattle.bench_input.specs.Gathered.{reads_on}
@@ -17,7 +17,7 @@ loop-again : tie.Need-loop-preserved invariant-loop decreases-loop
 loop-again c =
     let s = c.before.before.before in
     let known = s.before.before.before.loop.invariant in
-    (known.0, (came-more known.1.0 c.before.before.read-once.ensures.0, search needs))
+    (known.0, (came-more known.1.0 c.before.before.read-once.ensures.0, search rules))
 
 returns-2 : tie.Need-returns-2 invariant-loop decreases-loop
 returns-2 c =
@@ -27,8 +27,8 @@ returns-2 c =
 pub gather-spec : {M : Type 1} → statement M
 unfolding reads_on
 gather-spec =
-    tie.close (tie.spec invariant-loop decreases-loop (λ c. gathered_none _) (λ c κs. search needs)
-    (λ c. (c.before.if1.false, (came-none _ c.new.ensures, search needs)))
-    (λ c κs. search needs)
+    tie.close (tie.spec invariant-loop decreases-loop (λ c. gathered_none _) (λ c κs. search rules)
+    (λ c. (c.before.if1.false, (came-none _ c.new.ensures, search rules)))
+    (λ c κs. search rules)
     (λ c κs. ltb-true 0 _ (both_left _ _ (sym c.before.before.more.ensures ∙ c.before.if2.true)))
-    (λ c. search needs) loop-again (λ c κs. search needs) (λ c. search needs) returns-2)
+    (λ c. search rules) loop-again (λ c κs. search rules) (λ c. search rules) returns-2)

@@ -1,5 +1,5 @@
 -- `bench_input::more` meets its contract, test by test. Assumes nothing.
-use Rattle.lists.proofs.Kit.{refl, ap, not, arith, lt-ltb, le-ltb, needs}
+use Rattle.lists.proofs.Kit.{refl, ap, not, arith, lt-ltb, le-ltb, rules}
 use Rattle.lists.proofs.Laws.Pick.{yes, no}
 use Rattle.bench_input.specs.Gathered.{reads_on}
 use Rattle.bench_input.proofs.more.Statement.{statement}
@@ -20,4 +20,4 @@ unfolding reads_on
 more-spec =
     tie.close (tie.spec
     (λ c. no _ _ _ (le-ltb 0 c.before.before.args.turn.left (omega arith)) refl)
-    returns-2 (λ c κs. search needs) returns-3)
+    returns-2 (λ c κs. search rules) returns-3)

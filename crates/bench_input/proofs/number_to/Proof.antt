@@ -1,5 +1,5 @@
 -- `bench_input::number_to` meets its contract: no number ends ahead of byte 8 or past the area. Assumes nothing.
-use Rattle.lists.proofs.Kit.{refl, lt-ltb, le-ltb, needs}
+use Rattle.lists.proofs.Kit.{refl, lt-ltb, le-ltb, rules}
 use Rattle.lists.proofs.Laws.Pick.{yes, no}
 use Rattle.bench_program.specs.Input.{number_at}
 use Rattle.bench_input.specs.Reader.{number_to}
@@ -16,4 +16,4 @@ number-to-spec =
     tie.close (tie.spec
     (λ c. yes _ _ _ (lt-ltb _ 8 c.if1.true) refl)
     (λ c. no _ _ _ (le-ltb _ 8 c.before.if1.false) (yes _ _ _ (lt-ltb _ _ c.if2.true) refl))
-    (λ c κs. search needs) returns-3)
+    (λ c κs. search rules) returns-3)

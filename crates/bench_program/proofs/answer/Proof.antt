@@ -1,5 +1,5 @@
 -- `bench_program::answer` meets its contract: 9, or what the sections ask for, which then lie within the input. Assumes nothing.
-use Rattle.lists.proofs.Kit.{◌≡◌, sym, ◌∙◌, false, List, ℕ, arith, needs}
+use Rattle.lists.proofs.Kit.{◌≡◌, sym, ◌∙◌, false, List, ℕ, arith, rules}
 use Rattle.bench_program.specs.Input.{number_at, wrong}
 use Rattle.bench_program.proofs.Laws.Input.{right, Within, within, ids-is, head-is, data_is, answered-nine, answered-run}
 use Rattle.bench_program.proofs.answer.Statement.{statement}
@@ -45,7 +45,7 @@ returns-2 c =
 
 pub answer-spec : {M : Type 1} → statement M
 answer-spec =
-    tie.close (tie.spec (λ c κs. search needs) (λ c κs. search needs) (λ c κs. search needs) returns (λ c κs. passed c)
+    tie.close (tie.spec (λ c κs. search rules) (λ c κs. search rules) (λ c κs. search rules) returns (λ c κs. passed c)
     (λ c κs. omega (arith, (right _ (passed c.before)).front))
     (λ c κs. passed c.before.before)
     (λ c. omega (arith, right _ (passed c.before.before.before), c.ids-end.ensures))
@@ -53,5 +53,5 @@ answer-spec =
     (λ c. omega (arith, lies c)) (λ c. omega (arith, lies c)) (λ c. omega (arith, lies c))
     (λ c. omega (arith, lies c.before)) (λ c. omega (arith, lies c.before)) (λ c. omega (arith, lies c.before))
     (λ c. omega (arith, lies c.before.before)) (λ c. omega (arith, lies c.before.before))
-    (λ c. search needs) (λ c κs. search needs) (λ c. search needs) (λ c. search needs) (λ c. search needs) (λ c. search needs)
+    (λ c. search rules) (λ c κs. search rules) (λ c. search rules) (λ c. search rules) (λ c. search rules) (λ c. search rules)
     returns-2)

@@ -1,6 +1,6 @@
 -- `bench_program::run` meets its contract: a fresh host, then its contracts, then the program; the first refusal ends it. Assumes nothing.
 use Rattle.bench_program.proofs.Laws.Plays.{run-unmade, run-unformed, run-goes}
-use Rattle.lists.proofs.Kit.{needs}
+use Rattle.lists.proofs.Kit.{rules}
 use Rattle.bench_program.proofs.run.Statement.{statement}
 use Rattle.bench_program.proofs.run.Tie as tie
 
@@ -44,5 +44,5 @@ returns-3 c =
 
 pub run_spec : {M : Type 1} → statement M
 run_spec =
-    tie.close (tie.spec (λ c κs. search needs) (λ c κs. search needs) returns (λ c κs. search needs) (λ c κs. search needs) returns-2
-    (λ c κs. search needs) (λ c. search needs) (λ c. search needs) (λ c. search needs) (λ c. search needs) returns-3)
+    tie.close (tie.spec (λ c κs. search rules) (λ c κs. search rules) returns (λ c κs. search rules) (λ c κs. search rules) returns-2
+    (λ c κs. search rules) (λ c. search rules) (λ c. search rules) (λ c. search rules) (λ c. search rules) returns-3)

@@ -1,5 +1,5 @@
 -- `blake2b::digest` meets its contract: the lengths are tested, then the digest is made on the straight path or by blocks. Assumes nothing.
-use Rattle.lists.proofs.Kit.{sym, ◌∙◌, arith, needs, length}
+use Rattle.lists.proofs.Kit.{sym, ◌∙◌, arith, rules, length}
 use Rattle.blake2b.proofs.Laws.Data.{by_blocks}
 use Rattle.blake2b.proofs.Laws.Straight.{tells, straight-is}
 use Rattle.blake2b.proofs.Answered.{refuses, digests, allowed-yes, too_short, too_long, key-too-long}
@@ -32,5 +32,5 @@ returns-5 c =
 pub digest-spec : {M : Type 1} → statement M
 digest-spec = tie.close (tie.spec
     (λ c. refuses _ _ _ (too_short _ _ c.if1.true)) (λ c. refuses _ _ _ (too_long _ _ c.if2.true))
-    (λ c. refuses _ _ _ (key-too-long _ _ c.if3.true)) (λ c κs. search needs) digest-requires (λ c. search needs)
-    returns-4 (λ c κs. search needs) (λ c κs. search needs) (λ c κs. search needs) (λ c. search needs) returns-5)
+    (λ c. refuses _ _ _ (key-too-long _ _ c.if3.true)) (λ c κs. search rules) digest-requires (λ c. search rules)
+    returns-4 (λ c κs. search rules) (λ c κs. search rules) (λ c κs. search rules) (λ c. search rules) returns-5)

@@ -1,5 +1,5 @@
 -- `exports::candlebrood_root` meets its contract: an area of another length, whole segments, and bytes that are none. Assumes nothing.
-use Rattle.lists.proofs.Kit.{arith, needs}
+use Rattle.lists.proofs.Kit.{arith, rules}
 use Rattle.exports.proofs.Read.{done, refused, other_length, no-segments, laid}
 use Rattle.exports.proofs.candlebrood_root.Statement.{statement}
 use Rattle.exports.proofs.candlebrood_root.Tie as tie
@@ -8,7 +8,7 @@ returns : tie.Need-returns
 returns c = other_length _ _ c.if1.true
 
 enum_told : tie.Need-enum-told
-enum_told c = search needs
+enum_told c = search rules
 
 copy-between-requires : tie.Need-copy-between-requires
 copy-between-requires c κs =
@@ -29,5 +29,5 @@ returns-3 c = no-segments _ _ (refused _ c.before.before.root.ensures c.enum-tol
 
 pub candlebrood-root-spec : {M : Type 1} → statement M
 candlebrood-root-spec =
-    tie.close (tie.spec returns (λ c κs. search needs) enum_told (λ c. search needs) copy-between-requires (λ c. search needs)
-    (λ c. search needs) returns-2 returns-3)
+    tie.close (tie.spec returns (λ c κs. search rules) enum_told (λ c. search rules) copy-between-requires (λ c. search rules)
+    (λ c. search rules) returns-2 returns-3)

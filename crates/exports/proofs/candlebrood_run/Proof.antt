@@ -1,6 +1,6 @@
 -- `exports::candlebrood_run` meets its contract: an area of another length than 8, or what the program comes to. Assumes nothing.
 use Rattle.exports.proofs.Played.{not_eight, counted}
-use Rattle.lists.proofs.Kit.{needs}
+use Rattle.lists.proofs.Kit.{rules}
 use Rattle.exports.proofs.candlebrood_run.Statement.{statement}
 use Rattle.exports.proofs.candlebrood_run.Tie as tie
 
@@ -14,5 +14,5 @@ returns-2 c =
 
 pub candlebrood-run-spec : {M : Type 1} → statement M
 candlebrood-run-spec = tie.close (tie.spec
-    (λ c. not_eight _ _ _ _ _ _ _ _ _ _ _ c.if1.true) (λ c κs. search needs) (λ c κs. search needs)
-    (λ c. search needs) (λ c. search needs) (λ c. search needs) (λ c. search needs) (λ c. search needs) returns-2)
+    (λ c. not_eight _ _ _ _ _ _ _ _ _ _ _ c.if1.true) (λ c κs. search rules) (λ c κs. search rules)
+    (λ c. search rules) (λ c. search rules) (λ c. search rules) (λ c. search rules) (λ c. search rules) returns-2)

@@ -1,5 +1,5 @@
 -- `host_contracts::form` meets its contract: a walk down the definition. Assumes nothing.
-use Rattle.lists.proofs.Kit.{◌≡◌, refl, sym, ap, ◌∙◌, not, List, needs}
+use Rattle.lists.proofs.Kit.{◌≡◌, refl, sym, ap, ◌∙◌, not, List, rules}
 use Rattle.lists.specs.Pick.{pick}
 use Rattle.lists.proofs.Laws.Pick.{yes, no}
 use Rattle.host.specs.With.{with_places}
@@ -34,22 +34,22 @@ past-6 c rest e =
 pub form-spec : {M : Type 1} → statement M
 unfolding formed with_places
 form-spec = tie.close (tie.spec
-    (λ c κs. search needs)
+    (λ c κs. search rules)
     (λ c. yes _ _ _ (ap not (sym c.before.in_order.ensures) ∙ c.if1.true) refl)
     (λ c. let one = c.before.before in
     no _ _ _ (ap not (sym one.before.in_order.ensures) ∙ one.if1.false) (yes _ _ _ c.if2.true refl))
-    (λ c κs. search needs)
+    (λ c κs. search rules)
     (λ c. let two = c.before.before in let one = two.before.before in
     no _ _ _ (ap not (sym one.before.in_order.ensures) ∙ one.if1.false)
     (no _ _ _ two.if2.false (yes _ _ _ (sym c.before.is-read-only.ensures ∙ c.if3.true) refl)))
-    (λ c κs. search needs) (λ c κs. search needs)
+    (λ c κs. search rules) (λ c κs. search rules)
     (λ c. let own = c.before.before in past-5 own.before.before _ (yes _ _ _ (sym c.before.padded.ensures ∙ c.if4.true) refl))
     (λ c. let fifteen = c.before in let own = fifteen.before.before in
     past-5 own.before.before _ (no _ _ _ (sym fifteen.before.padded.ensures ∙ fifteen.if4.false)
     (yes _ _ _ (ap (λ (p : Place). p.held) (sym own.place_of.ensures) ∙ c.if5.true) refl)))
-    (λ c κs. search needs)
+    (λ c κs. search rules)
     (λ c. past-6 c.before.before _ (yes _ _ _ (ap not (sym c.before.has-free.ensures) ∙ c.if6.true) refl))
-    (λ c κs. search needs)
+    (λ c κs. search rules)
     (λ c. let eight = c.before in let six = eight.before.before in
     past-6 six _ (no _ _ _ (ap not (sym eight.before.has-free.ensures) ∙ eight.if6.false)
     (ap (λ (l : List Place). answered 0 (with_places (start (five six)).args.host l)) c.formed-at.ensures))))

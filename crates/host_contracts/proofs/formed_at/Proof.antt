@@ -1,5 +1,5 @@
 -- `host_contracts::formed_at` meets its contract. The loop's invariant: the first i places are held, and stay as they are. Assumes nothing.
-use Rattle.lists.proofs.Kit.{◌≡◌, sym, ap, ◌∙◌, ◌++◌, ◌-◌, arith, take, set, slice, not-true, not-false, needs}
+use Rattle.lists.proofs.Kit.{◌≡◌, sym, ap, ◌∙◌, ◌++◌, ◌-◌, arith, take, set, slice, not-true, not-false, rules}
 use Rattle.lists.proofs.Laws.Slices.{slice_all}
 use Rattle.host.specs.Calls.{formed_at}
 use Rattle.host.proofs.Laws.Places.{blank}
@@ -23,8 +23,8 @@ returns c =
 pub formed-at-spec : {M : Type 1} → statement M
 formed-at-spec = tie.close (tie.spec
     invariant-loop decreases-loop (λ c. ap (formed_at c.args.id) (sym (slice_all c.args.t1 c.well-formed.0.1.0.1)))
-    (λ c. search needs) (λ c. search needs) (λ c κs. tt) (λ c. search needs) (λ c. search needs) returns
-    (λ c. search needs) (λ c. search needs)
+    (λ c. search rules) (λ c. search rules) (λ c κs. tt) (λ c. search rules) (λ c. search rules) returns
+    (λ c. search rules) (λ c. search rules)
     (λ c. let back-3 = c.before.before.before in let back-4 = back-3.before in let back-5 = back-4.before in let l = back-4.loop in
     let s = back-5 in
     l.invariant ∙ formed-further s.args.id s.args.t1 l.i 8 s.well-formed.0.1.0.1 blank (omega arith) (not-false _ c.if1.false))

@@ -1,5 +1,5 @@
 -- `host_contracts::fresh` meets its contract: a walk down the definition. Assumes nothing.
-use Rattle.lists.proofs.Kit.{◌≡◌, sym, ap, ◌∙◌, false, not, ◌<◌, not-false, needs}
+use Rattle.lists.proofs.Kit.{◌≡◌, sym, ap, ◌∙◌, false, not, ◌<◌, not-false, rules}
 use Rattle.lists.proofs.Laws.Pick.{yes, no}
 use Rattle.area.proofs.Laws.Slots.{some}
 use Rattle.host.specs.Sizes.{is_size}
@@ -32,7 +32,7 @@ two c = c.before.before
 stage : (c : tie.Else3) → let s = start (one (two c)) in not (length_right s.args.sector 16 s.args.stage) ≡ false
 stage c = ap not (sym c.before.length-right2.ensures) ∙ c.if3.false
 
--- ---- the needs
+-- ---- the rules
 
 returns-3 : tie.Need-returns-3
 unfolding freshed
@@ -53,11 +53,11 @@ returns-4 c =
 pub fresh-spec : {M : Type 1} → statement M
 unfolding freshed
 fresh-spec = tie.close (tie.spec
-    (λ c κs. search needs) (λ c κs. search needs)
+    (λ c κs. search rules) (λ c κs. search rules)
     (λ c. yes _ _ _ (ap not (sym c.before.before.is-size.ensures) ∙ c.before.if1.true) c.unmade.ensures)
-    (λ c κs. positive c) (λ c κs. search needs)
+    (λ c κs. positive c) (λ c κs. search rules)
     (λ c. let at = c.before.before in
     no _ _ _ (sized at.before)
     (yes _ _ _ (ap not (sym at.length-right.ensures) ∙ c.before.if2.true) c.unmade2.ensures))
-    (λ c κs. positive (one c)) (λ c κs. search needs) returns-3 (λ c. positive (one (two c)))
-    (λ c. positive (one (two c))) (λ c κs. search needs) returns-4)
+    (λ c κs. positive (one c)) (λ c κs. search rules) returns-3 (λ c. positive (one (two c)))
+    (λ c. positive (one (two c))) (λ c κs. search rules) returns-4)

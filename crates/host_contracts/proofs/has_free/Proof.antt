@@ -1,6 +1,6 @@
 -- `host_contracts::has_free` meets its contract. The loop's invariant: the answer is that of the places that are left to look at.
 -- Assumes nothing.
-use Rattle.lists.proofs.Kit.{◌≡◌, sym, ap, ◌∙◌, not, ◌-◌, arith, slice, needs}
+use Rattle.lists.proofs.Kit.{◌≡◌, sym, ap, ◌∙◌, not, ◌-◌, arith, slice, rules}
 use Rattle.lists.specs.Tests.{some}
 use Rattle.lists.proofs.Laws.Slices.{slice_all, some-here, some-further, some-done}
 use Rattle.host.specs.declared.Place.{Place}
@@ -30,6 +30,6 @@ pub has-free-spec : {M : Type 1} → statement M
 has-free-spec = tie.close (tie.spec
     invariant-loop decreases-loop
     (λ c. ap (some (λ (p : Place). not p.held)) (sym (slice_all c.args.t1 c.well-formed.0.1.0.1)))
-    (λ c. search needs) (λ c. search needs) returns (λ c. search needs) (λ c. search needs) loop-again
+    (λ c. search rules) (λ c. search rules) returns (λ c. search rules) (λ c. search rules) loop-again
     (λ c. let s = c.before.before in
     some-done (λ (p : Place). not p.held) s.args.t1 c.before.loop.i 8 (omega arith) ∙ sym c.before.loop.invariant))

@@ -1,6 +1,6 @@
 -- `host_contracts::padded` meets its contract. The loop's invariant: the answer is that of the bytes that are left to look at.
 -- Assumes nothing.
-use Rattle.lists.proofs.Kit.{◌≡◌, sym, ap, ◌∙◌, Bool, List, ℕ, ◌-◌, arith, eqb, drop, slice, eq-eqb, ne_eqb, needs}
+use Rattle.lists.proofs.Kit.{◌≡◌, sym, ap, ◌∙◌, Bool, List, ℕ, ◌-◌, arith, eqb, drop, slice, eq-eqb, ne_eqb, rules}
 use Rattle.lists.specs.Tests.{every}
 use Rattle.lists.proofs.Laws.Slices.{slice_all, every-stops, every-further, every-done}
 use Rattle.host.specs.Calls.{padded}
@@ -21,11 +21,11 @@ unfolding padded
 padded-spec = tie.close (tie.spec
     invariant-loop decreases-loop
     (λ c. ap (λ (l : List ℕ). every is_zero (drop 4 l)) (sym (slice_all c.args.t1 c.well-formed.0.1.0.1)))
-    (λ c. search needs)
+    (λ c. search rules)
     (λ c. let l = c.before.before.loop in
     let s = c.before.before.before in
     every-stops is_zero s.args.t1 l.i 32 0 s.well-formed.0.1.0.1 (omega arith) (omega arith) (ne_eqb _ 0 c.if1.true) ∙ sym l.invariant)
-    (λ c. search needs) (λ c. search needs)
+    (λ c. search rules) (λ c. search rules)
     (λ c. let l = c.before.before.loop in
     let s = c.before.before.before in
     l.invariant ∙ every-further is_zero s.args.t1 l.i 32 0 s.well-formed.0.1.0.1 (omega arith) (omega arith) (eq-eqb _ 0 c.if1.false))

@@ -1,6 +1,6 @@
 -- `host_order::each_in_order` meets its contract. The loop's invariant: the answer is that of the places that are left to look at.
 -- Assumes nothing.
-use Rattle.lists.proofs.Kit.{◌≡◌, sym, ap, ◌∙◌, ◌-◌, arith, slice, not-true, not-false, needs}
+use Rattle.lists.proofs.Kit.{◌≡◌, sym, ap, ◌∙◌, ◌-◌, arith, slice, not-true, not-false, rules}
 use Rattle.lists.specs.Tests.{every}
 use Rattle.lists.proofs.Laws.Slices.{slice_all, every-stops, every-further, every-done}
 use Rattle.host.specs.Order.{place_in_order}
@@ -34,7 +34,7 @@ pub each-in-order-spec : {M : Type 1} → statement M
 each-in-order-spec = tie.close (tie.spec
     invariant-loop decreases-loop
     (λ c. ap (every (place_in_order c.args.z)) (sym (slice_all c.args.t2 c.well-formed.1.0.1.0.1)))
-    (λ c. search needs) (λ c. search needs) (λ c κs. search needs) returns (λ c. search needs) (λ c. search needs)
+    (λ c. search rules) (λ c. search rules) (λ c κs. search rules) returns (λ c. search rules) (λ c. search rules)
     loop-again
     (λ c. let s = c.before.before in
     every-done (place_in_order s.args.z) s.args.t2 c.before.loop.i 8 (omega arith) ∙ sym c.before.loop.invariant))

@@ -1,6 +1,6 @@
 -- `host_order::has_twin` meets its contract. The loop's invariant: the answer is that of the places that are left to look at.
 -- Assumes nothing.
-use Rattle.lists.proofs.Kit.{◌≡◌, refl, sym, ◌∙◌, ◌-◌, arith, slice, needs}
+use Rattle.lists.proofs.Kit.{◌≡◌, refl, sym, ◌∙◌, ◌-◌, arith, slice, rules}
 use Rattle.lists.specs.Tests.{some}
 use Rattle.lists.proofs.Laws.Slices.{some-here, some-further, some-done}
 use Rattle.host.specs.Order.{twins}
@@ -30,6 +30,6 @@ loop-again c =
 
 pub has-twin-spec : {M : Type 1} → statement M
 has-twin-spec = tie.close (tie.spec
-    invariant-loop decreases-loop (λ c. refl) (λ c. search needs) (λ c. search needs) (λ c κs. tt) returns (λ c. search needs)
-    (λ c. search needs) loop-again
+    invariant-loop decreases-loop (λ c. refl) (λ c. search rules) (λ c. search rules) (λ c κs. tt) returns (λ c. search rules)
+    (λ c. search rules) loop-again
     (λ c. let s = c.before.before in some-done (twins _) s.args.t1 c.before.loop.i 8 (omega arith) ∙ sym c.before.loop.invariant))

@@ -1,5 +1,5 @@
 -- `host_order::in_order` meets its contract: a walk down the definition. Assumes nothing.
-use Rattle.lists.proofs.Kit.{◌≡◌, refl, sym, ◌∙◌, Bool, not-false, needs}
+use Rattle.lists.proofs.Kit.{◌≡◌, refl, sym, ◌∙◌, Bool, not-false, rules}
 use Rattle.lists.specs.Pick.{both}
 use Rattle.lists.proofs.Laws.Pick.{yes, no}
 use Rattle.area.specs.Slots.{Size}
@@ -41,11 +41,11 @@ size c = size-facts _ (sym c.before.is-size.ensures ∙ not-false _ c.if1.false)
 pub in-order-spec : {M : Type 1} → statement M
 unfolding in_order
 in-order-spec = tie.close (tie.spec
-    (λ c κs. search needs)
+    (λ c κs. search rules)
     (λ c. off _ _ c.before.is-size.ensures c.if1.true)
-    (λ c κs. search needs)
+    (λ c κs. search rules)
     (λ c. past-1 c.before.before _ (off _ _ c.before.lent.ensures c.if2.true))
-    (λ c κs. search needs)
+    (λ c κs. search rules)
     (λ c. let at = c.before.before in
     past-1 (one at) _ (on _ _ at.before.lent.ensures at.if2.false (off _ _ c.before.lent2.ensures c.if3.true)))
     (λ c κs. some _ (size (one (two c))))

@@ -1,6 +1,6 @@
 -- `host_order::no_twins` meets its contract. The loop's invariant: the answer is that of the places that are left to look at.
 -- Assumes nothing.
-use Rattle.lists.proofs.Kit.{◌≡◌, refl, sym, ap, ◌∙◌, false, List, [], ◌∷◌, ◌-◌, arith, slice, not-true, needs}
+use Rattle.lists.proofs.Kit.{◌≡◌, refl, sym, ap, ◌∙◌, false, List, [], ◌∷◌, ◌-◌, arith, slice, not-true, rules}
 use Rattle.lists.specs.Tests.{some, apart}
 use Rattle.lists.proofs.Laws.Pick.{both-not-left, either-join}
 use Rattle.lists.proofs.Laws.Slices.{slice_all, apart-stops, apart-further, apart-done}
@@ -51,6 +51,6 @@ pub no-twins-spec : {M : Type 1} → statement M
 no-twins-spec = tie.close (tie.spec
     invariant-loop decreases-loop
     (λ c. ap (apart twins) (sym (slice_all c.args.t1 c.well-formed.0.1.0.1)))
-    (λ c. search needs) (λ c. search needs) (λ c. search needs) (λ c. search needs) loop-again (λ c κs. tt) returns
-    (λ c. search needs) loop-again-2
+    (λ c. search rules) (λ c. search rules) (λ c. search rules) (λ c. search rules) loop-again (λ c κs. tt) returns
+    (λ c. search rules) loop-again-2
     (λ c. let s = c.before.before in apart-done twins s.args.t1 c.before.loop.i 8 (omega arith) ∙ sym c.before.loop.invariant))

@@ -1,5 +1,5 @@
 -- `host_order::place_in_order` meets its contract: a walk down the definition. Assumes nothing.
-use Rattle.lists.proofs.Kit.{refl, sym, ap, ◌∙◌, not, eq-eqb, ne_eqb, needs}
+use Rattle.lists.proofs.Kit.{refl, sym, ap, ◌∙◌, not, eq-eqb, ne_eqb, rules}
 use Rattle.lists.proofs.Laws.Pick.{yes, no}
 use Rattle.host.specs.Order.{place_in_order}
 use Rattle.host_order.proofs.place_in_order.Statement.{statement}
@@ -26,7 +26,7 @@ returns-4 c =
 pub place-in-order-spec : {M : Type 1} → statement M
 unfolding place_in_order
 place-in-order-spec = tie.close (tie.spec
-    (λ c. yes _ _ _ c.if1.true refl) (λ c κs. search needs)
+    (λ c. yes _ _ _ c.if1.true refl) (λ c κs. search rules)
     (λ c. let at-if1 = c.before.before.before in
     no _ _ _ at-if1.if1.false (no _ _ _ (ap not (sym c.before.is-read-only.ensures ∙ c.if2.true)) refl))
-    (λ c. search needs) returns-3 (λ c. search needs) returns-4)
+    (λ c. search rules) returns-3 (λ c. search rules) returns-4)

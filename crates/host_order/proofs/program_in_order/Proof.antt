@@ -1,5 +1,5 @@
 -- `host_order::program_in_order` meets its contract: a walk down the definition. Assumes nothing.
-use Rattle.lists.proofs.Kit.{refl, sym, ◌∙◌, not-true, not-false, le-leb, lt-leb, needs}
+use Rattle.lists.proofs.Kit.{refl, sym, ◌∙◌, not-true, not-false, le-leb, lt-leb, rules}
 use Rattle.lists.proofs.Laws.Pick.{yes, no}
 use Rattle.host.specs.Order.{program_in_order}
 use Rattle.host_order.proofs.program_in_order.Statement.{statement}
@@ -23,6 +23,6 @@ returns-3 c =
 pub program-in-order-spec : {M : Type 1} → statement M
 unfolding program_in_order
 program-in-order-spec = tie.close (tie.spec
-    (λ c κs. search needs)
+    (λ c κs. search rules)
     (λ c. no _ _ _ (sym c.before.terms-in-order.ensures ∙ not-true _ c.if1.true) refl)
-    returns-2 (λ c κs. search needs) returns-3)
+    returns-2 (λ c κs. search rules) returns-3)

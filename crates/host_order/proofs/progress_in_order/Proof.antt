@@ -1,5 +1,5 @@
 -- `host_order::progress_in_order` meets its contract: a walk down the definition. Assumes nothing.
-use Rattle.lists.proofs.Kit.{◌≡◌, refl, ap, ◌∙◌, Bool, ℕ, ◌+◌, ◌/◌, mul-le-mul, arith, leb, eq-eqb, ne_eqb, le-leb, lt-leb, needs}
+use Rattle.lists.proofs.Kit.{◌≡◌, refl, ap, ◌∙◌, Bool, ℕ, ◌+◌, ◌/◌, mul-le-mul, arith, leb, eq-eqb, ne_eqb, le-leb, lt-leb, rules}
 use Rattle.lists.specs.Pick.{pick, both}
 use Rattle.lists.proofs.Laws.Pick.{yes, no}
 use Rattle.area.proofs.Laws.Slots.{some}
@@ -36,17 +36,17 @@ unfolding progress_in_order
 progress-in-order-spec = tie.close (tie.spec
     (λ c. no _ _ _ (lt-leb _ _ c.if1.true) refl)
     (λ c. yes _ _ _ (le-leb _ _ c.before.before.before.if1.false) (no _ _ _ (lt-leb _ _ c.if2.true) refl))
-    (λ c κs. search needs) (λ c κs. search needs)
+    (λ c κs. search rules) (λ c κs. search rules)
     (λ c. let owed = c.before.before in let at = owed.before in let a = (start-2 at).args in
     yes _ _ _ (le-leb _ _ (one at).if1.false) (yes _ _ _ (le-leb _ _ at.if2.false)
     (off _ _ (c.before.sum-fits.ensures ∙ ap (λ (n : ℕ). leb (a.p.written + n) a.t.room) owed.owed.ensures) c.if3.true)))
     (λ c. some _ (start-2 (two c.before)).requires.0)
     (λ c. counted c.before.before _ (no _ _ _ (ne_eqb _ _ c.if4.true) refl))
     (λ c. omega (arith, mul-le-mul (start c).requires.1 (start c).requires.0.most))
-    (λ c κs. search needs)
+    (λ c κs. search rules)
     (λ c. let four = c.before.before in
     counted four.before.before _ (yes _ _ _ (eq-eqb _ _ four.if4.false) (off _ _ c.before.sizes-fit.ensures c.if5.true)))
-    (λ c κs. search needs)
+    (λ c κs. search rules)
     (λ c. let five = c.before.before.before in some _ (start five.before.before).requires.0)
     (λ c κs. let five = c.before.before.before in some _ (start five.before.before).requires.0)
     (λ c. let place = c.before.before.before in let five = place.before in let four = five.before.before in let a = (start four).args in

@@ -1,4 +1,4 @@
--- The records of a run: with k bytes come they are the first m of the whole run's, m counted by the needs. Assumes nothing.
+-- The records of a run: with k bytes come they are the first m of the whole run's, m counted by the rules. Assumes nothing.
 use Rattle.lists.proofs.Kit.{◌≡◌, refl, sym, ap, ap₂, ◌∙◌, true, false, not, List, [], ◌∷◌, ◌++◌, ℕ, zero, suc, ◌+◌, ◌≤◌, min, arith, length, take}
 use Rattle.lists.proofs.Kit.{take-append_seam, leb, ltb, eqb, leb-true, ltb-false, le-leb}
 use mathlib.Core.Logic.{◌⊎◌, inl, inr, ⊎_elim}

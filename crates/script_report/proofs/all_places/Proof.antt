@@ -1,5 +1,5 @@
 -- `script_report::all_places` is safe and ends: after i places at most 560 × i bytes are written. Assumes nothing.
-use Rattle.lists.proofs.Kit.{◌+◌, ◌*◌, ◌-◌, ◌≤◌, ◌≡◌, needs, length}
+use Rattle.lists.proofs.Kit.{◌+◌, ◌*◌, ◌-◌, ◌≤◌, ◌≡◌, rules, length}
 use Rattle.script_report.proofs.all_places.Statement.{statement}
 use Rattle.script_report.proofs.all_places.Tie as tie
 
@@ -11,5 +11,5 @@ decreases-loop z report₀ at places end₀ i₀ report end i = 8 - i
 
 pub all-places-spec : {M : Type 1} → statement M
 all-places-spec =
-    tie.close (tie.spec invariant-loop decreases-loop (λ c. search needs) (λ c. search needs) (λ c. search needs) (λ c κs. search needs)
-    (λ c. search needs) (λ c. search needs) (λ c. search needs) (λ c. search needs) (λ c. search needs))
+    tie.close (tie.spec invariant-loop decreases-loop (λ c. search rules) (λ c. search rules) (λ c. search rules) (λ c κs. search rules)
+    (λ c. search rules) (λ c. search rules) (λ c. search rules) (λ c. search rules) (λ c. search rules))

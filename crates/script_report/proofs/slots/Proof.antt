@@ -1,5 +1,5 @@
 -- `script_report::slots` is safe and ends: after i slots at most 8 × i bytes are written. Assumes nothing.
-use Rattle.lists.proofs.Kit.{◌+◌, ◌*◌, ◌-◌, ◌≤◌, ◌≡◌, needs, length}
+use Rattle.lists.proofs.Kit.{◌+◌, ◌*◌, ◌-◌, ◌≤◌, ◌≡◌, rules, length}
 use Rattle.script_report.proofs.slots.Statement.{statement}
 use Rattle.script_report.proofs.slots.Tie as tie
 
@@ -11,5 +11,5 @@ decreases-loop n report₀ at list end₀ i₀ report end i = n - i
 
 pub slots-spec : {M : Type 1} → statement M
 slots-spec =
-    tie.close (tie.spec invariant-loop decreases-loop (λ c. search needs) (λ c. search needs) (λ c κs. search needs) (λ c κs. search needs)
-    (λ c. search needs) (λ c. search needs) (λ c. search needs) (λ c. search needs) (λ c. search needs))
+    tie.close (tie.spec invariant-loop decreases-loop (λ c. search rules) (λ c. search rules) (λ c κs. search rules) (λ c κs. search rules)
+    (λ c. search rules) (λ c. search rules) (λ c. search rules) (λ c. search rules) (λ c. search rules))

@@ -1,5 +1,5 @@
 -- `sia::fixed_name` meets its contract: a name that is one of the six is its fixed byte string. Assumes nothing.
-use Rattle.lists.proofs.Kit.{◌≡◌, sym, ap, subst, ◌∙◌, List, [], ◌∷◌, ℕ, needs}
+use Rattle.lists.proofs.Kit.{◌≡◌, sym, ap, subst, ◌∙◌, List, [], ◌∷◌, ℕ, rules}
 use types.Run.{OneOf, miss}
 use denote.Enum.Declared.{tag_of}
 use Rattle.sia.specs.declared.Op.{Op}
@@ -18,5 +18,5 @@ known o h e = miss six 6 tt (subst (OneOf six) (ap (tag_of op.the_type) e) h)
 
 pub fixed-name-spec : {M : Type 1} → statement M
 fixed-name-spec = tie.close (tie.spec
-    (λ c κs. search needs) (λ c. search needs) (λ c. search needs) (λ c κs. search needs)
+    (λ c κs. search rules) (λ c. search rules) (λ c. search rules) (λ c κs. search rules)
     (λ c. let asked = c.before.before in c.name.ensures ∙ sym (name-of-op _ _ (known _ c.before.match.keys2) (sym asked.op-of.ensures))))

@@ -1,5 +1,5 @@
 -- `sia::op_of` meets its contract: the names are tried in the definition's order. Assumes nothing.
-use Rattle.lists.proofs.Kit.{◌≡◌, refl, sym, ◌∙◌, List, ℕ, needs}
+use Rattle.lists.proofs.Kit.{◌≡◌, refl, sym, ◌∙◌, List, ℕ, rules}
 use Rattle.lists.specs.Pick.{pick}
 use Rattle.area.specs.Area.{same}
 use Rattle.sia.specs.Names.{op_of, name_of}
@@ -31,20 +31,20 @@ past-4 c rest e =
 pub op-of-spec : {M : Type 1} → statement M
 unfolding op_of
 op-of-spec = tie.close (tie.spec
-    (λ c κs. search needs)
+    (λ c κs. search rules)
     (λ c. yes _ _ _ (sym c.before.is.ensures ∙ c.if1.true) refl)
-    (λ c κs. search needs)
+    (λ c κs. search rules)
     (λ c. let one = c.before.before in
     no _ _ _ (sym one.before.is.ensures ∙ one.if1.false) (yes _ _ _ (sym c.before.is2.ensures ∙ c.if2.true) refl))
-    (λ c κs. search needs)
+    (λ c κs. search rules)
     (λ c. past-2 c.before.before _ (yes _ _ _ (sym c.before.is3.ensures ∙ c.if3.true) refl))
-    (λ c κs. search needs)
+    (λ c κs. search rules)
     (λ c. let three = c.before.before in
     past-2 three.before.before _ (no _ _ _ (sym three.before.is3.ensures ∙ three.if3.false)
     (yes _ _ _ (sym c.before.is4.ensures ∙ c.if4.true) refl)))
-    (λ c κs. search needs)
+    (λ c κs. search rules)
     (λ c. past-4 c.before.before _ (yes _ _ _ (sym c.before.is5.ensures ∙ c.if5.true) refl))
-    (λ c κs. search needs)
+    (λ c κs. search rules)
     (λ c. let five = c.before.before in
     past-4 five.before.before _ (no _ _ _ (sym five.before.is5.ensures ∙ five.if5.false)
     (yes _ _ _ (sym c.before.is6.ensures ∙ c.if6.true) refl)))

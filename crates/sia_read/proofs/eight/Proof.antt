@@ -1,5 +1,5 @@
 -- `sia_read::eight` meets its contract: fewer than 8 bytes are left, or 8 are loaded. Assumes nothing.
-use Rattle.lists.proofs.Kit.{ap, ℕ, ◌+◌, arith, drop, needs}
+use Rattle.lists.proofs.Kit.{ap, ℕ, ◌+◌, arith, drop, rules}
 use Rattle.lists.specs.Pick.{pick}
 use Rattle.sia.specs.Decode.{value, number, reading}
 use Rattle.sia.proofs.Laws.Reading.{short, long}
@@ -20,6 +20,6 @@ returns-2 c =
 pub eight-spec : {M : Type 1} → statement M
 unfolding number
 eight-spec = tie.close (tie.spec
-    (λ c. search needs)
+    (λ c. search rules)
     (λ c. let a = c.before.before.args in record { stays = omega arith; says = short _ a.bytes.now a.at 8 _ _ c.if1.true })
-    (λ c. search needs) (λ c κs. search needs) returns-2)
+    (λ c. search rules) (λ c κs. search rules) returns-2)

@@ -1,5 +1,5 @@
 -- `sia_read::flag` meets its contract: a byte is missing, above 1, or 0 or 1. Assumes nothing.
-use Rattle.lists.proofs.Kit.{refl, ap, ℕ, ◌+◌, ◌≤◌, ◌<◌, arith, drop, eqb, lt-ltb, le-ltb, needs}
+use Rattle.lists.proofs.Kit.{refl, ap, ℕ, ◌+◌, ◌≤◌, ◌<◌, arith, drop, eqb, lt-ltb, le-ltb, rules}
 use Rattle.lists.specs.Pick.{pick}
 use Rattle.lists.proofs.Laws.Pick.{yes, no}
 use Rattle.area.specs.Area.{part}
@@ -16,7 +16,7 @@ returns-2 c =
     let a = c.before.before.before.args in
     let above : 1 < value_of (part a.bytes.now a.at 1) = omega (arith, c.if2.true, value-one a.bytes.now a.at (omega arith)) in
     record {
-      stays = search needs;
+      stays = search rules;
       says = long _ a.bytes.now a.at 1 c.before.before.if1.false (yes _ _ _ (lt-ltb _ _ above) refl);
     }
 
@@ -36,6 +36,6 @@ returns-3 c =
 pub flag-spec : {M : Type 1} → statement M
 unfolding flag
 flag-spec = tie.close (tie.spec
-    (λ c. search needs)
-    (λ c. let a = c.before.args in record { stays = search needs; says = short _ a.bytes.now a.at 1 _ _ c.if1.true })
-    (λ c. search needs) returns-2 (λ c. search needs) returns-3)
+    (λ c. search rules)
+    (λ c. let a = c.before.args in record { stays = search rules; says = short _ a.bytes.now a.at 1 _ _ c.if1.true })
+    (λ c. search rules) returns-2 (λ c. search rules) returns-3)

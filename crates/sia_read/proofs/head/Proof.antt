@@ -1,6 +1,6 @@
 -- `sia_read::head` meets its contract: contract id, instruction count, instructions and declared length, one behind the other. The fixed id is
 -- the id that was read. Assumes nothing.
-use Rattle.lists.proofs.Kit.{◌≡◌, refl, sym, ap, ◌∙◌, List, ℕ, ◌≤◌, arith, length, drop, needs}
+use Rattle.lists.proofs.Kit.{◌≡◌, refl, sym, ap, ◌∙◌, List, ℕ, ◌≤◌, arith, length, drop, rules}
 use Rattle.lists.specs.Pick.{pick}
 use Rattle.area.specs.Area.{part}
 use Rattle.sia.specs.declared.Head.{Head}
@@ -56,22 +56,22 @@ returns-5 c =
 pub head_spec : {M : Type 1} → statement M
 unfolding head
 head_spec = tie.close (tie.spec
-    (λ c κs. search needs)
-    (λ c. record { stays = search needs; says = short _ c.before.before.before.args.bytes.now 0 32 _ _ (omega arith) })
-    (λ c. search needs) (λ c κs. search needs) (λ c κs. search needs) (λ c κs. search needs)
+    (λ c κs. search rules)
+    (λ c. record { stays = search rules; says = short _ c.before.before.before.args.bytes.now 0 32 _ _ (omega arith) })
+    (λ c. search rules) (λ c κs. search rules) (λ c κs. search rules) (λ c κs. search rules)
     (λ c. let count = c.before.before in
-    record { stays = search needs; says = identified count _ (stops _ _ _ count.limited.ensures c.if2.true) })
+    record { stays = search rules; says = identified count _ (stops _ _ _ count.limited.ensures c.if2.true) })
     (λ c κs. let read = c.before.before.limited.ensures in (read.stays, limited-within _ _ (sym read.says ∙ fine _ _ _ c.if2.false)))
     (λ c. let list = c.before.before in let count = list.before.before.before in
     record {
-      stays = search needs;
+      stays = search rules;
       says = identified count _ (goes _ count.limited.ensures list.before.if2.false
           (stops _ _ _ list.instructions.ensures c.if3.true));
     })
-    (λ c κs. search needs)
+    (λ c κs. search rules)
     (λ c. let declared = c.before.before in let list = declared.before.before.before in let count = list.before.before.before in
     record {
-      stays = search needs;
+      stays = search rules;
       says = identified count _ (goes _ count.limited.ensures list.before.if2.false
           (goes _ list.instructions.ensures declared.before.if3.false (stops _ _ _ declared.limited2.ensures c.if4.true)));
     })

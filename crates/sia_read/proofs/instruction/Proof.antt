@@ -1,6 +1,6 @@
 -- `sia_read::instruction` meets its contract: name, operand count, operands and flag, one behind the other. The entry's name and
 -- operands are empty, so the name that is laid over is the one that was read, and the fixed name is that name. Assumes nothing.
-use Rattle.lists.proofs.Kit.{◌≡◌, sym, ap, ◌∙◌, List, ℕ, ◌+◌, ◌-◌, ◌≤◌, arith, length, drop, needs}
+use Rattle.lists.proofs.Kit.{◌≡◌, sym, ap, ◌∙◌, List, ℕ, ◌+◌, ◌-◌, ◌≤◌, arith, length, drop, rules}
 use Rattle.lists.specs.Pick.{pick}
 use Rattle.area.specs.Area.{part}
 use Rattle.sia.specs.declared.Instruction.{Instruction}
@@ -65,14 +65,14 @@ returns-5 c =
 pub instruction-spec : {M : Type 1} → statement M
 unfolding instruction
 instruction-spec = tie.close (tie.spec
-    (λ c. search needs)
-    (λ c. let a = c.before.before.args in record { stays = search needs; says = short _ a.bytes.now a.at 16 _ _ c.if1.true })
-    (λ c. search needs)
+    (λ c. search rules)
+    (λ c. let a = c.before.before.args in record { stays = search rules; says = short _ a.bytes.now a.at 16 _ _ c.if1.true })
+    (λ c. search rules)
     (λ c κs. let back-3 = c.before.before.before in let back-4 = back-3.before in
     let named = ap (λ (x : Instruction). length x.name) back-4.requires.1 in (omega arith, omega arith))
-    (λ c κs. search needs) (λ c. search needs) (λ c κs. search needs)
+    (λ c κs. search rules) (λ c. search rules) (λ c κs. search rules)
     (λ c. let count = c.before.before in
-    record { stays = search needs; says = named count _ (stops _ _ _ count.limited.ensures c.if2.true) })
+    record { stays = search rules; says = named count _ (stops _ _ _ count.limited.ensures c.if2.true) })
     operands-requires
     (λ c. let list = c.before.before in let test = list.before.before in let count = test.before.before in
     record {
@@ -80,7 +80,7 @@ instruction-spec = tie.close (tie.spec
       says = named count _ (goes _ count.limited.ensures test.if2.false
           (stops _ _ _ list.operands.ensures c.if3.true));
     })
-    (λ c κs. search needs)
+    (λ c κs. search rules)
     (λ c. let proof = c.before.before in let list = proof.before.before.before in let test = list.before.before in
     let count = test.before.before in
     record {

@@ -1,6 +1,6 @@
 -- `sia_read::instructions` meets its contract. The loop's invariant: the first i instructions were read into a list that is empty
 -- behind them, so that the entry to fill is empty. Assumes nothing.
-use Rattle.lists.proofs.Kit.{ap, ◌-◌, arith, replicate, needs}
+use Rattle.lists.proofs.Kit.{ap, ◌-◌, arith, replicate, rules}
 use Rattle.sia.specs.declared.Instruction.{Instruction}
 use Rattle.sia.specs.Empty.{no_instruction}
 use Rattle.sia.specs.Decode.{instruction}
@@ -24,12 +24,12 @@ loop-again c =
 
 pub instructions-spec : {M : Type 1} → statement M
 instructions-spec = tie.close (tie.spec
-    invariant-loop decreases-loop (λ c κs. search needs)
+    invariant-loop decreases-loop (λ c κs. search rules)
     (λ c. begin _ _ _ _ _ _ c.before.before.requires.0 (ap (λ (none : Instruction). replicate 32 none) c.empty.ensures))
-    (λ c. search needs) (λ c. omega arith)
+    (λ c. search rules) (λ c. omega arith)
     (λ c κs. (c.before.before.loop.invariant.stays, fresh _ _ _ _ _ _ c.before.before.loop.invariant _ (omega arith)))
     (λ c. let back-3 = c.before.before.before in let back-4 = back-3.before in let back-5 = back-4.before in let l = back-5.loop in
     stop _ _ _ _ _ _ l.invariant back-4.loop-test.true c.before.before.instruction.ensures c.if1.true)
-    (λ c. search needs) (λ c. omega arith) (λ c. search needs) (λ c. omega arith) loop-again
+    (λ c. search rules) (λ c. omega arith) (λ c. search rules) (λ c. omega arith) loop-again
     (λ c. let back-3 = c.before.before.before in let back-4 = back-3.before in
     done _ _ _ _ _ _ c.before.loop.invariant c.loop-test.false back-4.requires.1))

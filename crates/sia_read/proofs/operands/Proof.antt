@@ -1,6 +1,6 @@
 -- `sia_read::operands` meets its contract. The loop's invariant: the first i operands were read into a list that is empty behind
 -- them. Assumes nothing.
-use Rattle.lists.proofs.Kit.{◌-◌, arith, needs}
+use Rattle.lists.proofs.Kit.{◌-◌, arith, rules}
 use Rattle.sia.specs.Empty.{no_operand}
 use Rattle.sia.specs.Decode.{operand}
 use Rattle.sia.proofs.Laws.Entries.{Entered, begin, further, stop, done}
@@ -27,5 +27,5 @@ operands-spec = tie.close (tie.spec
     (λ c κs. c.before.loop.invariant.stays)
     (λ c. let back-3 = c.before.before.before in let back-4 = back-3.before in let l = back-4.loop in
     stop _ _ _ _ _ _ l.invariant c.before.before.before.loop-test.true c.before.before.operand.ensures c.if1.true)
-    (λ c. search needs) (λ c. omega arith) (λ c. search needs) (λ c. omega arith) loop-again
+    (λ c. search rules) (λ c. omega arith) (λ c. search rules) (λ c. omega arith) loop-again
     (λ c. done _ _ _ _ _ _ c.before.loop.invariant c.loop-test.false c.before.before.before.requires.1.0))

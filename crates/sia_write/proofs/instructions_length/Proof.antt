@@ -1,6 +1,6 @@
 -- `sia_write::instructions_length` meets its contract. The loop's invariant: the total is the length of the bytes of the first i
 -- instructions, each of which is at most 89 bytes long. Assumes nothing.
-use Rattle.lists.proofs.Kit.{◌≡◌, refl, sym, ap, ◌∙◌, ℕ, ◌+◌, ◌-◌, ◌*◌, ◌≤◌, arith, length, take, leb-true, needs}
+use Rattle.lists.proofs.Kit.{◌≡◌, refl, sym, ap, ◌∙◌, ℕ, ◌+◌, ◌-◌, ◌*◌, ◌≤◌, arith, length, take, leb-true, rules}
 use Rattle.lists.proofs.Laws.Every.{every-taken}
 use Rattle.sia.specs.Encode.{joined, instruction_bytes, few_operands}
 use Rattle.sia.proofs.Laws.Joined.{length_more}
@@ -32,8 +32,8 @@ returns c =
 pub instructions-length-spec : {M : Type 1} → statement M
 unfolding joined
 instructions-length-spec = tie.close (tie.spec
-    invariant-loop decreases-loop (λ c. (omega arith, refl, omega arith)) (λ c. search needs) (λ c. omega arith)
+    invariant-loop decreases-loop (λ c. (omega arith, refl, omega arith)) (λ c. search rules) (λ c. omega arith)
     (λ c κs. let s = c.before.before.before in
     leb-true _ _ (every-taken few_operands _ _ c.before.before.loop.i _ s.requires.1 c.before.loop-test.true
     (omega (arith, s.well-formed.0.1.0.1))))
-    (λ c. omega arith) (λ c. search needs) (λ c. omega arith) loop-again returns)
+    (λ c. omega arith) (λ c. search rules) (λ c. omega arith) loop-again returns)

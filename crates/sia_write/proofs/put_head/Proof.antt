@@ -1,5 +1,5 @@
 -- `sia_write::put_head` meets its contract: four pieces, one behind the other. The fixed id is the id. Assumes nothing.
-use Rattle.lists.proofs.Kit.{◌≡◌, refl, sym, ap, ◌∙◌, ◌+◌, ◌≤◌, arith, length, needs}
+use Rattle.lists.proofs.Kit.{◌≡◌, refl, sym, ap, ◌∙◌, ◌+◌, ◌≤◌, arith, length, rules}
 use Rattle.area.proofs.Laws.Little.{length-bytes}
 use Rattle.area.proofs.Laws.Parts.{part-whole}
 use Rattle.sia.specs.Encode.{joined, instruction_bytes, instructions_in, encode}
@@ -68,10 +68,10 @@ returns c =
 
 pub put-head-spec : {M : Type 1} → statement M
 put-head-spec = tie.close (tie.spec
-    (λ c κs. search needs) (λ c. search needs) copy-between-requires
+    (λ c κs. search rules) (λ c. search rules) copy-between-requires
     (λ c κs. let r = room (before-id c.before.before.before) in omega arith)
     (λ c κs. let back-3 = c.before.before.before in let back-4 = back-3.before in let r = room (before-id (before-count (back-4))) in
     (r.limits.count, (r.limits.few, omega arith)))
     (λ c κs. let r = room (before-id (before-count (before-list c.before.before.before))) in
     omega (arith, c.before.before.before.put-instructions.ensures.0))
-    (λ c. search needs) returns)
+    (λ c. search rules) returns)

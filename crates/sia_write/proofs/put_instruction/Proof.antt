@@ -1,5 +1,5 @@
 -- `sia_write::put_instruction` meets its contract: four pieces, one behind the other. The fixed name is the name. Assumes nothing.
-use Rattle.lists.proofs.Kit.{◌≡◌, refl, sym, ap, ◌∙◌, [], ◌∷◌, ℕ, ◌+◌, ◌*◌, ◌≤◌, arith, length, length-take-le, needs}
+use Rattle.lists.proofs.Kit.{◌≡◌, refl, sym, ap, ◌∙◌, [], ◌∷◌, ℕ, ◌+◌, ◌*◌, ◌≤◌, arith, length, length-take-le, rules}
 use Rattle.area.proofs.Laws.Little.{length-bytes}
 use Rattle.area.proofs.Laws.Parts.{part-whole}
 use Rattle.sia.specs.Encode.{instruction_bytes, operands_in}
@@ -70,12 +70,12 @@ returns c =
 
 pub put-instruction-spec : {M : Type 1} → statement M
 put-instruction-spec = tie.close (tie.spec
-    (λ c κs. search needs) (λ c. search needs) copy-between-requires (λ c. search needs)
+    (λ c κs. search rules) (λ c. search rules) copy-between-requires (λ c. search rules)
     (λ c κs. let r = room (before-name c.before.before.before) in omega arith)
-    (λ c. search needs)
+    (λ c. search rules)
     (λ c κs. let back-3 = c.before.before.before in let back-4 = back-3.before in let r = room (before-name (before-count (back-4))) in
     (r.few, omega arith))
-    (λ c. search needs) (λ c. search needs) (λ c. search needs) (λ c κs. search needs)
+    (λ c. search rules) (λ c. search rules) (λ c. search rules) (λ c κs. search rules)
     (λ c κs. let back-3 = c.before.before.before in let back-4 = back-3.before in
     let r = room (before-name (before-count (before-operands (back-4)))) in omega arith)
-    (λ c. search needs) returns)
+    (λ c. search rules) returns)

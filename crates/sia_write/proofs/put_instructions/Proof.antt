@@ -1,6 +1,6 @@
 -- `sia_write::put_instructions` meets its contract. The loop's invariant: the bytes of the first i instructions are laid, and the place
 -- is the one behind them. Assumes nothing.
-use Rattle.lists.proofs.Kit.{◌≡◌, refl, sym, ap, ◌∙◌, false, [], ℕ, ◌+◌, ◌-◌, ◌≤◌, ◌<◌, arith, length, take, leb-true, needs}
+use Rattle.lists.proofs.Kit.{◌≡◌, refl, sym, ap, ◌∙◌, false, [], ℕ, ◌+◌, ◌-◌, ◌≤◌, ◌<◌, arith, length, take, leb-true, rules}
 use Rattle.lists.proofs.Laws.Every.{every-taken}
 use Rattle.area.specs.Area.{put}
 use Rattle.area.proofs.Laws.Puts.{put-nil}
@@ -57,7 +57,7 @@ loop-again c =
     let l = at-loop.loop in
     let long : l.i < length s.args.t1 = omega (arith, s.well-formed.0.1.0.1) in (
       omega arith,
-      search needs,
+      search rules,
       (λ x. l.invariant.2 x + c.instruction-length.ensures.0 x) ∙ further _ _ _ (sym (length_more instruction_bytes s.args.t1 l.i _ long)),
       at-put-instruction.put-instruction.ensures ∙ lay-more instruction_bytes _ _ s.args.t1 l.i _ _ long l.invariant.2 l.invariant.3,
     )
@@ -74,10 +74,10 @@ returns c =
 pub put-instructions-spec : {M : Type 1} → statement M
 unfolding joined
 put-instructions-spec = tie.close (tie.spec
-    invariant-loop decreases-loop (λ c. (omega arith, refl, omega arith, sym (put-nil _ _))) (λ c. search needs) (λ c. omega arith)
+    invariant-loop decreases-loop (λ c. (omega arith, refl, omega arith, sym (put-nil _ _))) (λ c. search rules) (λ c. omega arith)
     put-instruction-requires
     (λ c κs. let back-3 = c.before.before.before in let back-5 = back-3.before.before in let back-6 = back-5.before in
     let back-8 = back-6.before.before in let s = back-8 in
     leb-true _ _ (every-taken few_operands _ _ back-6.loop.i _ s.requires.1.0
     back-5.loop-test.true (omega (arith, s.well-formed.0.1.0.1))))
-    add-place (λ c. search needs) (λ c. omega arith) loop-again (λ c. search needs) returns)
+    add-place (λ c. search rules) (λ c. omega arith) loop-again (λ c. search rules) returns)

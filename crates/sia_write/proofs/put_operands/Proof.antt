@@ -1,6 +1,6 @@
 -- `sia_write::put_operands` meets its contract. The loop's invariant: the bytes of the first i operands are laid, 16 for each.
 -- Assumes nothing.
-use Rattle.lists.proofs.Kit.{◌≡◌, refl, sym, ap, ◌∙◌, ℕ, ◌+◌, ◌-◌, ◌*◌, ◌≤◌, arith, length, take, length-take-le, needs}
+use Rattle.lists.proofs.Kit.{◌≡◌, refl, sym, ap, ◌∙◌, ℕ, ◌+◌, ◌-◌, ◌*◌, ◌≤◌, arith, length, take, length-take-le, rules}
 use Rattle.area.specs.Area.{put}
 use Rattle.area.proofs.Laws.Little.{length-bytes}
 use Rattle.area.proofs.Laws.Puts.{put-nil}
@@ -27,7 +27,7 @@ loop-again c =
     omega (arith, length-operands (take l.i list), length-take-le l.i list (omega arith)) in
     let two = lay-two _ _ _ _ _ at_store.store.ensures at-store2.store2.ensures
     (length-bytes 8 _) refl in
-    (omega arith, search needs, two ∙ lay-more operand_bytes _ _ list l.i _ _ (omega arith) place l.invariant.2)
+    (omega arith, search rules, two ∙ lay-more operand_bytes _ _ list l.i _ _ (omega arith) place l.invariant.2)
 
 returns : tie.Need-returns invariant-loop decreases-loop
 returns c =
@@ -39,6 +39,6 @@ returns c =
 pub put-operands-spec : {M : Type 1} → statement M
 unfolding joined
 put-operands-spec = tie.close (tie.spec
-    invariant-loop decreases-loop (λ c. (omega arith, refl, sym (put-nil _ _))) (λ c. search needs) (λ c. omega arith)
-    (λ c. omega arith) (λ c. omega arith) (λ c κs. omega arith) (λ c. omega arith) (λ c κs. search needs)
-    (λ c. search needs) (λ c. omega arith) loop-again (λ c. search needs) returns)
+    invariant-loop decreases-loop (λ c. (omega arith, refl, sym (put-nil _ _))) (λ c. search rules) (λ c. omega arith)
+    (λ c. omega arith) (λ c. omega arith) (λ c κs. omega arith) (λ c. omega arith) (λ c κs. search rules)
+    (λ c. search rules) (λ c. omega arith) loop-again (λ c. search rules) returns)

@@ -1,5 +1,5 @@
 -- `sia_write::write_head` meets its contract: the limits, then the area's length, then the bytes. Assumes nothing.
-use Rattle.lists.proofs.Kit.{refl, sym, ap, ◌∙◌, not, ◌≤◌, ◌<◌, arith, length, not-false, lt-ltb, le-ltb, needs}
+use Rattle.lists.proofs.Kit.{refl, sym, ap, ◌∙◌, not, ◌≤◌, ◌<◌, arith, length, not-false, lt-ltb, le-ltb, rules}
 use Rattle.lists.proofs.Laws.Pick.{yes, no}
 use Rattle.sia.specs.Encode.{left, write, encode}
 use Rattle.sia_write.proofs.write_head.Statement.{statement}
@@ -21,7 +21,7 @@ returns-3 c =
 pub write-head-spec : {M : Type 1} → statement M
 unfolding write
 write-head-spec = tie.close (tie.spec
-    (λ c κs. search needs) (λ c. yes _ _ _ (ap not (sym c.before.within.ensures) ∙ c.if1.true) refl)
+    (λ c κs. search rules) (λ c. yes _ _ _ (ap not (sym c.before.within.ensures) ∙ c.if1.true) refl)
     (λ c κs. sym c.before.within.ensures ∙ not-false _ c.if1.false)
     (λ c. let back-3 = c.before.before.before in let back-5 = back-3.before.before in let a = back-5.args in
     let short : length a.out.now < length (encode a.head) = omega (arith, c.before.head-length.ensures, c.if2.true) in
@@ -30,4 +30,4 @@ write-head-spec = tie.close (tie.spec
       sym back-4.within.ensures ∙ not-false _ c.before.before.before.if1.false,
       omega (arith, c.before.before.head-length.ensures, c.before.if2.false),
     ))
-    (λ c. search needs) returns-3)
+    (λ c. search rules) returns-3)

@@ -1,5 +1,5 @@
 -- `bench_input::Reader::feed_byte` meets its contract: the section goes on, or has ended. Assumes nothing.
-use Rattle.lists.proofs.Kit.{needs}
+use Rattle.lists.proofs.Kit.{rules}
 use Rattle.bench_input.proofs.Laws.Laying.{goes_on, has_ended}
 use Rattle.bench_input.proofs.Reader.feed_byte.Statement.{statement}
 use Rattle.bench_input.proofs.Reader.feed_byte.Tie as tie
@@ -17,4 +17,4 @@ returns-2 c =
 
 pub feed-byte-spec : {M : Type 1} → statement M
 feed-byte-spec =
-    tie.close (tie.spec (λ c κs. search needs) (λ c. search needs) returns (λ c κs. search needs) (λ c. search needs) returns-2)
+    tie.close (tie.spec (λ c κs. search rules) (λ c. search rules) returns (λ c κs. search rules) (λ c. search rules) returns-2)

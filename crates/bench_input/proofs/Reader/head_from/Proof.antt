@@ -1,5 +1,5 @@
 -- `bench_input::Reader::head_from` meets its contract: no head, or what is kept of it. Assumes nothing.
-use Rattle.lists.proofs.Kit.{ap, ℕ, eq-eqb, ne_eqb, needs}
+use Rattle.lists.proofs.Kit.{ap, ℕ, eq-eqb, ne_eqb, rules}
 use Rattle.lists.proofs.Laws.Pick.{yes, no}
 use Rattle.bench_input.specs.Reader.{reader, head_from}
 use Rattle.bench_input.specs.declared.Section.TheVariants.{Head}
@@ -15,6 +15,6 @@ returns-2 c =
 pub head-from-spec : {M : Type 1} → statement M
 unfolding head_from
 head-from-spec =
-    tie.close (tie.spec (λ c κs. search needs)
+    tie.close (tie.spec (λ c κs. search rules)
     (λ c. yes _ _ _ (eq-eqb _ 0 c.before.if1.true) c.data-from.ensures)
-    (λ c κs. search needs) returns-2)
+    (λ c κs. search rules) returns-2)

@@ -1,5 +1,5 @@
 -- `bench_input::Reader::laid` meets its contract: no room is left, the area ends, or the byte is laid. Assumes nothing.
-use Rattle.lists.proofs.Kit.{arith, needs}
+use Rattle.lists.proofs.Kit.{arith, rules}
 use Rattle.bench_input.proofs.Laws.Laying.{lays-none, lays_one}
 use Rattle.bench_input.proofs.Reader.laid.Statement.{statement}
 use Rattle.bench_input.proofs.Reader.laid.Tie as tie
@@ -19,5 +19,5 @@ returns-3 c =
 
 pub laid-spec : {M : Type 1} → statement M
 laid-spec =
-    tie.close (tie.spec (λ c κs. search needs) (λ c κs. search needs) returns returns-2 (λ c. search needs) (λ c. search needs)
-    (λ c. search needs) returns-3)
+    tie.close (tie.spec (λ c κs. search rules) (λ c κs. search rules) returns returns-2 (λ c. search rules) (λ c. search rules)
+    (λ c. search rules) returns-3)

@@ -1,5 +1,5 @@
 -- `bench_input::Reader::next` meets its contract, section by section. Assumes nothing.
-use Rattle.lists.proofs.Kit.{needs}
+use Rattle.lists.proofs.Kit.{rules}
 use Rattle.bench_input.proofs.Laws.Laying.{behind-front, behind-id, behind-length, behind-head, in-data}
 use Rattle.bench_input.proofs.Reader.next.Statement.{statement}
 use Rattle.bench_input.proofs.Reader.next.Tie as tie
@@ -19,10 +19,10 @@ returns-3 c =
 
 pub next-spec : {M : Type 1} → statement M
 next-spec =
-    tie.close (tie.spec (λ c. search needs) (λ c κs. search needs) (λ c κs. search needs) (λ c κs. search needs) (λ c. search needs)
-    (λ c κs. search needs) (λ c. search needs) (λ c κs. search needs) (λ c. search needs) (λ c κs. search needs) (λ c κs. search needs)
-    (λ c κs. search needs) (λ c. search needs) (λ c κs. search needs) (λ c. search needs) (λ c. search needs) returns
+    tie.close (tie.spec (λ c. search rules) (λ c κs. search rules) (λ c κs. search rules) (λ c κs. search rules) (λ c. search rules)
+    (λ c κs. search rules) (λ c. search rules) (λ c κs. search rules) (λ c. search rules) (λ c κs. search rules) (λ c κs. search rules)
+    (λ c κs. search rules) (λ c. search rules) (λ c κs. search rules) (λ c. search rules) (λ c. search rules) returns
     (λ c. behind-id _ _ c.before.enum-told2.given.1 c.ids-from2.ensures)
-    (λ c. search needs) returns-3
+    (λ c. search rules) returns-3
     (λ c. behind-head _ _ c.before.enum-told4.given.1 c.data-from.ensures)
     (λ c. in-data _ _ c.enum-told5.given.1))

@@ -1,6 +1,6 @@
 -- `bench_program::contracts::form_in_turn` meets its contract. The loop's invariant: what all ids come to is what those come to that are left, on the
 -- host that was made so far. Assumes nothing.
-use Rattle.lists.proofs.Kit.{◌≡◌, sym, ap, ◌∙◌, ℕ, ◌-◌, ◌*◌, ◌/◌, div-add-mod', arith, length, needs}
+use Rattle.lists.proofs.Kit.{◌≡◌, sym, ap, ◌∙◌, ℕ, ◌-◌, ◌*◌, ◌/◌, div-add-mod', arith, length, rules}
 use Rattle.lists.specs.Tab.{tab}
 use Rattle.area.specs.Area.{part}
 use Rattle.host.specs.Calls.{formed}
@@ -40,5 +40,5 @@ form-in-turn-spec =
     tie.close (tie.spec invariant-loop decreases-loop loop-holds
     (λ c. omega (arith, div-add-mod' (length c.before.before.before.args.ids.now) 32))
     (λ c κs. omega (arith, div-add-mod' (length c.before.before.before.args.ids.now) 32))
-    (λ c κs. search needs) returns (λ c. omega arith) (λ c. omega arith) loop-again
+    (λ c κs. search rules) returns (λ c. omega arith) (λ c. omega arith) loop-again
     (λ c. turn-none _ _ _ _ c.loop-test.false ∙ sym c.before.loop.invariant))

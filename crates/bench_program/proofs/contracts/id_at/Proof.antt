@@ -1,5 +1,5 @@
 -- `bench_program::contracts::id_at` meets its contract: 32 bytes over 32 zeros. Assumes nothing.
-use Rattle.lists.proofs.Kit.{refl, needs}
+use Rattle.lists.proofs.Kit.{refl, rules}
 use Rattle.area.proofs.Laws.Puts.{put-part}
 use Rattle.bench_program.proofs.contracts.id_at.Statement.{statement}
 use Rattle.bench_program.proofs.contracts.id_at.Tie as tie
@@ -11,4 +11,4 @@ returns c =
 
 pub id-at-spec : {M : Type 1} → statement M
 id-at-spec =
-    tie.close (tie.spec (λ c. search needs) (λ c κs. search needs) returns)
+    tie.close (tie.spec (λ c. search rules) (λ c κs. search rules) returns)

@@ -1,6 +1,6 @@
 -- `bench_program::playing::begin` meets its contract: a refusal of the head, or what its data leaves. Assumes nothing.
 use Rattle.bench_program.proofs.Laws.Plays.{begun-refused, begun-goes}
-use Rattle.lists.proofs.Kit.{needs}
+use Rattle.lists.proofs.Kit.{rules}
 use Rattle.bench_program.proofs.playing.begin.Statement.{statement}
 use Rattle.bench_program.proofs.playing.begin.Tie as tie
 
@@ -27,5 +27,5 @@ returns-2 c =
 
 pub begin-spec : {M : Type 1} → statement M
 begin-spec =
-    tie.close (tie.spec (λ c κs. search needs) (λ c κs. search needs) returns (λ c κs. search needs) (λ c. search needs) (λ c. search needs)
-    (λ c. search needs) (λ c. search needs) returns-2)
+    tie.close (tie.spec (λ c κs. search rules) (λ c κs. search rules) returns (λ c κs. search rules) (λ c. search rules) (λ c. search rules)
+    (λ c. search rules) (λ c. search rules) returns-2)

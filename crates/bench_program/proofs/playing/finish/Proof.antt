@@ -1,6 +1,6 @@
 -- `bench_program::playing::finish` meets its contract. Assumes nothing.
 use Rattle.bench_program.proofs.Laws.Plays.{ended_is}
-use Rattle.lists.proofs.Kit.{needs}
+use Rattle.lists.proofs.Kit.{rules}
 use Rattle.bench_program.proofs.playing.finish.Statement.{statement}
 use Rattle.bench_program.proofs.playing.finish.Tie as tie
 
@@ -12,4 +12,4 @@ returns c =
 
 pub finish_spec : {M : Type 1} → statement M
 finish_spec =
-    tie.close (tie.spec (λ c κs. search needs) (λ c κs. search needs) (λ c. search needs) returns)
+    tie.close (tie.spec (λ c κs. search rules) (λ c κs. search rules) (λ c. search rules) returns)

@@ -1,6 +1,6 @@
 -- `bench_program::playing::give` meets its contract: a refusal of the piece, or what its close leaves. Assumes nothing.
 use Rattle.bench_program.proofs.Laws.Plays.{front-is, rest-is, given-refused, given-closed}
-use Rattle.lists.proofs.Kit.{needs}
+use Rattle.lists.proofs.Kit.{rules}
 use Rattle.bench_program.proofs.playing.give.Statement.{statement}
 use Rattle.bench_program.proofs.playing.give.Tie as tie
 
@@ -30,7 +30,7 @@ returns-2 c =
 
 pub give_spec : {M : Type 1} → statement M
 give_spec =
-    tie.close (tie.spec (λ c κs. search needs) (λ c. search needs) (λ c. search needs) (λ c. search needs) (λ c κs. search needs)
-    (λ c κs. search needs) (λ c. search needs) (λ c. search needs) (λ c. search needs) (λ c. search needs) returns
-    (λ c κs. search needs) (λ c κs. search needs) (λ c. search needs) (λ c. search needs) (λ c. search needs) (λ c. search needs)
+    tie.close (tie.spec (λ c κs. search rules) (λ c. search rules) (λ c. search rules) (λ c. search rules) (λ c κs. search rules)
+    (λ c κs. search rules) (λ c. search rules) (λ c. search rules) (λ c. search rules) (λ c. search rules) returns
+    (λ c κs. search rules) (λ c κs. search rules) (λ c. search rules) (λ c. search rules) (λ c. search rules) (λ c. search rules)
     returns-2)

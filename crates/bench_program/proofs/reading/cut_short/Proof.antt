@@ -1,7 +1,7 @@
 -- `bench_program::reading::cut_short` meets its contract. Assumes nothing.
 use Rattle.bench_program.specs.Input.{number_at}
 use Rattle.bench_program.proofs.Laws.Input.{ids_short, number_short, head-short}
-use Rattle.lists.proofs.Kit.{needs}
+use Rattle.lists.proofs.Kit.{rules}
 use Rattle.bench_program.proofs.reading.cut_short.Statement.{statement}
 use Rattle.bench_program.proofs.reading.cut_short.Tie as tie
 
@@ -20,6 +20,6 @@ returns-3 c =
 pub cut-short-spec : {M : Type 1} → statement M
 unfolding number_at
 cut-short-spec =
-    tie.close (tie.spec (λ c. search needs) (λ c κs. search needs)
+    tie.close (tie.spec (λ c. search rules) (λ c κs. search rules)
     (λ c. ids_short _ c.before.before.before.requires c.before.load.ensures c.if1.true)
-    (λ c. search needs) (λ c. search needs) returns-2 (λ c. search needs) (λ c κs. search needs) returns-3)
+    (λ c. search rules) (λ c. search rules) returns-2 (λ c. search rules) (λ c κs. search rules) returns-3)

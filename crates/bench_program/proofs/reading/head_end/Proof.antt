@@ -1,5 +1,5 @@
 -- `bench_program::reading::head_end` meets its contract. Assumes nothing.
-use Rattle.lists.proofs.Kit.{◌≡◌, ap, ap₂, ◌∙◌, ℕ, ◌+◌, arith, needs}
+use Rattle.lists.proofs.Kit.{◌≡◌, ap, ap₂, ◌∙◌, ℕ, ◌+◌, arith, rules}
 use Rattle.bench_program.specs.Input.{number_at, ids_end, head_end}
 use Rattle.bench_program.proofs.Laws.Input.{right}
 use Rattle.bench_program.proofs.reading.head_end.Statement.{statement}
@@ -16,7 +16,7 @@ counted c = c.load.ensures ∙ ap (number_at (start c).args.all.now) c.before.id
 pub head-end-spec : {M : Type 1} → statement M
 unfolding head_end
 head-end-spec =
-    tie.close (tie.spec (λ c κs. search needs)
+    tie.close (tie.spec (λ c κs. search rules)
     (λ c κs. omega (arith, (right _ c.before.before.requires).ids, c.ids-end.ensures))
     (λ c. omega (arith, (right _ (start c).requires).ids, c.before.ids-end.ensures))
     (λ c. omega (arith, (right _ (start c).requires).head, c.before.ids-end.ensures, counted c))

@@ -1,5 +1,5 @@
 -- `bench_program::reading::prices` meets its contract: each is the number at its place. Assumes nothing.
-use Rattle.lists.proofs.Kit.{needs}
+use Rattle.lists.proofs.Kit.{rules}
 use Rattle.bench_program.specs.Input.{prices_in}
 use Rattle.bench_program.proofs.reading.prices.Statement.{statement}
 use Rattle.bench_program.proofs.reading.prices.Tie as tie
@@ -20,5 +20,5 @@ returns c =
 
 pub prices-spec : {M : Type 1} → statement M
 prices-spec =
-    tie.close (tie.spec (λ c κs. search needs) (λ c κs. search needs) (λ c κs. search needs) (λ c κs. search needs) (λ c κs. search needs)
-    (λ c κs. search needs) (λ c κs. search needs) returns)
+    tie.close (tie.spec (λ c κs. search rules) (λ c κs. search rules) (λ c κs. search rules) (λ c κs. search rules) (λ c κs. search rules)
+    (λ c κs. search rules) (λ c κs. search rules) returns)

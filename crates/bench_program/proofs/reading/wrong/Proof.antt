@@ -1,5 +1,5 @@
 -- `bench_program::reading::wrong` meets its contract: a walk down the definition. Assumes nothing.
-use Rattle.lists.proofs.Kit.{◌≡◌, refl, sym, ap, ◌∙◌, false, not, List, ℕ, length, eqb, ltb, eq-eqb, ne_eqb, lt-ltb, le-ltb, needs}
+use Rattle.lists.proofs.Kit.{◌≡◌, refl, sym, ap, ◌∙◌, false, not, List, ℕ, length, eqb, ltb, eq-eqb, ne_eqb, lt-ltb, le-ltb, rules}
 use Rattle.lists.proofs.Laws.Pick.{yes, no}
 use Rattle.bench_program.specs.Input.{number_at, wrong}
 use Rattle.bench_program.proofs.reading.wrong.Statement.{statement}
@@ -39,4 +39,4 @@ unfolding wrong
 wrong-spec =
     tie.close (tie.spec
     (λ c. yes _ _ _ (lt-ltb _ 80 c.if1.true) refl)
-    (λ c κs. search needs) returns-2 (λ c κs. search needs) returns-3 (λ c κs. search needs) returns-4)
+    (λ c κs. search rules) returns-2 (λ c κs. search rules) returns-3 (λ c κs. search rules) returns-4)

@@ -1,5 +1,5 @@
 -- `bench_program::speaking::play` meets its contract: the records stand in the output area; a number is laid over its front. Assumes nothing.
-use Rattle.lists.proofs.Kit.{arith, needs}
+use Rattle.lists.proofs.Kit.{arith, rules}
 use Rattle.bench_program.proofs.Laws.Spoken.{speaks-number, speaks-records}
 use Rattle.bench_program.proofs.speaking.play.Statement.{statement}
 use Rattle.bench_program.proofs.speaking.play.Tie as tie
@@ -29,7 +29,7 @@ returns c =
 
 pub play-spec : {M : Type 1} → statement M
 play-spec =
-    tie.close (tie.spec (λ c κs. search needs) store-requires
-    (λ c. search needs) (λ c. search needs) (λ c. search needs) (λ c. search needs) returns (λ c κs. search needs)
-    (λ c. search needs) (λ c. search needs) (λ c. search needs) (λ c. search needs)
+    tie.close (tie.spec (λ c κs. search rules) store-requires
+    (λ c. search rules) (λ c. search rules) (λ c. search rules) (λ c. search rules) returns (λ c κs. search rules)
+    (λ c. search rules) (λ c. search rules) (λ c. search rules) (λ c. search rules)
     (λ c. speaks-records _ (at-answer (at-output c.before.before)).answer.ensures c.before.if1.false c.least.ensures))

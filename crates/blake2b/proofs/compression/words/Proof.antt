@@ -1,5 +1,5 @@
 -- `blake2b::compression::words` meets its contract. The loop's invariant: the first i words are read. Assumes nothing.
-use Rattle.lists.proofs.Kit.{◌≡◌, refl, ◌*◌, ◌≤◌, ◌-◌, arith, needs, length, take}
+use Rattle.lists.proofs.Kit.{◌≡◌, refl, ◌*◌, ◌≤◌, ◌-◌, arith, rules, length, take}
 use Rattle.lists.specs.Tab.{tab}
 use Rattle.lists.proofs.Laws.Tab.{fill_none, fill_one, fill-all}
 use Rattle.area.specs.Area.{part, zeros}
@@ -20,5 +20,5 @@ words-spec = tie.close (tie.spec
     invariant-loop decreases-loop (λ c. (omega arith, refl, fill_none (zeros 16) _)) (λ c. omega arith) (λ c κs. omega arith)
     (λ c. omega arith) (λ c. omega arith) (λ c. omega arith) (λ c. omega arith)
     (λ c. let l = c.before.before.loop in
-    (omega arith, search needs, fill_one _ _ l.i _ l.invariant.1 (omega arith) c.load.ensures l.invariant.2))
+    (omega arith, search rules, fill_one _ _ l.i _ l.invariant.1 (omega arith) c.load.ensures l.invariant.2))
     (λ c. let l = c.before.loop in fill-all _ _ l.i _ l.invariant.1 l.invariant.0 c.loop-test.false l.invariant.2))

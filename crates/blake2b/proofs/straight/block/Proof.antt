@@ -1,5 +1,5 @@
 -- `blake2b::straight::block` meets its contract: each word is read, or is 0. Assumes nothing.
-use Rattle.lists.proofs.Kit.{arith, needs}
+use Rattle.lists.proofs.Kit.{arith, rules}
 use Rattle.blake2b.proofs.Laws.Straight.{block_words}
 use Rattle.blake2b.proofs.straight.block.Statement.{statement}
 use Rattle.blake2b.proofs.straight.block.Tie as tie
@@ -14,5 +14,5 @@ returns c =
 
 pub block_spec : {M : Type 1} → statement M
 block_spec =
-    tie.close (tie.spec (λ c κs. search needs) (λ c κs. search needs) (λ c κs. search needs) (λ c κs. search needs) (λ c κs. search needs)
-    (λ c κs. search needs) (λ c κs. search needs) (λ c κs. search needs) (λ c. search needs) (λ c κs. search needs) returns)
+    tie.close (tie.spec (λ c κs. search rules) (λ c κs. search rules) (λ c κs. search rules) (λ c κs. search rules) (λ c κs. search rules)
+    (λ c κs. search rules) (λ c κs. search rules) (λ c κs. search rules) (λ c. search rules) (λ c κs. search rules) returns)

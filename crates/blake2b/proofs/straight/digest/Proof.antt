@@ -1,5 +1,5 @@
 -- `blake2b::straight::digest` meets its contract: the first four words of the state are stored, one behind the other. Assumes nothing.
-use Rattle.lists.proofs.Kit.{ap, ◌∙◌, List, ℕ, needs, length, take}
+use Rattle.lists.proofs.Kit.{ap, ◌∙◌, List, ℕ, rules, length, take}
 use Rattle.blake2b.specs.Blake2b.{bytes}
 use Rattle.blake2b.proofs.Laws.Data.{length-absorbed}
 use Rattle.blake2b.proofs.Laws.Straight.{four-words}
@@ -24,5 +24,5 @@ returns c =
 
 pub digest-spec : {M : Type 1} → statement M
 digest-spec =
-    tie.close (tie.spec (λ c κs. search needs) (λ c. search needs) (λ c κs. search needs) (λ c. search needs) (λ c κs. search needs)
-    (λ c. search needs) (λ c κs. search needs) (λ c. search needs) (λ c κs. search needs) (λ c. search needs) returns)
+    tie.close (tie.spec (λ c κs. search rules) (λ c. search rules) (λ c κs. search rules) (λ c. search rules) (λ c κs. search rules)
+    (λ c. search rules) (λ c κs. search rules) (λ c. search rules) (λ c κs. search rules) (λ c. search rules) returns)

@@ -1,5 +1,5 @@
 -- `blake2b::straight::state` meets its contract: the parts of F, put together, and the message is one block. Assumes nothing.
-use Rattle.lists.proofs.Kit.{ap, ◌∙◌, arith, needs}
+use Rattle.lists.proofs.Kit.{ap, ◌∙◌, arith, rules}
 use Rattle.blake2b.specs.Blake2b.{finished}
 use Rattle.blake2b.proofs.Laws.Steps.{whole}
 use Rattle.blake2b.proofs.Laws.Data.{of_words, one_block}
@@ -17,5 +17,5 @@ returns c =
 
 pub state-spec : {M : Type 1} → statement M
 state-spec =
-    tie.close (tie.spec (λ c κs. search needs) (λ c κs. search needs) (λ c κs. search needs) (λ c κs. search needs) (λ c κs. search needs)
+    tie.close (tie.spec (λ c κs. search rules) (λ c κs. search rules) (λ c κs. search rules) (λ c κs. search rules) (λ c κs. search rules)
     returns)

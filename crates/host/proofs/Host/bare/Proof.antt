@@ -1,5 +1,5 @@
 -- `host::Host::bare` meets its contract: 8 times no contract, and no program. Assumes nothing.
-use Rattle.lists.proofs.Kit.{ap₂, replicate, needs}
+use Rattle.lists.proofs.Kit.{ap₂, replicate, rules}
 use Rattle.area.specs.Area.{zeros}
 use Rattle.host.specs.declared.Place.{Place}
 use Rattle.host.specs.declared.Program.{Program}
@@ -24,4 +24,4 @@ returns c =
 
 pub bare_spec : {M : Type 1} → statement M
 bare_spec =
-    tie.close (tie.spec (λ c κs. search needs) (λ c κs. search needs) returns)
+    tie.close (tie.spec (λ c κs. search rules) (λ c κs. search rules) returns)

@@ -1,5 +1,5 @@
 -- `host::Terms::none` meets its contract: the empty head, and prices of 0. Assumes nothing.
-use Rattle.lists.proofs.Kit.{ap₂, needs}
+use Rattle.lists.proofs.Kit.{ap₂, rules}
 use Rattle.sia.specs.declared.Head.{Head}
 use Rattle.host.specs.declared.Prices.{Prices}
 use Rattle.host.specs.Empty.{no_terms}
@@ -13,4 +13,4 @@ returns c =
 
 pub none_spec : {M : Type 1} → statement M
 none_spec =
-    tie.close (tie.spec (λ c κs. search needs) (λ c κs. search needs) returns)
+    tie.close (tie.spec (λ c κs. search rules) (λ c κs. search rules) returns)

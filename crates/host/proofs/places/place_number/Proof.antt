@@ -1,5 +1,5 @@
 -- `host::places::place_number` meets its contract. The loop's invariant: so many places before i as are left out. Assumes nothing.
-use Rattle.lists.proofs.Kit.{◌≡◌, sym, ap, ◌∙◌, ◌+◌, ◌-◌, arith, slice, needs}
+use Rattle.lists.proofs.Kit.{◌≡◌, sym, ap, ◌∙◌, ◌+◌, ◌-◌, arith, slice, rules}
 use Rattle.lists.specs.Tests.{first_of}
 use Rattle.lists.proofs.Laws.Slices.{slice_all, first-here, first-further, first_done}
 use Rattle.host.specs.Places.{has_id}
@@ -37,7 +37,7 @@ pub place-number-spec : {M : Type 1} → statement M
 place-number-spec = tie.close (tie.spec
     invariant-loop decreases-loop
     (λ c. let whole = ap (first_of (has_id c.args.id)) (slice_all c.args.t1 c.well-formed.0.1.0.1) in omega (arith, whole))
-    (λ c. search needs) (λ c. search needs) (λ c κs. tt) returns (λ c. search needs) (λ c. search needs) loop-again
+    (λ c. search rules) (λ c. search rules) (λ c κs. tt) returns (λ c. search rules) (λ c. search rules) loop-again
     (λ c. let l = c.before.loop in
     let s = c.before.before in
     omega (arith, first_done (has_id s.args.id) s.args.t1 l.i 8 (omega arith), l.invariant)))

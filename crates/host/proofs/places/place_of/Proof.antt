@@ -1,6 +1,6 @@
 -- `host::places::place_of` meets its contract. The loop's invariant: the contract is one of the places that are left to look at.
 -- Assumes nothing.
-use Rattle.lists.proofs.Kit.{◌≡◌, sym, ap, ◌∙◌, ◌-◌, arith, slice, needs}
+use Rattle.lists.proofs.Kit.{◌≡◌, sym, ap, ◌∙◌, ◌-◌, arith, slice, rules}
 use Rattle.lists.proofs.Laws.Slices.{slice_all}
 use Rattle.host.specs.Places.{whose}
 use Rattle.host.proofs.Laws.Places.{whose-here, whose-further, whose-done}
@@ -15,12 +15,12 @@ decreases-loop id places i₀ i = 8 - i
 
 pub place-of-spec : {M : Type 1} → statement M
 place-of-spec = tie.close (tie.spec
-    invariant-loop decreases-loop (λ c. ap (whose c.args.id) (sym (slice_all _ c.well-formed.0.1.0.1))) (λ c. search needs)
-    (λ c. search needs) (λ c κs. tt)
+    invariant-loop decreases-loop (λ c. ap (whose c.args.id) (sym (slice_all _ c.well-formed.0.1.0.1))) (λ c. search rules)
+    (λ c. search rules) (λ c κs. tt)
     (λ c. let back-3 = c.before.before.before in let back-4 = back-3.before in let back-5 = back-4.before in let l = back-4.loop in
     let s = back-5 in
     whose-here _ s.args.t1 l.i 8 s.well-formed.0.1.0.1 (omega arith) (sym c.before.has-id.ensures ∙ c.if1.true) ∙ sym l.invariant)
-    (λ c. search needs) (λ c. search needs)
+    (λ c. search rules) (λ c. search rules)
     (λ c. let back-3 = c.before.before.before in let back-4 = back-3.before in let back-5 = back-4.before in let l = back-4.loop in
     let s = back-5 in
     l.invariant ∙ whose-further _ s.args.t1 l.i 8 s.well-formed.0.1.0.1 (omega arith) (sym c.before.has-id.ensures ∙ c.if1.false))

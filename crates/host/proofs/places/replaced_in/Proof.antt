@@ -1,6 +1,6 @@
 -- `host::places::replaced_in` meets its contract. The loop's invariant: the first i places are replaced, the others as they were.
 -- Assumes nothing.
-use Rattle.lists.proofs.Kit.{◌≡◌, ap, ◌∙◌, ◌++◌, ◌-◌, arith, length, take, drop, set, length-set, needs}
+use Rattle.lists.proofs.Kit.{◌≡◌, ap, ◌∙◌, ◌++◌, ◌-◌, arith, length, take, drop, set, length-set, rules}
 use Rattle.lists.specs.Pick.{pick}
 use Rattle.lists.specs.Tests.{each}
 use Rattle.lists.proofs.Laws.Each.{each_none, each-one, each_all}
@@ -28,8 +28,8 @@ loop-again c =
 pub replaced-in-spec : {M : Type 1} → statement M
 unfolding replaced
 replaced-in-spec = tie.close (tie.spec
-    invariant-loop decreases-loop (λ c. (c.well-formed.0.1.0.1, each_none _ _)) (λ c. search needs) (λ c. search needs) (λ c κs. tt)
-    (λ c. search needs) (λ c. search needs) (λ c. search needs) (λ c. search needs) loop-again
+    invariant-loop decreases-loop (λ c. (c.well-formed.0.1.0.1, each_none _ _)) (λ c. search rules) (λ c. search rules) (λ c κs. tt)
+    (λ c. search rules) (λ c. search rules) (λ c. search rules) (λ c. search rules) loop-again
     (λ c. let s = c.before.before in
     each_all (λ q. pick (has_id s.args.id q) s.args.by q) s.args.t1 c.before.loop.ps c.before.loop.i s.well-formed.0.1.0.1
     (omega arith) c.before.loop.invariant.1))

@@ -1,6 +1,6 @@
 -- `host::places::sizes_fit` meets its contract. The loop's invariant: the answer is whether the sizes that are left to look at are
 -- within what is left of the limit. Assumes nothing.
-use Rattle.lists.proofs.Kit.{◌≡◌, sym, ◌∙◌, ◌+◌, ◌-◌, arith, slice, leb, needs}
+use Rattle.lists.proofs.Kit.{◌≡◌, sym, ◌∙◌, ◌+◌, ◌-◌, arith, slice, leb, rules}
 use Rattle.lists.proofs.Laws.Sums.{above-first}
 use Rattle.host.specs.Places.{others}
 use Rattle.host.proofs.Laws.Places.{blank}
@@ -30,6 +30,6 @@ pub sizes-fit-spec : {M : Type 1} → statement M
 sizes-fit-spec = tie.close (tie.spec
     invariant-loop decreases-loop (λ c. above-first _ _ _ c.if1.true)
     (λ c. fits-first c.before.args.id c.before.args.t1 8 c.before.well-formed.0.1.0.1 _ _ c.if1.false)
-    (λ c. search needs) (λ c. search needs) (λ c κs. tt) returns-2 (λ c. search needs) (λ c. search needs) loop-again
+    (λ c. search rules) (λ c. search rules) (λ c κs. tt) returns-2 (λ c. search rules) (λ c. search rules) loop-again
     (λ c. let s = c.before.before.before in
     fits-done s.args.id s.args.t1 c.before.loop.i 8 s.well-formed.0.1.0.1 _ (omega arith) ∙ sym c.before.loop.invariant))

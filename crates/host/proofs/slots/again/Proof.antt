@@ -1,6 +1,6 @@
 -- `host::slots::again` meets its contract. The loop's invariant: the answer is that of the items that are left to look at.
 -- Assumes nothing.
-use Rattle.lists.proofs.Kit.{◌≡◌, refl, sym, ◌∙◌, ◌-◌, ◌≤◌, arith, slice, eqb, eq-eqb, ne_eqb, needs}
+use Rattle.lists.proofs.Kit.{◌≡◌, refl, sym, ◌∙◌, ◌-◌, ◌≤◌, arith, slice, eqb, eq-eqb, ne_eqb, rules}
 use Rattle.lists.specs.Tests.{some}
 use Rattle.lists.proofs.Laws.Slices.{some-here, some-further, some-done}
 use Rattle.host.proofs.slots.again.Statement.{statement}
@@ -31,6 +31,6 @@ loop-again c =
 
 pub again_spec : {M : Type 1} → statement M
 again_spec = tie.close (tie.spec
-    invariant-loop decreases-loop (λ c. (omega arith, refl)) (λ c. search needs) (λ c κs. tt) returns (λ c. search needs)
-    (λ c. search needs) loop-again
+    invariant-loop decreases-loop (λ c. (omega arith, refl)) (λ c. search rules) (λ c κs. tt) returns (λ c. search rules)
+    (λ c. search rules) loop-again
     (λ c. let s = c.before.before in some-done _ s.args.t1 c.before.loop.i s.args.end (omega arith) ∙ sym c.before.loop.invariant.1))

@@ -1,6 +1,6 @@
 -- `host::slots::below` meets its contract. The loop's invariant: the answer is that of the items that are left to look at.
 -- Assumes nothing.
-use Rattle.lists.proofs.Kit.{◌≡◌, refl, sym, ◌∙◌, ◌-◌, arith, take, slice, ltb, lt-ltb, le-ltb, needs}
+use Rattle.lists.proofs.Kit.{◌≡◌, refl, sym, ◌∙◌, ◌-◌, arith, take, slice, ltb, lt-ltb, le-ltb, rules}
 use Rattle.lists.specs.Tests.{every}
 use Rattle.lists.proofs.Laws.Slices.{every-stops, every-further, every-done}
 use Rattle.host.proofs.slots.below.Statement.{statement}
@@ -30,7 +30,7 @@ loop-again c =
 
 pub below-spec : {M : Type 1} → statement M
 below-spec = tie.close (tie.spec
-    invariant-loop decreases-loop (λ c. refl) (λ c. search needs) (λ c κs. tt) returns (λ c. search needs) (λ c. search needs)
+    invariant-loop decreases-loop (λ c. refl) (λ c. search rules) (λ c κs. tt) returns (λ c. search rules) (λ c. search rules)
     loop-again
     (λ c. let s = c.before.before in
     every-done (λ n. ltb n s.args.limit) s.args.t1 c.before.loop.i s.args.end (omega arith) ∙ sym c.before.loop.invariant))

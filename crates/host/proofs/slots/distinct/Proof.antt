@@ -1,6 +1,6 @@
 -- `host::slots::distinct` meets its contract. The loop's invariant: the answer is that of the items that are left to look at.
 -- Assumes nothing.
-use Rattle.lists.proofs.Kit.{◌≡◌, refl, sym, ap, ◌∙◌, ℕ, ◌+◌, ◌-◌, arith, take, slice, eqb, needs}
+use Rattle.lists.proofs.Kit.{◌≡◌, refl, sym, ap, ◌∙◌, ℕ, ◌+◌, ◌-◌, arith, take, slice, eqb, rules}
 use Rattle.lists.specs.Tests.{some, apart}
 use Rattle.lists.proofs.Laws.Slices.{apart-stops, apart-further, apart-done}
 use Rattle.host.proofs.slots.distinct.Statement.{statement}
@@ -34,6 +34,6 @@ loop-again c =
 
 pub distinct-spec : {M : Type 1} → statement M
 distinct-spec = tie.close (tie.spec
-    invariant-loop decreases-loop (λ c. refl) (λ c. search needs) (λ c κs. tt) (λ c. search needs) (λ c κs. search needs) returns
-    (λ c. search needs) (λ c. search needs) loop-again
+    invariant-loop decreases-loop (λ c. refl) (λ c. search rules) (λ c κs. tt) (λ c. search rules) (λ c κs. search rules) returns
+    (λ c. search rules) (λ c. search rules) loop-again
     (λ c. let s = c.before.before in apart-done _ s.args.t1 c.before.loop.i s.args.end (omega arith) ∙ sym c.before.loop.invariant))

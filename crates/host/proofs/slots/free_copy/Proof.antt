@@ -1,5 +1,5 @@
 -- `host::slots::free_copy` meets its contract. The loop's invariant: no slot below i is free. Assumes nothing.
-use Rattle.lists.proofs.Kit.{◌≡◌, sym, ap, ◌∙◌, not, ◌-◌, ◌≤◌, sub-zero, arith, needs}
+use Rattle.lists.proofs.Kit.{◌≡◌, sym, ap, ◌∙◌, not, ◌-◌, ◌≤◌, sub-zero, arith, rules}
 use Rattle.lists.specs.Tests.{unused}
 use Rattle.lists.specs.Lowest.{lowest}
 use Rattle.lists.proofs.Laws.Lowest.{lowest-here, lowest-further, lowest-none}
@@ -33,7 +33,7 @@ loop-again c =
 pub free-copy-spec : {M : Type 1} → statement M
 unfolding free_copy
 free-copy-spec = tie.close (tie.spec
-    invariant-loop decreases-loop (λ c. (omega arith, ap (lowest _ 0) (sym (sub-zero _)))) (λ c κs. tt) returns (λ c. search needs)
-    (λ c. search needs) loop-again
+    invariant-loop decreases-loop (λ c. (omega arith, ap (lowest _ 0) (sym (sub-zero _)))) (λ c κs. tt) returns (λ c. search rules)
+    (λ c. search rules) loop-again
     (λ c. let s = c.before.before in
     lowest-none (unused s.args.staged) c.before.loop.i s.args.stage (omega arith) ∙ sym c.before.loop.invariant.1))

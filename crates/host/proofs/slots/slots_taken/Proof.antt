@@ -1,5 +1,5 @@
 -- `host::slots::slots_taken` meets its contract. The loop's invariant: the slots of the first k places are listed. Assumes nothing.
-use Rattle.lists.proofs.Kit.{◌≡◌, refl, sym, ap, ◌∙◌, List, ◌++◌, ℕ, ◌-◌, ◌*◌, ◌≤◌, arith, length, take, get_or, take_all, needs}
+use Rattle.lists.proofs.Kit.{◌≡◌, refl, sym, ap, ◌∙◌, List, ◌++◌, ℕ, ◌-◌, ◌*◌, ◌≤◌, arith, length, take, get_or, take_all, rules}
 use Rattle.host.specs.Places.{committed, taken}
 use Rattle.host.proofs.Laws.Places.{blank}
 use Rattle.host.proofs.Laws.Slots.{taken_none, taken-one}
@@ -28,10 +28,10 @@ loop-again c =
 
 pub slots-taken-spec : {M : Type 1} → statement M
 slots-taken-spec = tie.close (tie.spec
-    invariant-loop decreases-loop (λ c. (omega arith, refl, omega arith, taken_none _)) (λ c. search needs) (λ c. search needs)
+    invariant-loop decreases-loop (λ c. (omega arith, refl, omega arith, taken_none _)) (λ c. search rules) (λ c. search rules)
     (λ c. sym c.before.before.before.loop.invariant.1)
-    (λ c κs. let l = c.before.before.before.loop in (search needs, omega (arith, l.invariant.1, l.invariant.2)))
-    (λ c. search needs) (λ c. search needs) loop-again
+    (λ c κs. let l = c.before.before.before.loop in (search rules, omega (arith, l.invariant.1, l.invariant.2)))
+    (λ c. search rules) (λ c. search rules) loop-again
     (λ c. let l = c.before.loop in
     let s = c.before.before in
     (l.invariant.3 ∙ ap (taken s.args.z) (take_all l.k s.args.t2 (omega (arith, s.well-formed.1.0.1.0.1))), omega (arith, l.invariant.2))))

@@ -1,6 +1,6 @@
 -- `host::slots::staged_in` meets its contract. The loop's invariant: the answer is that of the positions that are left to look at.
 -- Assumes nothing.
-use Rattle.lists.proofs.Kit.{◌≡◌, sym, ap, ◌∙◌, ◌-◌, arith, slice, eqb, eq-eqb, ne_eqb, needs}
+use Rattle.lists.proofs.Kit.{◌≡◌, sym, ap, ◌∙◌, ◌-◌, arith, slice, eqb, eq-eqb, ne_eqb, rules}
 use Rattle.lists.specs.Tests.{some}
 use Rattle.lists.proofs.Laws.Slices.{slice_all, some-here, some-further, some-done}
 use Rattle.host.proofs.slots.staged_in.Statement.{statement}
@@ -31,5 +31,5 @@ pub staged-in-spec : {M : Type 1} → statement M
 staged-in-spec = tie.close (tie.spec
     invariant-loop decreases-loop
     (λ c. ap (some (eqb c.args.x)) (sym (slice_all c.args.t1 c.well-formed.0.1.0.1)))
-    (λ c. search needs) (λ c κs. tt) returns (λ c. search needs) (λ c. search needs) loop-again
+    (λ c. search rules) (λ c κs. tt) returns (λ c. search rules) (λ c. search rules) loop-again
     (λ c. let s = c.before.before in some-done _ s.args.t1 c.before.loop.i 64 (omega arith) ∙ sym c.before.loop.invariant))

@@ -1,6 +1,6 @@
 -- `host::slots::with_slots` meets its contract. The loop's invariant: behind what was listed stand the first i slots of the place.
 -- Assumes nothing.
-use Rattle.lists.proofs.Kit.{◌≡◌, refl, sym, ap, ◌∙◌, ◌++◌, append-nil, ℕ, ◌+◌, ◌-◌, ◌≤◌, arith, length, take, length-set, not-true, not-false, needs}
+use Rattle.lists.proofs.Kit.{◌≡◌, refl, sym, ap, ◌∙◌, ◌++◌, append-nil, ℕ, ◌+◌, ◌-◌, ◌≤◌, arith, length, take, length-set, not-true, not-false, rules}
 use Rattle.host.proofs.Laws.Slots.{grown, no-slots, its-slots}
 use Rattle.host.proofs.Laws.Lengths.{placed}
 use Rattle.host.proofs.slots.with_slots.Statement.{statement}
@@ -53,5 +53,5 @@ pub with_slots_spec : {M : Type 1} → statement M
 with_slots_spec = tie.close (tie.spec
     invariant-loop decreases-loop
     (λ c. (no-slots _ _ _ (not-true _ c.if1.true), omega arith, refl))
-    (λ c κs. search needs) loop-holds (λ c. search needs) (λ c. search needs) (λ c. search needs) (λ c. search needs)
-    (λ c. search needs) loop-again (λ c. search needs) (λ c. c.before.loop.invariant.1) returns-2)
+    (λ c κs. search rules) loop-holds (λ c. search rules) (λ c. search rules) (λ c. search rules) (λ c. search rules)
+    (λ c. search rules) loop-again (λ c. search rules) (λ c. c.before.loop.invariant.1) returns-2)

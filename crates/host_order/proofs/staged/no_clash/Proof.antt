@@ -1,6 +1,6 @@
 -- `host_order::staged::no_clash` meets its contract. The loop's invariant: the answer is that of the entries that are left to look at.
 -- Assumes nothing.
-use Rattle.lists.proofs.Kit.{◌≡◌, sym, ap, ◌∙◌, ◌-◌, arith, slice, needs}
+use Rattle.lists.proofs.Kit.{◌≡◌, sym, ap, ◌∙◌, ◌-◌, arith, slice, rules}
 use Rattle.lists.specs.Tests.{apart}
 use Rattle.lists.proofs.Laws.Slices.{slice_all, apart-stops, apart-further, apart-done}
 use Rattle.host.specs.Order.{clash}
@@ -31,5 +31,5 @@ pub no-clash-spec : {M : Type 1} → statement M
 no-clash-spec = tie.close (tie.spec
     invariant-loop decreases-loop
     (λ c. ap (apart clash) (sym (slice_all c.args.t1 c.well-formed.0.1.0.1)))
-    (λ c. search needs) (λ c. search needs) (λ c κs. tt) returns (λ c. search needs) (λ c. search needs) loop-again
+    (λ c. search rules) (λ c. search rules) (λ c κs. tt) returns (λ c. search rules) (λ c. search rules) loop-again
     (λ c. let s = c.before.before in apart-done clash s.args.t1 c.before.loop.i 64 (omega arith) ∙ sym c.before.loop.invariant))

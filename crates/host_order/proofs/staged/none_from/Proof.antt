@@ -1,6 +1,6 @@
 -- `host_order::staged::none_from` meets its contract. The loop's invariant: the answer is that of the entries that are left to look at.
 -- Assumes nothing.
-use Rattle.lists.proofs.Kit.{◌≡◌, refl, sym, ◌∙◌, ◌-◌, arith, slice, eqb, eq-eqb, ne_eqb, needs}
+use Rattle.lists.proofs.Kit.{◌≡◌, refl, sym, ◌∙◌, ◌-◌, arith, slice, eqb, eq-eqb, ne_eqb, rules}
 use Rattle.lists.specs.Tests.{every}
 use Rattle.lists.proofs.Laws.Slices.{every-stops, every-further, every-done}
 use Rattle.host.specs.Empty.{none}
@@ -27,5 +27,5 @@ loop-again c =
 
 pub none-from-spec : {M : Type 1} → statement M
 none-from-spec = tie.close (tie.spec
-    invariant-loop decreases-loop (λ c. refl) (λ c. search needs) returns (λ c. search needs) (λ c. search needs) loop-again
+    invariant-loop decreases-loop (λ c. refl) (λ c. search rules) returns (λ c. search rules) (λ c. search rules) loop-again
     (λ c. let s = c.before.before in every-done (λ n. eqb n none) s.args.t1 c.before.loop.i 64 (omega arith) ∙ sym c.before.loop.invariant))

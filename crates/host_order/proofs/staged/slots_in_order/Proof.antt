@@ -1,6 +1,6 @@
 -- `host_order::staged::slots_in_order` meets its contract. The loop's invariant: the answer is that of the entries that are left to look at.
 -- Assumes nothing.
-use Rattle.lists.proofs.Kit.{◌≡◌, sym, ap, ◌∙◌, ◌-◌, arith, slice, not-true, not-false, needs}
+use Rattle.lists.proofs.Kit.{◌≡◌, sym, ap, ◌∙◌, ◌-◌, arith, slice, not-true, not-false, rules}
 use Rattle.lists.specs.Tests.{every}
 use Rattle.lists.proofs.Laws.Slices.{slice_all, every-stops, every-further, every-done}
 use Rattle.host.specs.Order.{slot_in_order}
@@ -31,6 +31,6 @@ pub slots-in-order-spec : {M : Type 1} → statement M
 slots-in-order-spec = tie.close (tie.spec
     invariant-loop decreases-loop
     (λ c. ap (every (slot_in_order c.args.stage)) (sym (slice_all c.args.t1 c.well-formed.0.1.0.1)))
-    (λ c. search needs) (λ c κs. tt) returns (λ c. search needs) (λ c. search needs) loop-again
+    (λ c. search rules) (λ c κs. tt) returns (λ c. search rules) (λ c. search rules) loop-again
     (λ c. let s = c.before.before in
     every-done (slot_in_order s.args.stage) s.args.t1 c.before.loop.i 64 (omega arith) ∙ sym c.before.loop.invariant))

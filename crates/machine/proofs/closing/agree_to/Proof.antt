@@ -1,5 +1,5 @@
 -- `machine::closing::agree_to` meets its contract: nothing changed, or the pair named is the running one, or the changes are dropped. Assumes nothing.
-use Rattle.lists.proofs.Kit.{◌≡◌, refl, sym, ap, ap₂, ◌∙◌, not-true, not-false, needs}
+use Rattle.lists.proofs.Kit.{◌≡◌, refl, sym, ap, ap₂, ◌∙◌, not-true, not-false, rules}
 use Rattle.lists.proofs.Laws.Pick.{yes, no}
 use Rattle.machine_rules.specs.View.{setting_of, volume_of}
 use Rattle.machine_rules.specs.Roots.{root_of}
@@ -45,7 +45,7 @@ one c = c.before.before
 same-2 : (c : tie.After-same-pair2) → let s = first (one c) in same_pair s.args.named (running s) ≡ c.same-pair2.result
 same-2 c = sym (c.same-pair2.ensures ∙ ap (same_pair (first (one c)).args.named) (reached (one c).before))
 
--- ---- the needs
+-- ---- the rules
 
 returns : tie.Need-returns
 unfolding agreed_by given_up
@@ -73,5 +73,5 @@ agree-to-spec =
     tie.close (tie.spec
     (λ c κs. c.before.before.requires.order)
     (λ c κs. let asked = c.before.before.before.requires in (asked.order, asked.live))
-    (λ c κs. search needs) (λ c κs. search needs) returns (λ c κs. search needs) (λ c κs. search needs) returns-2
-    (λ c κs. search needs) (λ c. search needs) returns-3)
+    (λ c κs. search rules) (λ c κs. search rules) returns (λ c κs. search rules) (λ c κs. search rules) returns-2
+    (λ c κs. search rules) (λ c. search rules) returns-3)

@@ -1,5 +1,5 @@
 -- `machine::closing::close` meets its contract: refused, given up, not ended, or what the pairs say. Assumes nothing.
-use Rattle.lists.proofs.Kit.{◌≡◌, sym, ap, ◌∙◌, ℕ, needs}
+use Rattle.lists.proofs.Kit.{◌≡◌, sym, ap, ◌∙◌, ℕ, rules}
 use lib.IntN.{pos}
 use Rattle.lists.proofs.Laws.Pick.{yes, no}
 use Rattle.machine_rules.specs.View.{disk_right, areas_right}
@@ -35,7 +35,7 @@ past c = past-zero _ _ (sym (number c.before) ∙ c.if1.false)
 abbrev agrees : tie.After-unfinished → tie.Else2
 agrees c = c.before
 
--- ---- the needs
+-- ---- the rules
 
 returns : tie.Need-returns
 unfolding close_by
@@ -75,6 +75,6 @@ returns-4 c =
 
 pub close_spec : {M : Type 1} → statement M
 close_spec =
-    tie.close (tie.spec (λ c κs. search needs) (λ c κs. search needs) (λ c κs. search needs) (λ c κs. search needs) (λ c. search needs) returns
-    (λ c κs. search needs) (λ c. search needs) returns-2 (λ c κs. search needs) (λ c κs. search needs) (λ c. search needs) returns-3
-    agree-to-requires (λ c. search needs) returns-4)
+    tie.close (tie.spec (λ c κs. search rules) (λ c κs. search rules) (λ c κs. search rules) (λ c κs. search rules) (λ c. search rules) returns
+    (λ c κs. search rules) (λ c. search rules) returns-2 (λ c κs. search rules) (λ c κs. search rules) (λ c. search rules) returns-3
+    agree-to-requires (λ c. search rules) returns-4)

@@ -3,7 +3,7 @@
 use mir.Syntax.{w64}
 use mir.Val.{of_z, to_z}
 use mir.Facts.{to_z-of_z}
-use Rattle.lists.proofs.Kit.{◌≡◌, sym, ap, ◌∙◌, needs}
+use Rattle.lists.proofs.Kit.{◌≡◌, sym, ap, ◌∙◌, rules}
 use Rattle.area.specs.Slots.{Size}
 use Rattle.area.proofs.Laws.Slots.{some}
 use Rattle.host.specs.Places.{whose}
@@ -53,7 +53,7 @@ own : (c : tie.After-parent) → c.parent.result ≡ whose (host c).program.term
 unfolding parent
 own c = c.parent.ensures ∙ ap parent c.before.setting-of.ensures
 
--- ---- the needs
+-- ---- the rules
 
 growth-requires : tie.Need-growth-requires
 growth-requires c κs =
@@ -94,11 +94,11 @@ returns c =
 
 pub commit-spec : {M : Type 1} → statement M
 commit-spec =
-    tie.close (tie.spec (λ c κs. search needs) (λ c κs. search needs)
+    tie.close (tie.spec (λ c κs. search rules) (λ c κs. search rules)
     (λ c κs. let r = (start c).requires in (size c, (few-slots _ _ _ (declared c) r, few-sectors _ _ _ (declared c) r)))
-    (λ c κs. search needs) (λ c κs. search needs) growth-requires
+    (λ c κs. search rules) (λ c κs. search rules) growth-requires
     (λ c. some _ (size (slots c).before))
     copy-back-requires
     (λ c. let at = (after (back c.before)).before in sym (stage-rooted (host at) _ (start at).good.0))
     (λ c. let at = (after (back c.before.before)).before in sym (disk-rooted (host at) _ (start at).good.0))
-    copy-back-requires-2 (λ c κs. search needs) (λ c. search needs) returns)
+    copy-back-requires-2 (λ c κs. search rules) (λ c. search rules) returns)

@@ -1,5 +1,5 @@
 -- `machine::closing::give_up` meets its contract. Assumes nothing.
-use Rattle.lists.proofs.Kit.{ap, needs}
+use Rattle.lists.proofs.Kit.{ap, rules}
 use Rattle.host.specs.With.{with_program}
 use lib.IntN.{pos}
 use Rattle.host.specs.declared.Program.{Program}
@@ -21,4 +21,4 @@ returns c =
 
 pub give-up-spec : {M : Type 1} → statement M
 give-up-spec =
-    tie.close (tie.spec (λ c κs. search needs) returns)
+    tie.close (tie.spec (λ c κs. search rules) returns)

@@ -1,5 +1,5 @@
 -- `machine::closing::same_pair` meets its contract: the sizes, then all 32 bytes. Assumes nothing.
-use Rattle.lists.proofs.Kit.{refl, eq-eqb, ne_eqb, needs}
+use Rattle.lists.proofs.Kit.{refl, eq-eqb, ne_eqb, rules}
 use Rattle.lists.proofs.Laws.Pick.{yes, no}
 use Rattle.machine_rules.specs.Record.{same_pair}
 use Rattle.machine.proofs.closing.same_pair.Statement.{statement}
@@ -16,4 +16,4 @@ unfolding same_pair
 same-pair-spec =
     tie.close (tie.spec
     (λ c. no _ _ _ (ne_eqb _ _ c.if1.true) refl)
-    (λ c. search needs) (λ c. search needs) (λ c κs. search needs) returns-2)
+    (λ c. search rules) (λ c. search rules) (λ c κs. search rules) returns-2)

@@ -1,5 +1,5 @@
 -- `machine::closing::unfinished` meets its contract. Assumes nothing.
-use Rattle.lists.proofs.Kit.{refl, needs}
+use Rattle.lists.proofs.Kit.{refl, rules}
 use Rattle.lists.proofs.Laws.Pick.{yes, no}
 use Rattle.machine_rules.specs.Commit.{unfinished}
 use Rattle.machine.proofs.closing.unfinished.Statement.{statement}
@@ -10,5 +10,5 @@ unfolding unfinished
 unfinished-spec =
     tie.close (tie.spec
     (λ c. yes _ _ _ c.if1.true refl)
-    (λ c κs. search needs)
+    (λ c κs. search rules)
     (λ c. no _ _ _ c.before.if1.false c.going.ensures))

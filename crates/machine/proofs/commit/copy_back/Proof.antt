@@ -1,5 +1,5 @@
 -- `machine::commit::copy_back` meets its contract. The loop's invariant: the positions from i on are left to copy. Assumes nothing.
-use Rattle.lists.proofs.Kit.{◌≡◌, refl, sym, ap, ◌∙◌, ℕ, ◌-◌, ◌≤◌, sub-zero, arith, length, needs}
+use Rattle.lists.proofs.Kit.{◌≡◌, refl, sym, ap, ◌∙◌, ℕ, ◌-◌, ◌≤◌, sub-zero, arith, length, rules}
 use Rattle.machine_rules.specs.Commit.{copied_back}
 use Rattle.machine.proofs.Laws.Bytes.{next-lies, back_one, back-length, back_done}
 use Rattle.machine.proofs.commit.copy_back.Statement.{statement}
@@ -43,4 +43,4 @@ returns c =
 pub copy-back-spec : {M : Type 1} → statement M
 copy-back-spec =
     tie.close (tie.spec invariant-loop decreases-loop loop-holds (λ c. omega arith) (λ c. omega arith) one-back-requires (λ c. omega arith)
-    (λ c. omega arith) loop-again (λ c. search needs) returns)
+    (λ c. omega arith) loop-again (λ c. search rules) returns)

@@ -1,5 +1,5 @@
 -- `machine::commit::count` meets its contract: as many slots as sectors, as far as there are entries. Assumes nothing.
-use Rattle.lists.proofs.Kit.{arith, needs, not-true, not-false}
+use Rattle.lists.proofs.Kit.{arith, rules, not-true, not-false}
 use Rattle.host.proofs.Laws.Lengths.{placed}
 use Rattle.machine.proofs.Laws.Filled.{count-free, count_held}
 use Rattle.machine.proofs.commit.count.Statement.{statement}
@@ -24,4 +24,4 @@ returns-3 c =
 
 pub count_spec : {M : Type 1} → statement M
 count_spec =
-    tie.close (tie.spec returns (λ c. search needs) returns-2 returns-3)
+    tie.close (tie.spec returns (λ c. search rules) returns-2 returns-3)

@@ -1,5 +1,5 @@
 -- `machine::commit::final_slots` meets its contract: kept slots in front, new ones behind them. Assumes nothing.
-use Rattle.lists.proofs.Kit.{ap, ◌∙◌, needs}
+use Rattle.lists.proofs.Kit.{ap, ◌∙◌, rules}
 use Rattle.host.specs.Places.{taken}
 use Rattle.machine.proofs.Laws.Filled.{final-made}
 use Rattle.machine.proofs.commit.final_slots.Statement.{statement}
@@ -19,6 +19,6 @@ returns c =
 
 pub final-slots-spec : {M : Type 1} → statement M
 final-slots-spec =
-    tie.close (tie.spec (λ c κs. tt) (λ c κs. tt) (λ c κs. search needs) (λ c κs. c.slots-taken.ensures.1) (λ c κs. search needs)
+    tie.close (tie.spec (λ c κs. tt) (λ c κs. tt) (λ c κs. search rules) (λ c κs. c.slots-taken.ensures.1) (λ c κs. search rules)
     (λ c κs. c.before.count.ensures.1)
-    (λ c. search needs) (λ c κs. search needs) returns)
+    (λ c. search rules) (λ c κs. search rules) returns)

@@ -1,5 +1,5 @@
 -- `machine::commit::growth` meets its contract: sizes are small, so that nothing wraps. Assumes nothing.
-use Rattle.lists.proofs.Kit.{◌<◌, ◌^◌, arith, needs}
+use Rattle.lists.proofs.Kit.{◌<◌, ◌^◌, arith, rules}
 use mir.Syntax.{w64}
 use mir.Facts.{to_z_pos, to_z-of_z}
 use Rattle.machine.proofs.Laws.Growth.{difference, differs}
@@ -20,4 +20,4 @@ returns c =
 
 pub growth-spec : {M : Type 1} → statement M
 growth-spec =
-    tie.close (tie.spec (λ c. search needs) (λ c. search needs) sub-result returns)
+    tie.close (tie.spec (λ c. search rules) (λ c. search rules) sub-result returns)

@@ -1,5 +1,5 @@
 -- `machine::commit::marked` meets its contract. The loop's invariant: the first i slots that are listed have marks. Assumes nothing.
-use Rattle.lists.proofs.Kit.{◌≡◌, refl, sym, ◌∙◌, ◌-◌, ◌≤◌, arith, needs, take, slice}
+use Rattle.lists.proofs.Kit.{◌≡◌, refl, sym, ◌∙◌, ◌-◌, ◌≤◌, arith, rules, take, slice}
 use Rattle.host.proofs.Laws.Lengths.{listing}
 use Rattle.machine.proofs.Laws.Marks.{marks, marks-are}
 use Rattle.machine.proofs.Laws.Turns.{mark-one, mark-done}
@@ -27,5 +27,5 @@ returns c =
 
 pub marked-spec : {M : Type 1} → statement M
 marked-spec =
-    tie.close (tie.spec invariant-loop decreases-loop (λ c. (omega arith, refl)) (λ c. omega arith) (λ c. search needs) (λ c κs. tt) (λ c. omega arith)
+    tie.close (tie.spec invariant-loop decreases-loop (λ c. (omega arith, refl)) (λ c. omega arith) (λ c. search rules) (λ c κs. tt) (λ c. omega arith)
     (λ c. omega arith) loop-again returns)

@@ -1,5 +1,5 @@
 -- `machine::commit::one_back` meets its contract: nothing where nothing is staged. Assumes nothing.
-use Rattle.lists.proofs.Kit.{sym, arith, eq-eqb, ne_eqb, needs}
+use Rattle.lists.proofs.Kit.{sym, arith, eq-eqb, ne_eqb, rules}
 use Rattle.machine.proofs.Laws.Bytes.{laid_none, laid-some}
 use Rattle.machine.proofs.commit.one_back.Statement.{statement}
 use Rattle.machine.proofs.commit.one_back.Tie as tie
@@ -23,4 +23,4 @@ one-back-spec =
     tie.close (tie.spec
     (λ c. sym (laid_none _ _ _ _ _ (eq-eqb _ _ c.if1.true)))
     (λ c. omega (arith, c.before.before.before.requires.source (ne_eqb _ 255 c.if1.false)))
-    mul-copy-between-2 copy-between-requires (λ c. search needs) returns-2)
+    mul-copy-between-2 copy-between-requires (λ c. search rules) returns-2)

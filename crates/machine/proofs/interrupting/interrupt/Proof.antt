@@ -1,5 +1,5 @@
 -- `machine::interrupting::interrupt` meets its contract: refused, stopped, or at its end already. Assumes nothing.
-use Rattle.lists.proofs.Kit.{◌≡◌, refl, sym, ap, ◌∙◌, ℕ, needs}
+use Rattle.lists.proofs.Kit.{◌≡◌, refl, sym, ap, ◌∙◌, ℕ, rules}
 use Rattle.lists.proofs.Laws.Pick.{yes, no}
 use Rattle.machine_rules.specs.Calls.{interrupted, interrupt_lent, refusal, interrupt_by}
 use Rattle.machine_rules.proofs.Laws.Refusals.{Past, past-zero, interrupt-own}
@@ -24,7 +24,7 @@ number c = refusal-told (start c).args.host c.refusal.ensures c.before.in_order.
 past : (c : tie.Else1) → let a = (start c.before).args in Past a.host (interrupt_lent a.host a.disk.now a.output.now)
 past c = past-zero _ _ (sym (number c.before) ∙ c.if1.false)
 
--- ---- the needs
+-- ---- the rules
 
 returns : tie.Need-returns
 unfolding interrupt_by
@@ -61,5 +61,5 @@ returns-3 c =
 
 pub interrupt-spec : {M : Type 1} → statement M
 interrupt-spec =
-    tie.close (tie.spec (λ c κs. search needs) (λ c κs. search needs) (λ c κs. search needs) (λ c κs. search needs) (λ c. search needs) returns
-    (λ c κs. search needs) stop-requires (λ c. search needs) returns-2 (λ c. search needs) returns-3)
+    tie.close (tie.spec (λ c κs. search rules) (λ c κs. search rules) (λ c κs. search rules) (λ c κs. search rules) (λ c. search rules) returns
+    (λ c κs. search rules) stop-requires (λ c. search rules) returns-2 (λ c. search rules) returns-3)

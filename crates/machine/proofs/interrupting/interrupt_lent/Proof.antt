@@ -1,5 +1,5 @@
 -- `machine::interrupting::interrupt_lent` meets its contract: the disk, then the output area of an open program. Assumes nothing.
-use Rattle.lists.proofs.Kit.{◌≡◌, refl, sym, ◌∙◌, Bool, not-true, not-false, needs}
+use Rattle.lists.proofs.Kit.{◌≡◌, refl, sym, ◌∙◌, Bool, not-true, not-false, rules}
 use Rattle.lists.specs.Pick.{both}
 use Rattle.lists.proofs.Laws.Pick.{yes, no}
 use Rattle.machine_rules.specs.View.{disk_right}
@@ -20,7 +20,7 @@ past-1 c rest e = yes _ _ _ (disk c.before ∙ not-false _ c.if1.false) e
 pub interrupt-lent-spec : {M : Type 1} → statement M
 unfolding interrupt_lent output_right
 interrupt-lent-spec = tie.close (tie.spec
-    (λ c κs. search needs)
+    (λ c κs. search rules)
     (λ c. no _ _ _ (disk c.before ∙ not-true _ c.if1.true) refl)
     (λ c. past-1 c.before.before.before _ (yes _ _ _ c.if2.true refl))
     (λ c. let else = c.before.before in past-1 else.before.before.before _ (no _ _ _ else.if2.false refl)))

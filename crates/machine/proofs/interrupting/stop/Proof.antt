@@ -1,5 +1,5 @@
 -- `machine::interrupting::stop` meets its contract. Assumes nothing.
-use Rattle.lists.proofs.Kit.{refl, sym, ap, ap₂, ◌∙◌, subst, List, ℕ, needs, []}
+use Rattle.lists.proofs.Kit.{refl, sym, ap, ap₂, ◌∙◌, subst, List, ℕ, rules, []}
 use Rattle.area.specs.Area.{put}
 use Rattle.host.specs.With.{with_program, with_came, with_progress, with_stage_roots}
 use Rattle.host.proofs.Laws.Lengths.{disk-rooted}
@@ -41,4 +41,4 @@ returns c =
 
 pub stop-spec : {M : Type 1} → statement M
 stop-spec =
-    tie.close (tie.spec (λ c κs. search needs) (λ c. search needs) fail-requires (λ c. search needs) returns)
+    tie.close (tie.spec (λ c κs. search rules) (λ c. search rules) fail-requires (λ c. search rules) returns)

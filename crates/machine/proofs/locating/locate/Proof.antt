@@ -1,5 +1,5 @@
 -- `locate` meets its contract: a walk down the definition. Assumes nothing.
-use Rattle.lists.proofs.Kit.{◌≡◌, sym, ap, ◌∙◌, true, not, needs, not-false}
+use Rattle.lists.proofs.Kit.{◌≡◌, sym, ap, ◌∙◌, true, not, rules, not-false}
 use Rattle.lists.proofs.Laws.Pick.{yes, no}
 use Rattle.host.specs.Order.{in_order}
 use Rattle.machine_rules.specs.View.{volume_by}
@@ -23,4 +23,4 @@ returns-2 c =
 
 pub locate-spec : {M : Type 1} → statement M
 locate-spec =
-    tie.close (tie.spec (λ c κs. tt) (λ c κs. search needs) returns (λ c κs. in_order_lem c) (λ c κs. search needs) returns-2)
+    tie.close (tie.spec (λ c κs. tt) (λ c κs. search rules) returns (λ c κs. in_order_lem c) (λ c κs. search rules) returns-2)

@@ -1,5 +1,5 @@
 -- `located_at` meets its contract: the seat's numbers, or zeros. Assumes nothing.
-use Rattle.lists.proofs.Kit.{sym, ap, ◌∙◌, Bool, true, needs}
+use Rattle.lists.proofs.Kit.{sym, ap, ◌∙◌, Bool, true, rules}
 use Rattle.machine_rules.specs.Seats.{located_at}
 use Rattle.machine_rules.specs.declared.Located.{Located}
 use Rattle.machine.proofs.locating.located_at.Statement.{statement}
@@ -16,6 +16,6 @@ returns-2 c =
 pub located-at-spec : {M : Type 1} → statement M
 unfolding located_at
 located-at-spec =
-    tie.close (tie.spec (λ c. search needs) (λ c. search needs) (λ c κs. search needs)
+    tie.close (tie.spec (λ c. search rules) (λ c. search rules) (λ c κs. search rules)
     (λ c. c.not-located.ensures ∙ sym (ap located_at c.before.enum_told.given.1))
-    (λ c κs. search needs) returns-2)
+    (λ c κs. search rules) returns-2)

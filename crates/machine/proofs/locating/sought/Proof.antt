@@ -1,5 +1,5 @@
 -- `sought` meets its contract: of an open program what it looks through, else all committed sectors. Assumes nothing.
-use Rattle.lists.proofs.Kit.{ap, ◌∙◌, needs, not-true, not-false}
+use Rattle.lists.proofs.Kit.{ap, ◌∙◌, rules, not-true, not-false}
 use Rattle.host.proofs.Laws.Lengths.{hosted, disk-rooted, stage-rooted}
 use Rattle.machine_rules.specs.Roots.{kept_root}
 use Rattle.machine_rules.specs.Seats.{first_seat}
@@ -18,7 +18,7 @@ closed c = c.before.before
 abbrev live : tie.After-stageroots3 → tie.Else1
 live c = let at-progress = c.before.before.before in let at-terms = at-progress.before.before.before in at-terms.before
 
--- ---- the needs
+-- ---- the rules
 
 find-in-all-requires : tie.Need-find-in-all-requires
 find-in-all-requires c κs =
@@ -50,5 +50,5 @@ returns-2 c =
 
 pub sought-spec : {M : Type 1} → statement M
 sought-spec =
-    tie.close (tie.spec (λ c. search needs) (λ c. search needs) find-in-all-requires returns (λ c. search needs) (λ c. search needs)
+    tie.close (tie.spec (λ c. search rules) (λ c. search rules) find-in-all-requires returns (λ c. search rules) (λ c. search rules)
     find-for-requires returns-2)

@@ -1,5 +1,5 @@
 -- `machine::opening::absent` meets its contract: no contract is absent in read-only mode. Assumes nothing.
-use Rattle.lists.proofs.Kit.{refl, sym, ap, ◌∙◌, not, needs}
+use Rattle.lists.proofs.Kit.{refl, sym, ap, ◌∙◌, not, rules}
 use Rattle.lists.proofs.Laws.Pick.{yes, no}
 use Rattle.host.specs.declared.Place.{Place}
 use Rattle.machine.proofs.opening.absent.Statement.{statement}
@@ -11,6 +11,6 @@ returns-2 c = yes _ _ _ (ap not (sym c.before.before.before.is-read-only.ensures
 
 pub absent-spec : {M : Type 1} → statement M
 absent-spec =
-    tie.close (tie.spec (λ c κs. search needs)
+    tie.close (tie.spec (λ c κs. search rules)
     (λ c. no _ _ _ (ap not (sym c.before.is-read-only.ensures ∙ c.if1.true)) refl)
-    (λ c κs. search needs) returns-2)
+    (λ c κs. search rules) returns-2)

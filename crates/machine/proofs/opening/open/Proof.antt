@@ -1,5 +1,5 @@
 -- `machine::opening::open` meets its contract: a walk down the definition, a test at each step. Assumes nothing.
-use Rattle.lists.proofs.Kit.{◌≡◌, sym, ap, ap₂, ◌∙◌, true, not, ℕ, arith, ltb, eqb, eq-eqb, ne_eqb, lt-ltb, le-ltb, needs}
+use Rattle.lists.proofs.Kit.{◌≡◌, sym, ap, ap₂, ◌∙◌, true, not, ℕ, arith, ltb, eqb, eq-eqb, ne_eqb, lt-ltb, le-ltb, rules}
 use Rattle.lists.specs.Pick.{pick, both}
 use Rattle.lists.proofs.Laws.Pick.{yes, no}
 use Rattle.area.specs.Area.{same}
@@ -80,7 +80,7 @@ past-4 c e =
 past-5 : (c : tie.Else5) {r : Answer} → let s = start-3 (three (four c)) in r ≡ paid s (told (four c)) → r ≡ all s
 past-5 c e = past-4 (four c) (no _ _ _ (sym c.before.absent.ensures ∙ c.if5.false) e)
 
--- ---- the needs
+-- ---- the rules
 
 returns-4 : tie.Need-returns-4
 returns-4 c =
@@ -121,12 +121,12 @@ returns-7 c =
 pub open_spec : {M : Type 1} → statement M
 unfolding opened opened_head
 open_spec =
-    tie.close (tie.spec (λ c κs. search needs) (λ c κs. search needs)
+    tie.close (tie.spec (λ c κs. search rules) (λ c κs. search rules)
     (λ c. yes _ _ _ (ap not (sym c.before.before.in_order.ensures) ∙ c.before.if1.true) c.refused.ensures)
-    (λ c κs. search needs) (λ c κs. search needs)
+    (λ c κs. search rules) (λ c κs. search rules)
     (λ c. let test = c.before in
     past-1 test.before.before _ (yes _ _ _ (ap not (sym test.before.room-right.ensures) ∙ test.if2.true) c.refused2.ensures))
-    (λ c κs. search needs)
+    (λ c κs. search rules)
     (λ c. let test = c.before in past-2 test.before.before _ (yes _ _ _ test.if3.true c.refused3.ensures))
-    (λ c κs. search needs) (λ c κs. search needs) returns-4 (λ c κs. search needs) (λ c κs. search needs) returns-5
-    (λ c κs. search needs) (λ c κs. search needs) returns-6 (λ c κs. search needs) (λ c κs. search needs) returns-7)
+    (λ c κs. search rules) (λ c κs. search rules) returns-4 (λ c κs. search rules) (λ c κs. search rules) returns-5
+    (λ c κs. search rules) (λ c κs. search rules) returns-6 (λ c κs. search rules) (λ c κs. search rules) returns-7)

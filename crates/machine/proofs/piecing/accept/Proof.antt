@@ -1,5 +1,5 @@
 -- `machine::piecing::accept` meets its contract: the piece behind the bytes already come, then instructions in turn. Assumes nothing.
-use Rattle.lists.proofs.Kit.{refl, sym, ap, ◌∙◌, arith, length, needs}
+use Rattle.lists.proofs.Kit.{refl, sym, ap, ◌∙◌, arith, length, rules}
 use Rattle.area.specs.Area.{put}
 use Rattle.area.proofs.Laws.Parts.{part-whole}
 use Rattle.area.proofs.Laws.Puts.{length-put}
@@ -25,7 +25,7 @@ at-copied c = let at-known = c.before.before.before in at-known.before.before
 abbrev at-lent : tie.After-run → tie.After-diskroots2
 at-lent c = let at-stageroots = c.before.before.before in at-stageroots.before.before
 
--- ---- the needs
+-- ---- the rules
 
 copy-between-requires : tie.Need-copy-between-requires
 copy-between-requires c κs =
@@ -56,7 +56,7 @@ returns c =
 
 pub accept-spec : {M : Type 1} → statement M
 accept-spec =
-    tie.close (tie.spec (λ c κs. search needs) copy-between-requires add-k
+    tie.close (tie.spec (λ c κs. search rules) copy-between-requires add-k
     (λ c. let s = start (at-setting (at-copied c)) in sym (disk-rooted s.args.host _ s.good.0))
     (λ c. let s = start (at-setting (at-copied c.before.before)) in sym (stage-rooted s.args.host _ s.good.0))
-    run-requires (λ c. search needs) (λ c. search needs) (λ c. search needs) returns)
+    run-requires (λ c. search rules) (λ c. search rules) (λ c. search rules) returns)

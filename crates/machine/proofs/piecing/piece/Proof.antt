@@ -1,5 +1,5 @@
 -- `machine::piecing::piece` meets its contract: refused, passing the declared length, or accepted. Assumes nothing.
-use Rattle.lists.proofs.Kit.{◌≡◌, sym, ap, ◌∙◌, ℕ, ltb-false, needs}
+use Rattle.lists.proofs.Kit.{◌≡◌, sym, ap, ◌∙◌, ℕ, ltb-false, rules}
 use Rattle.lists.proofs.Laws.Pick.{yes, no}
 use Rattle.host.proofs.Laws.Order.{came-within}
 use Rattle.machine_rules.specs.Calls.{Pieced, pieced, piece_lent, refusal, piece_by}
@@ -34,7 +34,7 @@ past c = past-zero _ _ (sym (number c.before) ∙ c.if1.false)
 abbrev open-1 : tie.After-passes → tie.Else1
 open-1 c = c.before.before.before
 
--- ---- the needs
+-- ---- the rules
 
 returns : tie.Need-returns
 unfolding piece_by
@@ -75,8 +75,8 @@ returns-3 c =
 
 pub piece-spec : {M : Type 1} → statement M
 piece-spec =
-    tie.close (tie.spec (λ c κs. search needs) (λ c κs. search needs) (λ c κs. search needs) (λ c κs. search needs) (λ c. search needs) (λ c. search needs)
-    (λ c. search needs) returns
+    tie.close (tie.spec (λ c κs. search rules) (λ c κs. search rules) (λ c κs. search rules) (λ c κs. search rules) (λ c. search rules) (λ c. search rules)
+    (λ c. search rules) returns
     (λ c κs. let p = past c.before.before in came-within _ p.order p.live)
-    (λ c κs. search needs) (λ c. search needs) (λ c. search needs) (λ c. search needs) returns-2 accept-requires
-    (λ c. search needs) (λ c. search needs) (λ c. search needs) returns-3)
+    (λ c κs. search rules) (λ c. search rules) (λ c. search rules) (λ c. search rules) returns-2 accept-requires
+    (λ c. search rules) (λ c. search rules) (λ c. search rules) returns-3)

@@ -1,5 +1,5 @@
 -- `machine::piecing::piece_lent` meets its contract: disk and stage, then the areas of an open program. Assumes nothing.
-use Rattle.lists.proofs.Kit.{◌≡◌, refl, sym, ◌∙◌, Bool, not, not-true, not-false, eq-eqb, ne_eqb, needs}
+use Rattle.lists.proofs.Kit.{◌≡◌, refl, sym, ◌∙◌, Bool, not, not-true, not-false, eq-eqb, ne_eqb, rules}
 use Rattle.lists.specs.Pick.{both, either}
 use Rattle.lists.proofs.Laws.Pick.{yes, no}
 use Rattle.machine_rules.specs.View.{disk_right, areas_right}
@@ -32,7 +32,7 @@ past-2 c rest e = past-1 (one c) _ (no _ _ _ c.if2.false e)
 pub piece-lent-spec : {M : Type 1} → statement M
 unfolding piece_lent input_right output_right
 piece-lent-spec = tie.close (tie.spec
-    (λ c κs. search needs)
+    (λ c κs. search rules)
     (λ c. no _ _ _ (areas c.before ∙ not-true _ c.if1.true) refl)
     (λ c. past-1 c.before.before.before _ (yes _ _ _ c.if2.true refl))
     (λ c. past-2 (live c.before.before) _ (no _ _ _ (ne_eqb _ _ c.if3.true) refl))

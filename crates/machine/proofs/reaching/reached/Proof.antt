@@ -1,5 +1,5 @@
 -- `machine::reaching::reached` meets its contract: refused, or what is reached. Assumes nothing.
-use Rattle.lists.proofs.Kit.{◌≡◌, sym, ap, ◌∙◌, ℕ, needs}
+use Rattle.lists.proofs.Kit.{◌≡◌, sym, ap, ◌∙◌, ℕ, rules}
 use Rattle.machine_rules.specs.View.{disk_right, areas_right}
 use Rattle.machine_rules.specs.Calls.{refusal, no_pair, reached_at, reached_by}
 use Rattle.machine_rules.proofs.Laws.Refusals.{Past, past-zero}
@@ -22,7 +22,7 @@ number c = refusal-told (start c).args.host c.refusal.ensures c.before.in_order.
 past : (c : tie.Else1) → let a = (start c.before).args in Past a.host (areas_right a.host a.disk.now a.stage.now)
 past c = past-zero _ _ (sym (number c.before) ∙ c.if1.false)
 
--- ---- the needs
+-- ---- the rules
 
 returns-2 : tie.Need-returns-2
 unfolding reached_by
@@ -34,7 +34,7 @@ returns-2 c =
 pub reached-spec : {M : Type 1} → statement M
 unfolding reached_by
 reached-spec =
-    tie.close (tie.spec (λ c κs. search needs) (λ c κs. search needs) (λ c κs. search needs) (λ c κs. search needs)
+    tie.close (tie.spec (λ c κs. search rules) (λ c κs. search rules) (λ c κs. search rules) (λ c κs. search rules)
     (λ c. stops (λ (n : ℕ). reached_at n no_pair) _ (number c.before.before) c.before.if1.true c.unreached.ensures)
     (λ c κs. let p = past c in (p.order, p.live))
     returns-2)

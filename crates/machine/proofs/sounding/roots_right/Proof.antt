@@ -50,7 +50,7 @@ past-1 : (c : tie.Else1) (rest : Bool) {r : Bool} → let a = (first c.before).a
     → r ≡ both (every (right a.host.sector a.disk.now a.host.diskroots) (taken a.host.sector a.host.places)) rest
 past-1 c rest e = yes _ _ _ (disk-told c.before ∙ not-false _ c.if1.false) e
 
--- ---- the needs
+-- ---- the rules
 
 listed-right-requires : tie.Need-listed-right-requires
 listed-right-requires c κs =

@@ -1,5 +1,5 @@
 -- `slot_right` meets its contract: the root kept beside the slot against that of its bytes. Assumes nothing.
-use Rattle.lists.proofs.Kit.{◌∙◌, needs}
+use Rattle.lists.proofs.Kit.{◌∙◌, rules}
 use Rattle.machine_sight.specs.Seen.{lies}
 use Rattle.machine.proofs.Laws.Beside.{right_is}
 use Rattle.machine.proofs.sounding.slot_right.Statement.{statement}
@@ -19,4 +19,4 @@ unfolding lies
 slot-right-spec =
     tie.close (tie.spec sector-root-requires
     (λ c κs. c.before.before.before.requires.1.1)
-    (λ c. search needs) (λ c κs. search needs) returns)
+    (λ c. search rules) (λ c κs. search rules) returns)

@@ -1,5 +1,5 @@
 -- `sound` meets its contract: a walk down the definition. Assumes nothing.
-use Rattle.lists.proofs.Kit.{◌≡◌, refl, sym, ap, ◌∙◌, not, not-false, needs}
+use Rattle.lists.proofs.Kit.{◌≡◌, refl, sym, ap, ◌∙◌, not, not-false, rules}
 use Rattle.lists.proofs.Laws.Pick.{yes, no}
 use Rattle.host.specs.Order.{in_order}
 use Rattle.machine_rules.specs.View.{disk_right, areas_right}
@@ -23,7 +23,7 @@ areas : (c : tie.After-areas-right) → let a = (start (one c).before).args in
 unfolding areas_right disk_right
 areas c = sym c.areas-right.ensures
 
--- ---- the needs
+-- ---- the rules
 
 returns-3 : tie.Need-returns-3
 unfolding sounded
@@ -36,9 +36,9 @@ returns-3 c =
 pub sound-spec : {M : Type 1} → statement M
 unfolding sounded
 sound-spec =
-    tie.close (tie.spec (λ c κs. search needs)
+    tie.close (tie.spec (λ c κs. search rules)
     (λ c. yes _ _ _ (ap not (order c.before) ∙ c.if1.true) refl)
-    (λ c κs. search needs)
+    (λ c κs. search rules)
     (λ c. let at = c.before in
     no _ _ _ (ap not (order (one at).before) ∙ (one at).if1.false) (yes _ _ _ (ap not (areas at) ∙ c.if2.true) refl))
     (λ c κs. let at = c.before in

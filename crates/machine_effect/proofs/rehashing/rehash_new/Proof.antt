@@ -1,5 +1,5 @@
 -- `machine_effect::rehashing::rehash_new` meets its contract: a size that does not grow has no new position. Assumes nothing.
-use Rattle.lists.proofs.Kit.{refl, ap, ◌∙◌, arith, needs, lt-ltb, le-ltb, length}
+use Rattle.lists.proofs.Kit.{refl, ap, ◌∙◌, arith, rules, lt-ltb, le-ltb, length}
 use Rattle.lists.proofs.Laws.Pick.{yes, no}
 use Rattle.tree.proofs.Promise.{roots}
 use Rattle.machine_effect.proofs.Laws.KeptRoots.{root-laid}
@@ -31,6 +31,6 @@ pub rehash-new-spec : {M : Type 1} → statement M
 rehash-new-spec =
     tie.close (tie.spec
     (λ c. no _ _ _ (le-ltb _ _ c.if1.true) refl)
-    (λ c. search needs)
+    (λ c. search rules)
     (λ c κs. (c.before.before.requires.1 c.if1.false).entry)
-    (λ c κs. search needs) (λ c. search needs) mul-copy-between copy-between-requires (λ c. search needs) returns-2)
+    (λ c κs. search rules) (λ c. search rules) mul-copy-between copy-between-requires (λ c. search rules) returns-2)

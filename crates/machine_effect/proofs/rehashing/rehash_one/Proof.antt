@@ -1,5 +1,5 @@
 -- `machine_effect::rehashing::rehash_one` meets its contract: a sector is whole segments, and a root is 32 bytes. Assumes nothing.
-use Rattle.lists.proofs.Kit.{arith, needs}
+use Rattle.lists.proofs.Kit.{arith, rules}
 use Rattle.machine_effect.proofs.Laws.KeptRoots.{slot-root, slot-root-long, one-laid}
 use Rattle.machine_effect.proofs.Laws.Asked.{slot-lies}
 use Rattle.machine_effect.proofs.rehashing.rehash_one.Statement.{statement}
@@ -25,9 +25,9 @@ returns c =
 
 pub rehash-one-spec : {M : Type 1} → statement M
 rehash-one-spec =
-    tie.close (tie.spec (λ c κs. search needs)
+    tie.close (tie.spec (λ c κs. search rules)
     (λ c. omega (arith, slot-lies _ _ _ _ c.slot_of.ensures c.before.before.before.requires.1))
     (λ c. omega (arith, slot-lies _ _ _ _ c.slot_of.ensures c.before.before.before.requires.1))
-    (λ c. search needs) (λ c. search needs)
+    (λ c. search rules) (λ c. search rules)
     (λ c. omega (arith, slot-lies _ _ _ _ c.slot_of.ensures c.before.before.before.requires.1))
-    (λ c κs. search needs) (λ c. search needs) (λ c. search needs) copy-between-requires (λ c. search needs) returns)
+    (λ c κs. search rules) (λ c. search rules) (λ c. search rules) copy-between-requires (λ c. search rules) returns)

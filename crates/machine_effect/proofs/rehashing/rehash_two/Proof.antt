@@ -1,5 +1,5 @@
 -- `machine_effect::rehashing::rehash_two` meets its contract: the first position, then the second where it is another. Assumes nothing.
-use Rattle.lists.proofs.Kit.{needs}
+use Rattle.lists.proofs.Kit.{rules}
 use Rattle.machine_effect.proofs.Laws.KeptRoots.{two-one, two-both}
 use Rattle.machine_effect.proofs.rehashing.rehash_two.Statement.{statement}
 use Rattle.machine_effect.proofs.rehashing.rehash_two.Tie as tie
@@ -11,6 +11,6 @@ returns-2 c =
 
 pub rehash-two-spec : {M : Type 1} → statement M
 rehash-two-spec =
-    tie.close (tie.spec (λ c κs. search needs) (λ c. search needs)
+    tie.close (tie.spec (λ c κs. search rules) (λ c. search rules)
     (λ c. two-one _ _ _ _ _ c.if1.true c.before.before.before.rehash-one.ensures)
-    (λ c κs. search needs) (λ c. search needs) returns-2)
+    (λ c κs. search rules) (λ c. search rules) returns-2)

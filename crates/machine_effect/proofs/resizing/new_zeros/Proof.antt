@@ -1,5 +1,5 @@
 -- `machine_effect::resizing::new_zeros` meets its contract: the lowest free slot lies within the stage. Assumes nothing.
-use Rattle.lists.proofs.Kit.{arith, needs}
+use Rattle.lists.proofs.Kit.{arith, rules}
 use Rattle.machine_effect.proofs.Laws.Slots.{new-slot}
 use Rattle.machine_effect.proofs.Laws.Copies.{laid-zeros}
 use Rattle.machine_effect.proofs.resizing.new_zeros.Statement.{statement}
@@ -30,4 +30,4 @@ returns c =
 
 pub new-zeros-spec : {M : Type 1} → statement M
 new-zeros-spec =
-    tie.close (tie.spec (λ c κs. tt) mul-fill fill-requires cast-after (λ c. search needs) (λ c. search needs) returns)
+    tie.close (tie.spec (λ c κs. tt) mul-fill fill-requires cast-after (λ c. search rules) (λ c. search rules) returns)

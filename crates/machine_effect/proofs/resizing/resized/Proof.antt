@@ -1,5 +1,5 @@
 -- `machine_effect::resizing::resized` meets its contract: a walk down the definition. Assumes nothing.
-use Rattle.lists.proofs.Kit.{refl, needs, lt-ltb, le-ltb}
+use Rattle.lists.proofs.Kit.{refl, rules, lt-ltb, le-ltb}
 use Rattle.lists.proofs.Laws.Pick.{yes, no}
 use Rattle.machine_rules.specs.Effect.{resized}
 use Rattle.machine_effect.specs.Parts.{grown}
@@ -20,7 +20,7 @@ returns c =
 pub resized-spec : {M : Type 1} → statement M
 unfolding resized
 resized-spec =
-    tie.close (tie.spec (λ c. search needs) new-zeros-requires (λ c. search needs) returns (λ c. search needs)
+    tie.close (tie.spec (λ c. search rules) new-zeros-requires (λ c. search rules) returns (λ c. search rules)
     (λ c. c.before.before.before.requires.1.less c.if2.true)
     (λ c. no _ _ _ (le-ltb _ _ c.before.if1.false) (yes _ _ _ (lt-ltb _ _ c.if2.true) refl))
     (λ c. no _ _ _ (le-ltb _ _ c.before.if1.false) (no _ _ _ (le-ltb _ _ c.if2.false) refl)))

@@ -1,6 +1,6 @@
 -- `machine_effect::spans::copy` meets its contract: once the target has its copy, the source reads as before, in the stage or on the disk.
 -- Assumes nothing.
-use Rattle.lists.proofs.Kit.{sym, ◌∙◌, arith, needs}
+use Rattle.lists.proofs.Kit.{sym, ◌∙◌, arith, rules}
 use Rattle.machine_effect.specs.Asks.{bare}
 use Rattle.machine_effect.proofs.Laws.Spans.{written-fits, moved-fits, moved, fetched-fits, fetched}
 use Rattle.machine_effect.proofs.spans.copy.Statement.{statement}
@@ -56,6 +56,6 @@ returns-2 c =
 
 pub copy_spec : {M : Type 1} → statement M
 copy_spec =
-    tie.close (tie.spec (λ c. search needs) (λ c κs. search needs) (λ c κs. search needs) (λ c. search needs) (λ c κs. search needs)
-    (λ c κs. search needs) copy-between-requires (λ c κs. search needs) move-within-requires (λ c. search needs) returns
-    (λ c. search needs) returns-2)
+    tie.close (tie.spec (λ c. search rules) (λ c κs. search rules) (λ c κs. search rules) (λ c. search rules) (λ c κs. search rules)
+    (λ c κs. search rules) copy-between-requires (λ c κs. search rules) move-within-requires (λ c. search rules) returns
+    (λ c. search rules) returns-2)

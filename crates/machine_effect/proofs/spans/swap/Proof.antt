@@ -1,6 +1,6 @@
 -- `machine_effect::spans::swap` meets its contract: once both sectors have their copies both spans read as before, and are exchanged in place.
 -- Assumes nothing.
-use Rattle.lists.proofs.Kit.{arith, needs}
+use Rattle.lists.proofs.Kit.{arith, rules}
 use Rattle.machine_rules.specs.Effect.{Ground}
 use Rattle.machine_effect.specs.Parts.{ground}
 use Rattle.machine_effect.proofs.Laws.Spans.{lent-made, over_first, one-fits, two_fits, swapped}
@@ -51,7 +51,7 @@ returns c =
 
 pub swap_spec : {M : Type 1} → statement M
 swap_spec =
-    tie.close (tie.spec (λ c. search needs) (λ c κs. let s = c.before.before.before in (s.requires.0, s.requires.1.second.room))
-    (λ c. search needs) copied-requires-2 place-requires
+    tie.close (tie.spec (λ c. search rules) (λ c κs. let s = c.before.before.before in (s.requires.0, s.requires.1.second.room))
+    (λ c. search rules) copied-requires-2 place-requires
     (λ c κs. let s = start (first (second c)) in (s.pre.0.size, s.pre.1.second.room.lies.entry))
-    swap-within-requires (λ c. search needs) returns)
+    swap-within-requires (λ c. search rules) returns)

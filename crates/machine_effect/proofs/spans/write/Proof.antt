@@ -1,6 +1,6 @@
 -- `machine_effect::spans::write` meets its contract: the sector has a copy, and the span lies within it. Assumes nothing.
 use Rattle.machine_effect.proofs.Laws.Spans.{written, written-fits}
-use Rattle.lists.proofs.Kit.{arith, needs}
+use Rattle.lists.proofs.Kit.{arith, rules}
 use Rattle.machine_effect.proofs.spans.write.Statement.{statement}
 use Rattle.machine_effect.proofs.spans.write.Tie as tie
 
@@ -19,4 +19,4 @@ returns c =
 
 pub write_spec : {M : Type 1} → statement M
 write_spec =
-    tie.close (tie.spec (λ c. search needs) (λ c κs. search needs) (λ c κs. search needs) copy-between-requires (λ c. search needs) returns)
+    tie.close (tie.spec (λ c. search rules) (λ c κs. search rules) (λ c κs. search rules) copy-between-requires (λ c. search rules) returns)

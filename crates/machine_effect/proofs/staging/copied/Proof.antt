@@ -1,5 +1,5 @@
 -- `machine_effect::staging::copied` meets its contract: the position has a copy, or gets the disk's sector in the lowest free slot. Assumes nothing.
-use Rattle.lists.proofs.Kit.{sym, ◌∙◌, arith, needs, not-true, not-false}
+use Rattle.lists.proofs.Kit.{sym, ◌∙◌, arith, rules, not-true, not-false}
 use Rattle.machine_effect.specs.Asks.{bare}
 use Rattle.machine_effect.proofs.Laws.Slots.{new-slot}
 use Rattle.machine_effect.proofs.Laws.Copies.{copied-old, laid-copy}
@@ -46,7 +46,7 @@ returns-2 c =
 pub copied-spec : {M : Type 1} → statement M
 unfolding bare
 copied-spec =
-    tie.close (tie.spec (λ c κs. search needs)
+    tie.close (tie.spec (λ c κs. search rules)
     (λ c. sym (copied-old _ _ _ _ (sym c.before.is-bare.ensures ∙ not-true _ c.if1.true)))
-    (λ c κs. tt) (λ c. search needs) (λ c. search needs) mul-copy-between mul-copy-between-2 copy-between-requires cast-after
-    (λ c. search needs) (λ c. search needs) returns-2)
+    (λ c κs. tt) (λ c. search rules) (λ c. search rules) mul-copy-between mul-copy-between-2 copy-between-requires cast-after
+    (λ c. search rules) (λ c. search rules) returns-2)

@@ -1,5 +1,5 @@
 -- `machine_effect::staging::is_bare` meets its contract: there is an entry for the position. Assumes nothing.
-use Rattle.lists.proofs.Kit.{ap, ℕ, arith, eqb, needs}
+use Rattle.lists.proofs.Kit.{ap, ℕ, arith, eqb, rules}
 use Rattle.lists.proofs.Laws.Entries.{any-default}
 use Rattle.machine_effect.proofs.staging.is_bare.Statement.{statement}
 use Rattle.machine_effect.proofs.staging.is_bare.Tie as tie
@@ -9,4 +9,4 @@ returns c = ap (λ (n : ℕ). eqb n 255) (any-default c.args.t1 c.args.at 0 255 
 
 pub is-bare-spec : {M : Type 1} → statement M
 is-bare-spec =
-    tie.close (tie.spec (λ c. search needs) returns)
+    tie.close (tie.spec (λ c. search rules) returns)

@@ -1,5 +1,5 @@
 -- `machine_effect::staging::place` meets its contract: the slot is one that there is an entry for. Assumes nothing.
-use Rattle.lists.proofs.Kit.{arith, needs}
+use Rattle.lists.proofs.Kit.{arith, rules}
 use Rattle.area.proofs.Laws.Slots.{slot-near, offset-less}
 use Rattle.machine_effect.proofs.Laws.Slots.{place_is}
 use Rattle.machine_effect.proofs.staging.place.Statement.{statement}
@@ -13,6 +13,6 @@ returns c = place_is c.before.args.z c.before.args.t2 c.before.args.at c.before.
 
 pub place-spec : {M : Type 1} → statement M
 place-spec =
-    tie.close (tie.spec (λ c. search needs) (λ c. search needs) (λ c κs. tt)
+    tie.close (tie.spec (λ c. search rules) (λ c. search rules) (λ c κs. tt)
     (λ c. omega (arith, slot-near _ c.before.requires.0 c.wide.result (omega arith)))
-    (λ c. search needs) add-result returns)
+    (λ c. search rules) add-result returns)

@@ -1,5 +1,5 @@
 -- `machine_inputs::decoding::data_of` meets its contract: fewer than 8 bytes, another count, or the length of the rest. Assumes nothing.
-use Rattle.lists.proofs.Kit.{refl, lt-leb, needs}
+use Rattle.lists.proofs.Kit.{refl, lt-leb, rules}
 use Rattle.lists.proofs.Laws.Pick.{no, both-not-left}
 use Rattle.machine_rules.specs.Inputs.{is_data}
 use Rattle.machine_inputs.specs.Given.{data_of}
@@ -24,4 +24,4 @@ unfolding data_of is_data
 data-of-spec =
     tie.close (tie.spec
     (λ c. no _ _ _ (both-not-left _ _ (lt-leb _ _ c.if1.true)) refl)
-    (λ c. search needs) (λ c κs. search needs) returns-2 returns-3)
+    (λ c. search rules) (λ c κs. search rules) returns-2 returns-3)

@@ -1,5 +1,5 @@
 -- `machine_inputs::decoding::decoded` meets its contract, arm by arm: the operation told has so many operands, and its decoder answers. Assumes nothing.
-use Rattle.lists.proofs.Kit.{◌≡◌, refl, sym, ap, ◌∙◌, false, List, ℕ, ◌≤◌, arith, length, take, needs}
+use Rattle.lists.proofs.Kit.{◌≡◌, refl, sym, ap, ◌∙◌, false, List, ℕ, ◌≤◌, arith, length, take, rules}
 use Rattle.lists.specs.Tests.{some}
 use Rattle.lists.specs.Tab.{tab}
 use Rattle.lists.proofs.Laws.Pick.{never}
@@ -40,13 +40,13 @@ module _ (s : tie.Start) {o : Op} (q : s.args.op ≡ o) where
 pub decoded-spec : {M : Type 1} → statement M
 unfolding kind from_of one two three tab
 decoded-spec =
-    tie.close (tie.spec (λ c. search needs) (λ c κs. within (start c.before.before) c.enum_told.given.1)
-    (λ c. search needs) (λ c κs. within (start c.before.before) c.enum-told2.given.1)
-    (λ c. search needs) (λ c κs. within (start c.before.before) c.enum-told3.given.1)
-    (λ c. search needs) (λ c κs. within (start c.before.before) c.enum-told4.given.1)
-    (λ c. search needs) (λ c κs. within (start c.before.before) c.enum-told5.given.1)
-    (λ c. search needs) (λ c κs. within (start c.before.before) c.enum-told6.given.1)
-    (λ c. search needs) (λ c κs. search needs)
+    tie.close (tie.spec (λ c. search rules) (λ c κs. within (start c.before.before) c.enum_told.given.1)
+    (λ c. search rules) (λ c κs. within (start c.before.before) c.enum-told2.given.1)
+    (λ c. search rules) (λ c κs. within (start c.before.before) c.enum-told3.given.1)
+    (λ c. search rules) (λ c κs. within (start c.before.before) c.enum-told4.given.1)
+    (λ c. search rules) (λ c κs. within (start c.before.before) c.enum-told5.given.1)
+    (λ c. search rules) (λ c κs. within (start c.before.before) c.enum-told6.given.1)
+    (λ c. search rules) (λ c κs. search rules)
     -- Read, ReadSector, Write, Copy, Swap, Truncate, and none of them
     (λ c. c.read-args.ensures ∙ arm (start c.before.before.before) c.before.enum_told.given.1 (omega arith))
     (λ c. c.read-args2.ensures ∙ reads-alike _ ∙ arm (start c.before.before.before) c.before.enum-told2.given.1 (omega arith))

@@ -1,5 +1,5 @@
 -- `machine_inputs::decoding::key_of` meets its contract: 32 bytes are laid over all of 32. Assumes nothing.
-use Rattle.lists.proofs.Kit.{refl, sym, ap, ◌∙◌, true, List, ℕ, arith, eq-eqb, ne_eqb, needs}
+use Rattle.lists.proofs.Kit.{refl, sym, ap, ◌∙◌, true, List, ℕ, arith, eq-eqb, ne_eqb, rules}
 use Rattle.lists.proofs.Laws.Pick.{yes, no}
 use Rattle.area.proofs.Laws.Puts.{put-part}
 use Rattle.area.proofs.Laws.Parts.{part-whole}
@@ -21,4 +21,4 @@ unfolding key_of is_key
 key-of-spec =
     tie.close (tie.spec
     (λ c. no _ _ _ (ne_eqb _ _ c.if1.true) refl)
-    (λ c. search needs) (λ c κs. search needs) returns-2)
+    (λ c. search rules) (λ c κs. search rules) returns-2)

@@ -1,5 +1,5 @@
 -- `machine_inputs::decoding::size_args` meets its contract. Assumes nothing.
-use Rattle.lists.proofs.Kit.{◌∙◌, arith, needs}
+use Rattle.lists.proofs.Kit.{◌∙◌, arith, rules}
 use Rattle.machine_rules.specs.Inputs.{well_formed}
 use Rattle.machine_inputs.specs.Given.{one}
 use Rattle.machine_inputs.proofs.Laws.Decoders.{tells, number-refused}
@@ -26,5 +26,5 @@ returns-2 c =
 
 pub size-args-spec : {M : Type 1} → statement M
 size-args-spec =
-    tie.close (tie.spec (λ c. search needs) number-at-requires (λ c. search needs) (λ c. search needs) (λ c κs. search needs) returns
+    tie.close (tie.spec (λ c. search rules) number-at-requires (λ c. search rules) (λ c. search rules) (λ c κs. search rules) returns
     returns-2)

@@ -1,5 +1,5 @@
 -- `machine_inputs::decoding::span_args` meets its contract: the three inputs in turn. Assumes nothing.
-use Rattle.lists.proofs.Kit.{◌∙◌, ◌+◌, ◌≤◌, ◌<◌, ℕ, arith, length, get_or, needs}
+use Rattle.lists.proofs.Kit.{◌∙◌, ◌+◌, ◌≤◌, ◌<◌, ℕ, arith, length, get_or, rules}
 use Rattle.lists.proofs.Laws.Pick.{both-not-left, both-not-right}
 use Rattle.sia.specs.Empty.{no_operand}
 use Rattle.machine_rules.specs.Inputs.{well_formed}
@@ -54,9 +54,9 @@ returns-4 c =
 
 pub span-args-spec : {M : Type 1} → statement M
 span-args-spec =
-    tie.close (tie.spec (λ c. search needs) (λ c. search needs) (λ c. search needs)
+    tie.close (tie.spec (λ c. search rules) (λ c. search rules) (λ c. search rules)
     (λ c κs. let list = c.before.before in ends list.before.before 0 (omega arith))
-    (λ c. search needs) (λ c. search needs) (λ c κs. search needs) returns
-    (λ c κs. ends (start (at_first c)) 1 (omega arith)) (λ c. search needs) (λ c. search needs) (λ c κs. search needs) returns-2
-    (λ c κs. ends (start (at_first (at_second c).before)) 2 (omega arith)) (λ c. search needs) (λ c. search needs) (λ c κs. search needs) returns-3
+    (λ c. search rules) (λ c. search rules) (λ c κs. search rules) returns
+    (λ c κs. ends (start (at_first c)) 1 (omega arith)) (λ c. search rules) (λ c. search rules) (λ c κs. search rules) returns-2
+    (λ c κs. ends (start (at_first (at_second c).before)) 2 (omega arith)) (λ c. search rules) (λ c. search rules) (λ c κs. search rules) returns-3
     returns-4)

@@ -1,5 +1,5 @@
 -- `machine_inputs::decoding::write_args` meets its contract: the two inputs in turn. Assumes nothing.
-use Rattle.lists.proofs.Kit.{◌∙◌, ◌+◌, ◌≤◌, ◌<◌, ℕ, arith, length, get_or, needs}
+use Rattle.lists.proofs.Kit.{◌∙◌, ◌+◌, ◌≤◌, ◌<◌, ℕ, arith, length, get_or, rules}
 use Rattle.lists.proofs.Laws.Pick.{both-not-left, both-not-right}
 use Rattle.area.proofs.Laws.Parts.{length_part}
 use Rattle.sia.specs.Empty.{no_operand}
@@ -55,7 +55,7 @@ returns-3 c =
 
 pub write-args-spec : {M : Type 1} → statement M
 write-args-spec =
-    tie.close (tie.spec (λ c. search needs) (λ c. search needs) (λ c κs. ends c.before.before.before 0 (omega arith))
-    (λ c. search needs) (λ c. search needs) (λ c κs. search needs) returns
-    (λ c κs. ends (start (at-number c)) 1 (omega arith)) (λ c. search needs) (λ c. search needs) (λ c κs. search needs) returns-2 add-from
+    tie.close (tie.spec (λ c. search rules) (λ c. search rules) (λ c κs. ends c.before.before.before 0 (omega arith))
+    (λ c. search rules) (λ c. search rules) (λ c κs. search rules) returns
+    (λ c κs. ends (start (at-number c)) 1 (omega arith)) (λ c. search rules) (λ c. search rules) (λ c κs. search rules) returns-2 add-from
     returns-3)

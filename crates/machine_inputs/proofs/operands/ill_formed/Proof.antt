@@ -1,5 +1,5 @@
 -- `machine_inputs::operands::ill_formed` meets its contract: a walk down the definition. Assumes nothing.
-use Rattle.lists.proofs.Kit.{◌≡◌, refl, sym, ap, ◌∙◌, not, eqb, needs}
+use Rattle.lists.proofs.Kit.{◌≡◌, refl, sym, ap, ◌∙◌, not, eqb, rules}
 use Rattle.lists.proofs.Laws.Pick.{yes, no}
 use Rattle.sia.specs.Names.{op_of}
 use Rattle.machine_rules.specs.Inputs.{ill_formed}
@@ -25,4 +25,4 @@ returns-2 c =
 
 pub ill-formed-spec : {M : Type 1} → statement M
 ill-formed-spec =
-    tie.close (tie.spec (λ c κs. search needs) (λ c κs. search needs) returns returns-2)
+    tie.close (tie.spec (λ c κs. search rules) (λ c κs. search rules) returns returns-2)

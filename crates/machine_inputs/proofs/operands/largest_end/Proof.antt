@@ -1,6 +1,6 @@
 -- `machine_inputs::operands::largest_end` meets its contract. The loop's invariant: what is found so far and the operands that are left give the
 -- largest. Assumes nothing.
-use Rattle.lists.proofs.Kit.{◌≡◌, ap, ◌∙◌, false, ℕ, ◌+◌, ◌-◌, ◌≤◌, max, arith, take, slice, needs}
+use Rattle.lists.proofs.Kit.{◌≡◌, ap, ◌∙◌, false, ℕ, ◌+◌, ◌-◌, ◌≤◌, max, arith, take, slice, rules}
 use Rattle.lists.specs.Tests.{some}
 use Rattle.machine_rules.specs.Inputs.{largest}
 use Rattle.machine_inputs.specs.Ends.{ends_past}
@@ -49,4 +49,4 @@ pub largest-end-spec : {M : Type 1} → statement M
 largest-end-spec =
     tie.close (tie.spec invariant-loop decreases-loop
     (λ c. (omega arith, c.requires.1, largest-first c.args.t2 c.args.n))
-    (λ c. search needs) (λ c. omega arith) end-of-requires (λ c κs. tt) (λ c. search needs) (λ c. omega arith) loop-again returns)
+    (λ c. search rules) (λ c. omega arith) end-of-requires (λ c κs. tt) (λ c. search rules) (λ c. omega arith) loop-again returns)

@@ -1,5 +1,5 @@
 -- `machine_inputs::operands::need` meets its contract: a walk down the definition. Assumes nothing.
-use Rattle.lists.proofs.Kit.{refl, sym, ap, ◌∙◌, needs}
+use Rattle.lists.proofs.Kit.{refl, sym, ap, ◌∙◌, rules}
 use Rattle.lists.specs.Tests.{some}
 use Rattle.lists.proofs.Laws.Pick.{yes, no}
 use Rattle.machine_rules.specs.Inputs.{past_end, largest, need}
@@ -44,6 +44,6 @@ returns-3 c =
 pub need-spec : {M : Type 1} → statement M
 unfolding need
 need-spec =
-    tie.close (tie.spec (λ c κs. search needs)
+    tie.close (tie.spec (λ c κs. search rules)
     (λ c. yes _ _ _ (sym c.before.ill-formed.ensures ∙ c.if1.true) refl)
-    (λ c κs. search needs) returns-2 (λ c κs. search needs) largest-end-requires returns-3)
+    (λ c κs. search rules) returns-2 (λ c κs. search rules) largest-end-requires returns-3)

@@ -1,5 +1,5 @@
 -- `machine_inputs::operands::past_end` meets its contract. Assumes nothing.
-use Rattle.lists.proofs.Kit.{ap, ◌∙◌, needs}
+use Rattle.lists.proofs.Kit.{ap, ◌∙◌, rules}
 use Rattle.lists.specs.Tests.{some}
 use Rattle.machine_rules.specs.Inputs.{past_end}
 use Rattle.sia.proofs.Laws.Known.{known-instruction}
@@ -17,4 +17,4 @@ returns c =
 
 pub past-end-spec : {M : Type 1} → statement M
 past-end-spec =
-    tie.close (tie.spec (λ c κs. search needs) (λ c κs. search needs) returns)
+    tie.close (tie.spec (λ c κs. search rules) (λ c κs. search rules) returns)

@@ -1,5 +1,5 @@
 -- `machine_inputs::operands::some_past` meets its contract. The loop's invariant: the answer is that of the operands that are left to look at. Assumes nothing.
-use Rattle.lists.proofs.Kit.{◌≡◌, refl, sym, ◌∙◌, ◌-◌, ◌≤◌, arith, take, slice, needs}
+use Rattle.lists.proofs.Kit.{◌≡◌, refl, sym, ◌∙◌, ◌-◌, ◌≤◌, arith, take, slice, rules}
 use Rattle.lists.specs.Tests.{some}
 use Rattle.lists.proofs.Laws.Slices.{some-here, some-further, some-done}
 use Rattle.sia.specs.Empty.{no_operand}
@@ -38,5 +38,5 @@ returns-2 c =
 
 pub some-past-spec : {M : Type 1} → statement M
 some-past-spec =
-    tie.close (tie.spec invariant-loop decreases-loop (λ c. (omega arith, refl)) (λ c. search needs) (λ c. omega arith) (λ c κs. tt) returns
-    (λ c. search needs) (λ c. omega arith) loop-again returns-2)
+    tie.close (tie.spec invariant-loop decreases-loop (λ c. (omega arith, refl)) (λ c. search rules) (λ c. omega arith) (λ c κs. tt) returns
+    (λ c. search rules) (λ c. omega arith) loop-again returns-2)

@@ -1,6 +1,6 @@
 -- `machine_plan::Task::failed` meets its contract. Assumes nothing.
 use Rattle.machine_plan.specs.Planned.{failed}
-use Rattle.lists.proofs.Kit.{needs}
+use Rattle.lists.proofs.Kit.{rules}
 use Rattle.machine_plan.proofs.Task.failed.Statement.{statement}
 use Rattle.machine_plan.proofs.Task.failed.Tie as tie
 
@@ -14,4 +14,4 @@ returns c =
 
 pub failed-spec : {M : Type 1} → statement M
 failed-spec =
-    tie.close (tie.spec (λ c κs. search needs) (λ c κs. search needs) returns)
+    tie.close (tie.spec (λ c κs. search rules) (λ c κs. search rules) returns)

@@ -1,5 +1,5 @@
 -- `machine_plan::chain::argued` meets its contract: a walk down the definition. Assumes nothing.
-use Rattle.lists.proofs.Kit.{ap₂, ◌≡◌, sym, ap, ◌∙◌, refl, false, not, List, ℕ, arith, length, not-true, not-false, needs}
+use Rattle.lists.proofs.Kit.{ap₂, ◌≡◌, sym, ap, ◌∙◌, refl, false, not, List, ℕ, arith, length, not-true, not-false, rules}
 use Rattle.lists.specs.Pick.{both}
 use Rattle.lists.proofs.Laws.Pick.{yes, no}
 use Rattle.machine_rules.specs.View.{read_only_mode}
@@ -71,7 +71,7 @@ planned-as c =
     let at-if2 = c.before.before in let at_key = at-if2.before.before.before in
     no _ _ _ (may at_key.before) (no _ _ _ (there at-if2) (valued c))
 
--- ---- the needs
+-- ---- the rules
 
 source-of-requires : tie.Need-source-of-requires
 source-of-requires c κs = (start-1 c.before.before).requires.0.sources
@@ -115,7 +115,7 @@ returns-4 c =
 pub argued-spec : {M : Type 1} → statement M
 unfolding argued planned_args
 argued-spec =
-    tie.close (tie.spec (λ c κs. search needs) (λ c κs. search needs) (λ c κs. search needs)
+    tie.close (tie.spec (λ c κs. search rules) (λ c κs. search rules) (λ c κs. search rules)
     (λ c. c.failed.ensures ∙ fails _ _ _ _ _ _ 23 c.before.refused.ensures
     (yes _ _ _ (mode c.before.before.before ∙ c.before.before.if1.true) refl))
-    source-of-requires (λ c κs. search needs) (λ c κs. search needs) returns-2 weighed-requires (λ c κs. search needs) returns-3 returns-4)
+    source-of-requires (λ c κs. search rules) (λ c κs. search rules) returns-2 weighed-requires (λ c κs. search rules) returns-3 returns-4)

@@ -1,5 +1,5 @@
 -- `machine_plan::chain::changes_nothing` meets its contract. Assumes nothing.
-use Rattle.lists.proofs.Kit.{refl, sym, ◌∙◌, ap, not-true, not-false, needs}
+use Rattle.lists.proofs.Kit.{refl, sym, ◌∙◌, ap, not-true, not-false, rules}
 use Rattle.lists.proofs.Laws.Pick.{yes, no}
 use Rattle.machine_rules.specs.declared.Kind.{Kind}
 use Rattle.machine_plan.proofs.chain.changes_nothing.Statement.{statement}
@@ -12,6 +12,6 @@ returns-2 c =
 
 pub changes-nothing-spec : {M : Type 1} → statement M
 changes-nothing-spec =
-    tie.close (tie.spec (λ c κs. search needs)
+    tie.close (tie.spec (λ c κs. search rules)
     (λ c. no _ _ _ (ap (λ (k : Kind). k.changes) (sym c.before.before.kind.ensures) ∙ not-true _ c.if1.true) refl)
-    (λ c κs. search needs) returns-2)
+    (λ c κs. search rules) returns-2)

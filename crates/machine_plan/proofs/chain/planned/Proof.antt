@@ -1,5 +1,5 @@
 -- `machine_plan::chain::planned` meets its contract: a walk down the definition. Assumes nothing.
-use Rattle.lists.proofs.Kit.{◌≡◌, sym, ap, ◌∙◌, refl, not, true, false, List, suc, ℕ, not-true, not-false, needs}
+use Rattle.lists.proofs.Kit.{◌≡◌, sym, ap, ◌∙◌, refl, not, true, false, List, suc, ℕ, not-true, not-false, rules}
 use Rattle.lists.proofs.Laws.Pick.{yes, no}
 use Rattle.sia.specs.Names.{op_of}
 use Rattle.machine_rules.specs.Roots.{kept_root}
@@ -73,7 +73,7 @@ heard-args c = args_are _ _ _ _ (heard c.before.before) (told c)
 heard-from : (c : tie.Else3) → let s = start-3 (else-2 c) in c.before.before.decoded.result.from ≡ from_of (the-op s) s.args.i
 heard-from c = from_is _ _ _ _ (heard c.before.before) (told c)
 
--- ---- the needs
+-- ---- the rules
 
 -- a check that applies
 refuses : (s : tie.Start) (o : Op) (w : Plan) (n : ℕ) → o ≡ the-op s → w ≡ refused (suc n)
@@ -121,6 +121,6 @@ returns-4 c =
 
 pub planned-spec : {M : Type 1} → statement M
 planned-spec =
-    tie.close (tie.spec (λ c κs. search needs) (λ c κs. search needs) (λ c κs. search needs) (λ c κs. search needs) returns (λ c κs. search needs)
-    (λ c κs. search needs) (λ c κs. search needs) returns-2 decoded-requires (λ c κs. search needs) (λ c κs. search needs) returns-3
+    tie.close (tie.spec (λ c κs. search rules) (λ c κs. search rules) (λ c κs. search rules) (λ c κs. search rules) returns (λ c κs. search rules)
+    (λ c κs. search rules) (λ c κs. search rules) returns-2 decoded-requires (λ c κs. search rules) (λ c κs. search rules) returns-3
     argued-requires returns-4)

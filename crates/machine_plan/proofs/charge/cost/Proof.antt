@@ -1,5 +1,5 @@
 -- `machine_plan::charge::cost` meets its contract. Assumes nothing.
-use Rattle.lists.proofs.Kit.{ap₂, ℕ, ◌+◌, ◌*◌, arith, needs}
+use Rattle.lists.proofs.Kit.{ap₂, ℕ, ◌+◌, ◌*◌, arith, rules}
 use Rattle.machine_rules.specs.Plan.{cost}
 use Rattle.machine_plan.proofs.Laws.Costs.{timed, charged-memory}
 use Rattle.machine_plan.proofs.charge.cost.Statement.{statement}
@@ -37,5 +37,5 @@ returns c =
 
 pub cost-spec : {M : Type 1} → statement M
 cost-spec =
-    tie.close (tie.spec (λ c. search needs) (λ c κs. search needs) (λ c κs. search needs) (λ c. search needs) mul-result mul-result-2
+    tie.close (tie.spec (λ c. search rules) (λ c κs. search rules) (λ c κs. search rules) (λ c. search rules) mul-result mul-result-2
     add-result-2 returns)

@@ -1,5 +1,5 @@
 -- `machine_plan::charge::own` meets its contract, arm by arm. Assumes nothing.
-use Rattle.lists.proofs.Kit.{◌≡◌, sym, ap, ap₂, ◌∙◌, ℕ, ◌+◌, ◌*◌, arith, needs}
+use Rattle.lists.proofs.Kit.{◌≡◌, sym, ap, ap₂, ◌∙◌, ℕ, ◌+◌, ◌*◌, arith, rules}
 use Rattle.machine_rules.specs.Plan.{read_price, write_price, own}
 use Rattle.machine_plan.specs.Numbers.{Small}
 use Rattle.machine_plan.proofs.Laws.Costs.{small-as}
@@ -40,15 +40,15 @@ returns-5 c =
 pub own-spec : {M : Type 1} → statement M
 unfolding own Small
 own-spec =
-    tie.close (tie.spec (λ c. search needs)
-    (λ c κs. small c.before.before c.enum_told.given.1) (λ c. search needs)
-    (λ c κs. small c.before.before c.enum-told2.given.1) (λ c. search needs)
-    (λ c κs. small c.before.before c.enum-told3.given.1) (λ c. search needs)
+    tie.close (tie.spec (λ c. search rules)
+    (λ c κs. small c.before.before c.enum_told.given.1) (λ c. search rules)
+    (λ c κs. small c.before.before c.enum-told2.given.1) (λ c. search rules)
+    (λ c κs. small c.before.before c.enum-told3.given.1) (λ c. search rules)
     (λ c κs. small c.before.before c.enum-told4.given.1)
-    (λ c κs. small c.before.before.before c.before.enum-told4.given.1) (λ c. search needs) (λ c. search needs)
+    (λ c κs. small c.before.before.before c.before.enum-told4.given.1) (λ c. search rules) (λ c. search rules)
     (λ c κs. small c.before.before c.enum-told5.given.1)
-    (λ c κs. small c.before.before.before c.before.enum-told5.given.1) (λ c. search needs) (λ c. search needs) (λ c. search needs)
-    (λ c. search needs) (λ c. search needs)
+    (λ c κs. small c.before.before.before c.before.enum-told5.given.1) (λ c. search rules) (λ c. search rules) (λ c. search rules)
+    (λ c. search rules) (λ c. search rules)
     (λ c. (arm c.before.before.before c.before.enum_told.given.1 c.read-price.ensures.0, omega (arith, c.read-price.ensures.1)))
     (λ c. (arm c.before.before.before c.before.enum-told2.given.1 c.read-price2.ensures.0, omega (arith, c.read-price2.ensures.1)))
     (λ c. (arm c.before.before.before c.before.enum-told3.given.1 c.write-price.ensures.0, omega (arith, c.write-price.ensures.1)))

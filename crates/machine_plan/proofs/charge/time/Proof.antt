@@ -1,5 +1,5 @@
 -- `machine_plan::charge::time` meets its contract: no time passes 30. Assumes nothing.
-use Rattle.lists.proofs.Kit.{ap, ◌≤◌, arith, needs}
+use Rattle.lists.proofs.Kit.{ap, ◌≤◌, arith, rules}
 use Rattle.machine_rules.specs.Kinds.{kind, time}
 use Rattle.machine_rules.specs.declared.Kind.{Kind}
 use Rattle.sia.specs.declared.Op.{Op}
@@ -23,4 +23,4 @@ returns c =
     (e, omega (arith, e, most c.before.args.op))
 
 pub time-spec : {M : Type 1} → statement M
-time-spec = tie.close (tie.spec (λ c κs. search needs) returns)
+time-spec = tie.close (tie.spec (λ c κs. search rules) returns)

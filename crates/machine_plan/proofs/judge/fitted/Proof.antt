@@ -1,5 +1,5 @@
 -- `machine_plan::judge::fitted` meets its contract: a walk down the definition. Assumes nothing.
-use Rattle.lists.proofs.Kit.{◌≡◌, sym, ap, ap₂, ◌∙◌, not, false, ℕ, ◌+◌, ◌*◌, ◌≤◌, mul-le-mul, arith, ltb, ltb-false, needs}
+use Rattle.lists.proofs.Kit.{◌≡◌, sym, ap, ap₂, ◌∙◌, not, false, ℕ, ◌+◌, ◌*◌, ◌≤◌, mul-le-mul, arith, ltb, ltb-false, rules}
 use Rattle.lists.proofs.Laws.Pick.{yes, no}
 use Rattle.host.specs.Places.{others}
 use Rattle.machine_rules.specs.View.{free_copies}
@@ -61,7 +61,7 @@ enough : (c : tie.Else1) → let a = c.before.before.args in
     ltb (free_copies a.setting a.p) (wanted a.setting.sector a.p a.op a.args) ≡ false
 enough c = slots c.before ∙ c.if1.false
 
--- ---- the needs
+-- ---- the rules
 
 returns-2 : tie.Need-returns-2
 unfolding fitted
@@ -94,9 +94,9 @@ returns-4 c =
 pub fitted-spec : {M : Type 1} → statement M
 unfolding fitted
 fitted-spec =
-    tie.close (tie.spec (λ c κs. search needs) (λ c κs. search needs)
+    tie.close (tie.spec (λ c κs. search rules) (λ c κs. search rules)
     (λ c. yes _ _ _ (slots c.before.before ∙ c.before.if1.true) c.refused.ensures)
-    (λ c κs. search needs) returns-2 (λ c κs. search needs) (λ c κs. search needs)
-    (λ c κs. search needs) (λ c κs. search needs) (λ c κs. search needs) returns-3
+    (λ c κs. search rules) returns-2 (λ c κs. search rules) (λ c κs. search rules)
+    (λ c κs. search rules) (λ c κs. search rules) (λ c κs. search rules) returns-3
     (λ c. omega (arith, short c)) (λ c. omega (arith, short c)) (λ c. omega (arith, short c))
     returns-4)

@@ -1,5 +1,5 @@
 -- `machine_plan::judge::weighed` meets its contract: a walk down the definition. Assumes nothing.
-use Rattle.lists.proofs.Kit.{◌≡◌, sym, ap, ◌∙◌, false, ℕ, ◌+◌, ◌*◌, mul-le-mul, arith, leb, ltb, needs}
+use Rattle.lists.proofs.Kit.{◌≡◌, sym, ap, ◌∙◌, false, ℕ, ◌+◌, ◌*◌, mul-le-mul, arith, leb, ltb, rules}
 use Rattle.lists.specs.Pick.{both}
 use Rattle.lists.proofs.Laws.Pick.{yes, no}
 use Rattle.host.specs.Places.{others}
@@ -36,7 +36,7 @@ budget c =
     let a = (start-1 (else-1 (else-2 c))).args in
     ap (λ (k : ℕ). ltb a.setting.terms.budget (a.p.tally + k)) (sym c.before.cost.ensures) ∙ sym c.above.ensures
 
--- ---- the needs
+-- ---- the rules
 
 returns-2 : tie.Need-returns-2
 unfolding weighed
@@ -87,7 +87,7 @@ returns-4 c =
 pub weighed-spec : {M : Type 1} → statement M
 unfolding weighed
 weighed-spec =
-    tie.close (tie.spec (λ c κs. search needs) (λ c κs. search needs)
+    tie.close (tie.spec (λ c κs. search rules) (λ c κs. search rules)
     (λ c. yes _ _ _ (sym c.before.before.bad-spans.ensures ∙ c.before.if1.true) c.refused.ensures)
-    (λ c κs. search needs) (λ c κs. search needs) returns-2
-    cost-requires (λ c κs. search needs) (λ c κs. search needs) returns-3 (λ c κs. search needs) mul-sizes-fit (λ c κs. search needs) fitted-requires returns-4)
+    (λ c κs. search rules) (λ c κs. search rules) returns-2
+    cost-requires (λ c κs. search rules) (λ c κs. search rules) returns-3 (λ c κs. search rules) mul-sizes-fit (λ c κs. search rules) fitted-requires returns-4)

@@ -1,5 +1,5 @@
 -- `machine_plan::lookup::contract_source` meets its contract: a walk down the definition. Assumes nothing.
-use Rattle.lists.proofs.Kit.{◌≡◌, true, sym, ap, ◌∙◌, not-true, not-false, needs}
+use Rattle.lists.proofs.Kit.{◌≡◌, true, sym, ap, ◌∙◌, not-true, not-false, rules}
 use Rattle.area.specs.Area.{same}
 use Rattle.host.specs.Places.{whose}
 use Rattle.machine_sight.proofs.Callers.{parent-spots}
@@ -55,5 +55,5 @@ returns-3 c =
 
 pub contract-source-spec : {M : Type 1} → statement M
 contract-source-spec =
-    tie.close (tie.spec (λ c κs. search needs) (λ c κs. search needs) returns (λ c κs. search needs) (λ c κs. search needs) returns-2
+    tie.close (tie.spec (λ c κs. search rules) (λ c κs. search rules) returns (λ c κs. search rules) (λ c κs. search rules) returns-2
     committed-seen-requires returns-3)

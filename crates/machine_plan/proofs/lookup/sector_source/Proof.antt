@@ -1,5 +1,5 @@
 -- `machine_plan::lookup::sector_source` meets its contract: the sector that the look-up finds, or none. Assumes nothing.
-use Rattle.lists.proofs.Kit.{◌≡◌, needs}
+use Rattle.lists.proofs.Kit.{◌≡◌, rules}
 use Rattle.lists.specs.Pick.{pick}
 use Rattle.host.specs.Places.{has_id}
 use Rattle.machine_rules.specs.View.{read_only_mode, parent, parent_spots}
@@ -41,5 +41,5 @@ returns-2 c =
 
 pub sector-source-spec : {M : Type 1} → statement M
 sector-source-spec =
-    tie.close (tie.spec (λ c κs. search needs) (λ c. search needs) (λ c. search needs) (λ c κs. search needs) returns one-requires
+    tie.close (tie.spec (λ c κs. search rules) (λ c. search rules) (λ c. search rules) (λ c κs. search rules) returns one-requires
     returns-2)

@@ -1,5 +1,5 @@
 -- `machine_plan::lookup::source_of` meets its contract, arm by arm. Assumes nothing.
-use Rattle.lists.proofs.Kit.{◌≡◌, sym, ap, needs}
+use Rattle.lists.proofs.Kit.{◌≡◌, sym, ap, rules}
 use Rattle.machine_rules.specs.Roots.{kept_root}
 use Rattle.machine_rules.specs.Plan.{source_of}
 use Rattle.machine_rules.specs.Plan as Says
@@ -28,9 +28,9 @@ contract-source-requires c κs = let stand = (start c.before.before).requires.se
 pub source-of-spec : {M : Type 1} → statement M
 unfolding source_of
 source-of-spec =
-    tie.close (tie.spec (λ c. search needs) contract-source-requires (λ c. search needs) (λ c κs. (start c.before.before).requires) (λ c. search needs)
-    (λ c κs. search needs) (λ c. search needs) (λ c κs. search needs) (λ c. search needs) (λ c κs. search needs) (λ c. search needs)
-    (λ c κs. search needs) (λ c. search needs) (λ c κs. search needs)
+    tie.close (tie.spec (λ c. search rules) contract-source-requires (λ c. search rules) (λ c κs. (start c.before.before).requires) (λ c. search rules)
+    (λ c κs. search rules) (λ c. search rules) (λ c κs. search rules) (λ c. search rules) (λ c κs. search rules) (λ c. search rules)
+    (λ c κs. search rules) (λ c. search rules) (λ c κs. search rules)
     (λ c. arm (start c.before.before.before) _ _ c.before.enum_told.given.1 c.contract-source.ensures)
     (λ c. arm (start c.before.before.before) _ _ c.before.enum-told2.given.1 c.sector-source.ensures)
     (λ c. arm (start c.before.before.before) _ _ c.before.enum-told3.given.1 c.nothing.ensures)

@@ -1,6 +1,6 @@
 -- `machine_plan::room::free_copies` meets its contract. The loop's invariant: what is counted and the slots that are left give the count. Assumes
 -- nothing.
-use Rattle.lists.proofs.Kit.{◌≡◌, ◌+◌, ◌-◌, ◌≤◌, arith, needs}
+use Rattle.lists.proofs.Kit.{◌≡◌, ◌+◌, ◌-◌, ◌≤◌, arith, rules}
 use Rattle.lists.specs.Tests.{count, unused}
 use Rattle.machine_plan.proofs.Laws.Room.{count-first, count-one, count-done}
 use Rattle.machine_plan.proofs.room.free_copies.Statement.{statement}
@@ -33,4 +33,4 @@ free-copies-spec =
     (λ c. (omega arith, omega arith, count-first (unused c.args.staged) c.args.copies))
     (λ c κs. tt)
     (λ c. omega (arith, c.free-at.ensures.1))
-    (λ c. search needs) (λ c. omega arith) loop-again returns)
+    (λ c. search rules) (λ c. omega arith) loop-again returns)

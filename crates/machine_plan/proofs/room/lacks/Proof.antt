@@ -1,5 +1,5 @@
 -- `machine_plan::room::lacks` meets its contract. Assumes nothing.
-use Rattle.lists.proofs.Kit.{arith, needs}
+use Rattle.lists.proofs.Kit.{arith, rules}
 use Rattle.machine_plan.proofs.Laws.Room.{past-lacks, none-lacks, has_one}
 use Rattle.machine_plan.proofs.room.lacks.Statement.{statement}
 use Rattle.machine_plan.proofs.room.lacks.Tie as tie
@@ -19,4 +19,4 @@ returns-3 c =
 
 pub lacks-spec : {M : Type 1} → statement M
 lacks-spec =
-    tie.close (tie.spec returns (λ c. search needs) returns-2 returns-3)
+    tie.close (tie.spec returns (λ c. search rules) returns-2 returns-3)

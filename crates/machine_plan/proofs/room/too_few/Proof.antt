@@ -1,5 +1,5 @@
 -- `machine_plan::room::too_few` meets its contract: no number of free slots is below 0. Assumes nothing.
-use Rattle.lists.proofs.Kit.{sym, ap, ap₂, ◌∙◌, arith, ltb, le-ltb, needs}
+use Rattle.lists.proofs.Kit.{sym, ap, ap₂, ◌∙◌, arith, ltb, le-ltb, rules}
 use Rattle.lists.specs.Tests.{count, unused}
 use Rattle.machine_plan.proofs.room.too_few.Statement.{statement}
 use Rattle.machine_plan.proofs.room.too_few.Tie as tie
@@ -12,5 +12,5 @@ returns c =
 
 pub too-few-spec : {M : Type 1} → statement M
 too-few-spec =
-    tie.close (tie.spec (λ c κs. search needs) returns (λ c κs. search needs)
+    tie.close (tie.spec (λ c κs. search rules) returns (λ c κs. search rules)
     (λ c. ap₂ ltb c.free-copies.ensures c.before.before.before.wanted.ensures))

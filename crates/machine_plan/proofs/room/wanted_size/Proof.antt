@@ -1,5 +1,5 @@
 -- `machine_plan::room::wanted_size` meets its contract. Assumes nothing.
-use Rattle.lists.proofs.Kit.{refl, ap, ◌∙◌, List, ℕ, length, get_or, eqb, lt-ltb, le-ltb, needs}
+use Rattle.lists.proofs.Kit.{refl, ap, ◌∙◌, List, ℕ, length, get_or, eqb, lt-ltb, le-ltb, rules}
 use Rattle.lists.specs.Tests.{those}
 use Rattle.lists.proofs.Laws.Pick.{yes, no}
 use Rattle.host.specs.Empty.{none}
@@ -24,4 +24,4 @@ returns-2 c =
 
 pub wanted-size-spec : {M : Type 1} → statement M
 wanted-size-spec =
-    tie.close (tie.spec (λ c. search needs) (λ c κs. search needs) returns returns-2)
+    tie.close (tie.spec (λ c. search rules) (λ c κs. search rules) returns returns-2)

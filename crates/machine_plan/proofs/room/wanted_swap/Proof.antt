@@ -1,5 +1,5 @@
 -- `machine_plan::room::wanted_swap` meets its contract. Assumes nothing.
-use Rattle.lists.proofs.Kit.{refl, ap, ap₂, ◌∙◌, List, ℕ, ◌+◌, arith, length, get_or, eqb, eq-eqb, ne_eqb, needs}
+use Rattle.lists.proofs.Kit.{refl, ap, ap₂, ◌∙◌, List, ℕ, ◌+◌, arith, length, get_or, eqb, eq-eqb, ne_eqb, rules}
 use Rattle.lists.specs.Tests.{those}
 use Rattle.lists.proofs.Laws.Pick.{yes, no}
 use Rattle.host.specs.Empty.{none}
@@ -24,6 +24,6 @@ returns-2 c =
 
 pub wanted-swap-spec : {M : Type 1} → statement M
 wanted-swap-spec =
-    tie.close (tie.spec (λ c. search needs) (λ c. search needs) (λ c κs. search needs) returns (λ c κs. search needs) (λ c κs. search needs)
+    tie.close (tie.spec (λ c. search rules) (λ c. search rules) (λ c κs. search rules) returns (λ c κs. search rules) (λ c κs. search rules)
     (λ c. omega (arith, c.before.lacks2.ensures.1, c.lacks3.ensures.1))
     returns-2)

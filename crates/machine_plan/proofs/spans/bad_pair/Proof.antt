@@ -1,5 +1,5 @@
 -- `machine_plan::spans::bad_pair` meets its contract. Assumes nothing.
-use Rattle.lists.proofs.Kit.{refl, sym, ◌∙◌, needs}
+use Rattle.lists.proofs.Kit.{refl, sym, ◌∙◌, rules}
 use Rattle.lists.proofs.Laws.Pick.{yes, no}
 use Rattle.machine_plan.proofs.spans.bad_pair.Statement.{statement}
 use Rattle.machine_plan.proofs.spans.bad_pair.Tie as tie
@@ -11,6 +11,6 @@ returns-2 c =
 
 pub bad-pair-spec : {M : Type 1} → statement M
 bad-pair-spec =
-    tie.close (tie.spec (λ c κs. search needs)
+    tie.close (tie.spec (λ c κs. search rules)
     (λ c. yes _ _ _ (sym c.before.bad-span.ensures ∙ c.if1.true) refl)
-    (λ c κs. search needs) returns-2)
+    (λ c κs. search rules) returns-2)

@@ -1,5 +1,5 @@
 -- `machine_plan::spans::bad_proof` meets its contract: a walk down the definition. Assumes nothing.
-use Rattle.lists.proofs.Kit.{refl, sym, ap, ◌∙◌, not, eq-eqb, ne_eqb, needs}
+use Rattle.lists.proofs.Kit.{refl, sym, ap, ◌∙◌, not, eq-eqb, ne_eqb, rules}
 use Rattle.lists.proofs.Laws.Pick.{yes, no}
 use Rattle.machine_rules.specs.Plan.{bad_proof}
 use Rattle.machine_rules.specs.declared.Kind.{Kind}
@@ -21,6 +21,6 @@ returns-3 c =
 pub bad-proof-spec : {M : Type 1} → statement M
 unfolding bad_proof
 bad-proof-spec =
-    tie.close (tie.spec (λ c κs. search needs)
+    tie.close (tie.spec (λ c κs. search rules)
     (λ c. yes _ _ _ (ap (λ (k : Kind). not k.reads) (sym c.before.before.kind.ensures) ∙ c.if1.true) refl)
     returns-2 returns-3)

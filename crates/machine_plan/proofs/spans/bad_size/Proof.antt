@@ -1,5 +1,5 @@
 -- `machine_plan::spans::bad_size` meets its contract: a walk down the definition. Assumes nothing.
-use Rattle.lists.proofs.Kit.{refl, sym, ap, ◌∙◌, not, eq-eqb, ne_eqb, needs}
+use Rattle.lists.proofs.Kit.{refl, sym, ap, ◌∙◌, not, eq-eqb, ne_eqb, rules}
 use Rattle.lists.proofs.Laws.Pick.{yes, no}
 use Rattle.machine_rules.specs.Plan.{bad_size}
 use Rattle.machine_plan.proofs.spans.bad_size.Statement.{statement}
@@ -21,6 +21,6 @@ returns-3 c =
 pub bad-size-spec : {M : Type 1} → statement M
 unfolding bad_size
 bad-size-spec =
-    tie.close (tie.spec (λ c. search needs)
+    tie.close (tie.spec (λ c. search rules)
     (λ c. yes _ _ _ (ap not (ne_eqb _ _ c.if1.true)) refl)
-    (λ c κs. search needs) returns-2 (λ c κs. search needs) returns-3)
+    (λ c κs. search rules) returns-2 (λ c κs. search rules) returns-3)

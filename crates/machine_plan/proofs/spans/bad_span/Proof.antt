@@ -1,5 +1,5 @@
 -- `machine_plan::spans::bad_span` meets its contract: a walk down the definition. Assumes nothing.
-use Rattle.lists.proofs.Kit.{refl, sym, ◌∙◌, ◌+◌, mod-le, arith, ltb-false, eq-eqb, ne_eqb, needs}
+use Rattle.lists.proofs.Kit.{refl, sym, ◌∙◌, ◌+◌, mod-le, arith, ltb-false, eq-eqb, ne_eqb, rules}
 use Rattle.lists.proofs.Laws.Pick.{yes, no}
 use Rattle.machine_rules.specs.Plan.{bad_span}
 use Rattle.machine_plan.proofs.spans.bad_span.Statement.{statement}
@@ -28,4 +28,4 @@ unfolding bad_span
 bad-span-spec =
     tie.close (tie.spec
     (λ c. yes _ _ _ (eq-eqb _ _ c.if1.true) refl)
-    (λ c κs. search needs) returns-2 (λ c. search needs) add-result returns-3)
+    (λ c κs. search rules) returns-2 (λ c. search rules) add-result returns-3)

@@ -1,5 +1,5 @@
 -- `machine_plan::spans::bad_spans` meets its contract, arm by arm. Assumes nothing.
-use Rattle.lists.proofs.Kit.{◌≡◌, Bool, sym, ap, ◌∙◌, mul-le-mul, arith, needs}
+use Rattle.lists.proofs.Kit.{◌≡◌, Bool, sym, ap, ◌∙◌, mul-le-mul, arith, rules}
 use Rattle.machine_rules.specs.Plan.{bad_spans}
 use Rattle.sia.specs.declared.Op.{Op}
 use Rattle.machine_plan.proofs.spans.bad_spans.Statement.{statement}
@@ -16,13 +16,13 @@ arm s told e = e ∙ sym (ap (bad-at s) told)
 pub bad-spans-spec : {M : Type 1} → statement M
 unfolding bad_spans
 bad-spans-spec =
-    tie.close (tie.spec (λ c. search needs)
+    tie.close (tie.spec (λ c. search rules)
     (λ c. let s = c.before.before in omega (arith, mul-le-mul s.requires.1 s.requires.0.most))
-    (λ c κs. search needs) (λ c. search needs)
+    (λ c κs. search rules) (λ c. search rules)
     (λ c. let s = c.before.before in omega (arith, mul-le-mul s.requires.1 s.requires.0.most))
-    (λ c κs. search needs)
-    (λ c. search needs) (λ c κs. search needs) (λ c. search needs) (λ c κs. search needs) (λ c. search needs) (λ c κs. search needs)
-    (λ c. search needs) (λ c κs. search needs) (λ c. search needs)
+    (λ c κs. search rules)
+    (λ c. search rules) (λ c κs. search rules) (λ c. search rules) (λ c κs. search rules) (λ c. search rules) (λ c κs. search rules)
+    (λ c. search rules) (λ c κs. search rules) (λ c. search rules)
     (λ c. arm c.before.before.before c.before.enum_told.given.1 c.bad-span.ensures)
     (λ c. arm c.before.before.before c.before.enum-told2.given.1 c.bad-span2.ensures)
     (λ c. arm c.before.before.before c.before.enum-told3.given.1 c.bad-span3.ensures)

@@ -1,5 +1,5 @@
 -- `contract_root` meets its contract: zeros of nothing, one sector's own root, else the join of the kept roots. Assumes nothing.
-use Rattle.lists.proofs.Kit.{sym, ◌∙◌, arith, needs}
+use Rattle.lists.proofs.Kit.{sym, ◌∙◌, arith, rules}
 use Rattle.tree.proofs.Promise.{calls}
 use Rattle.machine_rules.specs.Roots.{kept_root}
 use Rattle.machine_sight.proofs.Laws.Roots.{seen_none, seen-alone, seen-roots, seen-join}
@@ -35,5 +35,5 @@ returns-3 c =
 
 pub contract-root-spec : {M : Type 1} → statement M
 contract-root-spec =
-    tie.close (tie.spec returns first-root-requires returns-2 (λ c κs. search needs) (λ c. search needs) (λ c. search needs)
-    slice-aggregate-join (λ c κs. search needs) returns-3)
+    tie.close (tie.spec returns first-root-requires returns-2 (λ c κs. search rules) (λ c. search rules) (λ c. search rules)
+    slice-aggregate-join (λ c κs. search rules) returns-3)

@@ -1,5 +1,5 @@
 -- `first_root` meets its contract: the root kept beside the first spot, all of it. Assumes nothing.
-use Rattle.lists.proofs.Kit.{refl, sym, ap, ◌∙◌, arith, needs}
+use Rattle.lists.proofs.Kit.{refl, sym, ap, ◌∙◌, arith, rules}
 use Rattle.area.proofs.Laws.Parts.{part-whole}
 use Rattle.area.proofs.Laws.Puts.{put-part}
 use Rattle.machine_rules.specs.Roots.{kept_root}
@@ -22,6 +22,6 @@ returns c =
 
 pub first-root-spec : {M : Type 1} → statement M
 first-root-spec =
-    tie.close (tie.spec (λ c κs. omega arith) kept-root-requires (λ c. search needs)
+    tie.close (tie.spec (λ c κs. omega arith) kept-root-requires (λ c. search rules)
     (λ c κs. (omega (arith, c.before.kept-root.ensures.1), omega arith))
     returns)

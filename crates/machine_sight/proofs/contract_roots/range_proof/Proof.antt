@@ -1,6 +1,6 @@
 -- `range_proof` meets its contract: hashes of the sector that the range is in, and kept roots of the others; of one sector its own proof.
 -- Assumes nothing.
-use Rattle.lists.proofs.Kit.{◌≡◌, sym, ap, ◌∙◌, ◌/◌, arith, length, needs}
+use Rattle.lists.proofs.Kit.{◌≡◌, sym, ap, ◌∙◌, ◌/◌, arith, length, rules}
 use Rattle.area.specs.Area.{put}
 use Rattle.machine_rules.specs.View.{sector, spot_of}
 use Rattle.tree.proofs.Promise.{calls}
@@ -64,6 +64,6 @@ returns-2 c =
 
 pub range-proof-spec : {M : Type 1} → statement M
 range-proof-spec =
-    tie.close (tie.spec (λ c. search needs) (λ c κs. search needs) sector-requires (λ c. search needs) (λ c. search needs)
-    (λ c κs. search needs) (λ c. search needs) returns (λ c κs. search needs) (λ c. search needs) (λ c. search needs)
-    slice-aggregate-prove-in (λ c κs. search needs) (λ c. search needs) returns-2)
+    tie.close (tie.spec (λ c. search rules) (λ c κs. search rules) sector-requires (λ c. search rules) (λ c. search rules)
+    (λ c κs. search rules) (λ c. search rules) returns (λ c κs. search rules) (λ c. search rules) (λ c. search rules)
+    slice-aggregate-prove-in (λ c κs. search rules) (λ c. search rules) returns-2)

@@ -1,5 +1,5 @@
 -- `machine_sight::lookup::find_for` meets its contract: by the mode of the program. Assumes nothing.
-use Rattle.lists.proofs.Kit.{sym, ap, ◌∙◌, needs}
+use Rattle.lists.proofs.Kit.{sym, ap, ◌∙◌, rules}
 use Rattle.lists.proofs.Laws.Pick.{picks, skips}
 use Rattle.machine_rules.specs.Seats.{first_seat}
 use Rattle.machine_sight.proofs.lookup.find_for.Statement.{statement}
@@ -17,4 +17,4 @@ returns-2 c =
 
 pub find-for-spec : {M : Type 1} → statement M
 find-for-spec =
-    tie.close (tie.spec (λ c κs. search needs) (λ c κs. search needs) returns (λ c κs. search needs) returns-2)
+    tie.close (tie.spec (λ c κs. search rules) (λ c κs. search rules) returns (λ c κs. search rules) returns-2)

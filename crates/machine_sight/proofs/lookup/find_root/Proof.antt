@@ -1,5 +1,5 @@
 -- `machine_sight::lookup::find_root` meets its contract: a sector of the contract of that id, or else one of the others. Assumes nothing.
-use Rattle.lists.proofs.Kit.{◌≡◌, sym, ap, ap₂, ◌∙◌, List, ℕ, ◌/◌, arith, needs}
+use Rattle.lists.proofs.Kit.{◌≡◌, sym, ap, ap₂, ◌∙◌, List, ℕ, ◌/◌, arith, rules}
 use Rattle.lists.specs.Tests.{every, first_of}
 use Rattle.lists.specs.Tab.{tab}
 use Rattle.host.specs.Places.{has_id}
@@ -42,7 +42,7 @@ own_first c =
     ∙ ap₂ (λ (n : ℕ) (l : List Spot). first_seat (kept_root a.diskroots.now a.stageroots.now) a.key (seated n 0 l))
     (at_seen c).before.place-number.ensures (own-seen (at_seen c))
 
--- ---- the needs
+-- ---- the rules
 
 first-in-requires : tie.Need-first-in-requires
 first-in-requires c κs =
@@ -64,5 +64,5 @@ returns-2 c =
 
 pub find-root-spec : {M : Type 1} → statement M
 find-root-spec =
-    tie.close (tie.spec (λ c κs. search needs) (λ c κs. search needs) (λ c κs. search needs) first-in-requires (λ c κs. search needs)
-    returns (λ c κs. search needs) returns-2)
+    tie.close (tie.spec (λ c κs. search rules) (λ c κs. search rules) (λ c κs. search rules) first-in-requires (λ c κs. search rules)
+    returns (λ c κs. search rules) returns-2)

@@ -1,6 +1,6 @@
 -- `machine_sight::lookup::first_of_others` meets its contract. The loop's invariant: the answer is that of the places that are left to look at. Assumes
 -- nothing.
-use Rattle.lists.proofs.Kit.{◌≡◌, sym, ap, ◌∙◌, ◌-◌, arith, length, slice, needs}
+use Rattle.lists.proofs.Kit.{◌≡◌, sym, ap, ◌∙◌, ◌-◌, arith, length, slice, rules}
 use Rattle.lists.proofs.Laws.Slices.{slice_all}
 use Rattle.host.specs.Places.{has_id}
 use Rattle.host.proofs.Laws.Places.{blank}
@@ -62,5 +62,5 @@ returns-2 c =
 
 pub first-of-others-spec : {M : Type 1} → statement M
 first-of-others-spec =
-    tie.close (tie.spec invariant-loop decreases-loop loop-holds (λ c. search needs) (λ c. search needs) first-unless-requires (λ c κs. tt) returns
-    (λ c. search needs) (λ c. search needs) loop-again returns-2)
+    tie.close (tie.spec invariant-loop decreases-loop loop-holds (λ c. search rules) (λ c. search rules) first-unless-requires (λ c κs. tt) returns
+    (λ c. search rules) (λ c. search rules) loop-again returns-2)

@@ -1,5 +1,5 @@
 -- `machine_sight::lookup::first_unless` meets its contract: the place is left out, or its committed sectors are looked at. Assumes nothing.
-use Rattle.lists.proofs.Kit.{sym, ap, ◌∙◌, List, needs}
+use Rattle.lists.proofs.Kit.{sym, ap, ◌∙◌, List, rules}
 use Rattle.lists.proofs.Laws.Pick.{picks, skips}
 use Rattle.machine_rules.specs.Roots.{kept_root}
 use Rattle.machine_rules.specs.Seats.{seated, first_seat}
@@ -32,4 +32,4 @@ returns-2 c =
 
 pub first-unless-spec : {M : Type 1} → statement M
 first-unless-spec =
-    tie.close (tie.spec (λ c κs. search needs) returns (λ c κs. search needs) first-in-requires returns-2)
+    tie.close (tie.spec (λ c κs. search rules) returns (λ c κs. search rules) first-in-requires returns-2)

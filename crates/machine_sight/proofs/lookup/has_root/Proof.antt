@@ -1,5 +1,5 @@
 -- `machine_sight::lookup::has_root` meets its contract. Assumes nothing.
-use Rattle.lists.proofs.Kit.{ap, ◌∙◌, List, ℕ, needs}
+use Rattle.lists.proofs.Kit.{ap, ◌∙◌, List, ℕ, rules}
 use Rattle.area.specs.Area.{same}
 use Rattle.machine_sight.proofs.lookup.has_root.Statement.{statement}
 use Rattle.machine_sight.proofs.lookup.has_root.Tie as tie
@@ -12,4 +12,4 @@ returns c =
 
 pub has-root-spec : {M : Type 1} → statement M
 has-root-spec =
-    tie.close (tie.spec (λ c κs. search needs) (λ c. search needs) (λ c κs. search needs) returns)
+    tie.close (tie.spec (λ c κs. search rules) (λ c. search rules) (λ c κs. search rules) returns)

@@ -1,5 +1,5 @@
 -- `range_count` meets its contract: the range lies within the segments. Assumes nothing.
-use Rattle.lists.proofs.Kit.{arith, ◌+◌, ◌/◌, ◌≤◌, ◌<◌, needs}
+use Rattle.lists.proofs.Kit.{arith, ◌+◌, ◌/◌, ◌≤◌, ◌<◌, rules}
 use Rattle.area.proofs.Laws.Slots.{span-ends, segments-all, segments-few}
 use Rattle.tree.proofs.Promise.{calls}
 use Rattle.machine_rules.specs.Roots.{segments}
@@ -26,4 +26,4 @@ pub range-count-spec : {M : Type 1} → statement M
 range-count-spec =
     tie.close (tie.spec
     (λ c. omega (arith, segments-few _ c.requires.0 c.args.sectors (omega arith)))
-    add-count (λ c κs. search needs) returns)
+    add-count (λ c κs. search rules) returns)

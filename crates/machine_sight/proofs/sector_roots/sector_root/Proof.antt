@@ -1,5 +1,5 @@
 -- `sector_root` meets its contract: a sector is whole segments. Assumes nothing.
-use Rattle.lists.proofs.Kit.{arith, needs}
+use Rattle.lists.proofs.Kit.{arith, rules}
 use Rattle.tree.proofs.Promise.{calls}
 use Rattle.machine_sight.proofs.Laws.Roots.{root_is}
 use Rattle.machine_sight.proofs.sector_roots.sector_root.Statement.{statement}
@@ -13,4 +13,4 @@ returns c =
 
 pub sector-root-spec : {M : Type 1} → statement M
 sector-root-spec =
-    tie.close (tie.spec (λ c κs. search needs) (λ c κs. search needs) returns)
+    tie.close (tie.spec (λ c κs. search rules) (λ c κs. search rules) returns)

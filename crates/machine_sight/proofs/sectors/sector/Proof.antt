@@ -1,5 +1,5 @@
 -- `sector` meets its contract: the part of the area that holds it. Assumes nothing.
-use Rattle.lists.proofs.Kit.{◌+◌, ◌*◌, ◌≤◌, arith, length, needs}
+use Rattle.lists.proofs.Kit.{◌+◌, ◌*◌, ◌≤◌, arith, length, rules}
 use Rattle.machine_sight.proofs.Laws.Sectors.{on-disk, in-stage, disk-sector, stage-sector}
 use Rattle.machine_sight.proofs.sectors.sector.Statement.{statement}
 use Rattle.machine_sight.proofs.sectors.sector.Tie as tie
@@ -27,6 +27,6 @@ returns-2 c =
 
 pub sector-spec : {M : Type 1} → statement M
 sector-spec =
-    tie.close (tie.spec (λ c. search needs) (λ c. omega (arith, disk-holds c)) (λ c. omega (arith, disk-holds c)) (λ c. search needs)
-    (λ c. search needs) (λ c. omega (arith, disk-holds c)) (λ c. search needs) (λ c. omega (arith, stage-holds c))
-    (λ c. omega (arith, stage-holds c)) (λ c. search needs) (λ c. search needs) (λ c. omega (arith, stage-holds c)) returns returns-2)
+    tie.close (tie.spec (λ c. search rules) (λ c. omega (arith, disk-holds c)) (λ c. omega (arith, disk-holds c)) (λ c. search rules)
+    (λ c. search rules) (λ c. omega (arith, disk-holds c)) (λ c. search rules) (λ c. omega (arith, stage-holds c))
+    (λ c. omega (arith, stage-holds c)) (λ c. search rules) (λ c. search rules) (λ c. omega (arith, stage-holds c)) returns returns-2)

@@ -1,5 +1,5 @@
 -- `span` meets its contract: a part of the sector that holds it. Assumes nothing.
-use Rattle.lists.proofs.Kit.{ap, ◌∙◌, ◌%◌, arith, needs}
+use Rattle.lists.proofs.Kit.{ap, ◌∙◌, ◌%◌, arith, rules}
 use Rattle.machine_rules.specs.View.{sector}
 use Rattle.machine_sight.proofs.Laws.Sectors.{seen-lies, sector-span}
 use Rattle.machine_sight.proofs.sectors.span.Statement.{statement}
@@ -19,5 +19,5 @@ returns c =
 
 pub span-spec : {M : Type 1} → statement M
 span-spec =
-    tie.close (tie.spec (λ c. search needs) (λ c κs. search needs) sector-requires (λ c. search needs) (λ c. search needs)
-    (λ c. search needs) (λ c. search needs) (λ c. search needs) returns)
+    tie.close (tie.spec (λ c. search rules) (λ c κs. search rules) sector-requires (λ c. search rules) (λ c. search rules)
+    (λ c. search rules) (λ c. search rules) (λ c. search rules) returns)

@@ -1,5 +1,5 @@
 -- `committed_seen` meets its contract: of a contract in order, its slots; else none. Assumes nothing.
-use Rattle.lists.proofs.Kit.{◌∙◌, refl, arith, replicate, needs, not-true, not-false}
+use Rattle.lists.proofs.Kit.{◌∙◌, refl, arith, replicate, rules, not-true, not-false}
 use Rattle.host.specs.Empty.{none}
 use Rattle.host.proofs.Laws.Lengths.{placed}
 use Rattle.machine_rules.proofs.Laws.Sizes.{place-size}
@@ -26,4 +26,4 @@ returns-2 c =
 
 pub committed-seen-spec : {M : Type 1} → statement M
 committed-seen-spec =
-    tie.close (tie.spec (λ c κs. search needs) returns (λ c κs. search needs) returns-2)
+    tie.close (tie.spec (λ c κs. search rules) returns (λ c κs. search rules) returns-2)

@@ -1,5 +1,5 @@
 -- `machine_step::pairs::running_pair` meets its contract: the running size, and the root of the parent's sectors as they are read. Assumes nothing.
-use Rattle.lists.proofs.Kit.{◌≡◌, ap, ◌∙◌, List, ℕ, ◌/◌, needs, sym}
+use Rattle.lists.proofs.Kit.{◌≡◌, ap, ◌∙◌, List, ℕ, ◌/◌, rules, sym}
 use Rattle.lists.specs.Tab.{tab}
 use Rattle.host.proofs.Laws.Lengths.{hosted, disk-rooted, stage-rooted}
 use Rattle.machine_rules.specs.View.{setting_of, parent, spot_of, parent_spots, volume_by}
@@ -39,7 +39,7 @@ returns c =
 
 pub running-pair-spec : {M : Type 1} → statement M
 running-pair-spec =
-    tie.close (tie.spec (λ c κs. search needs) (λ c κs. search needs)
+    tie.close (tie.spec (λ c κs. search rules) (λ c κs. search rules)
     (λ c. let s = start c.before.before.before in sym (disk-rooted s.args.host _ s.good.0))
     (λ c. let at-stageroots = c.before.before in let s = start at-stageroots.before.before in sym (stage-rooted s.args.host _ s.good.0))
     running-root-requires returns)

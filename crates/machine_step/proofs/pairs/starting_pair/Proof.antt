@@ -1,5 +1,5 @@
 -- `machine_step::pairs::starting_pair` meets its contract: the parent's size, and the root of its committed sectors. Assumes nothing.
-use Rattle.lists.proofs.Kit.{◌≡◌, ap, ◌∙◌, [], needs}
+use Rattle.lists.proofs.Kit.{◌≡◌, ap, ◌∙◌, [], rules}
 use Rattle.host.proofs.Laws.Lengths.{disk-rooted}
 use Rattle.machine_rules.specs.View.{setting_of, parent, volume_by}
 use Rattle.machine_rules.specs.Roots.{kept_root, root_by, root_of}
@@ -27,4 +27,4 @@ returns c =
 
 pub starting-pair-spec : {M : Type 1} → statement M
 starting-pair-spec =
-    tie.close (tie.spec (λ c κs. search needs) (λ c κs. search needs) (λ c. search needs) committed-root-requires returns)
+    tie.close (tie.spec (λ c κs. search rules) (λ c κs. search rules) (λ c. search rules) committed-root-requires returns)

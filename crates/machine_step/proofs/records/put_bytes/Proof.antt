@@ -1,5 +1,5 @@
 -- `machine_step::records::put_bytes` meets its contract: nothing is laid where nothing is read. Assumes nothing.
-use Rattle.lists.proofs.Kit.{sym, ap, subst, ◌∙◌, [], ℕ, ◌≤◌, arith, length, needs}
+use Rattle.lists.proofs.Kit.{sym, ap, subst, ◌∙◌, [], ℕ, ◌≤◌, arith, length, rules}
 use Rattle.lists.proofs.Laws.Pick.{picks, skips}
 use Rattle.area.specs.Area.{put}
 use Rattle.area.proofs.Laws.Parts.{part-whole}
@@ -33,5 +33,5 @@ returns c =
 pub put-bytes-spec : {M : Type 1} → statement M
 unfolding shown_bytes
 put-bytes-spec =
-    tie.close (tie.spec span-requires copy-between-requires (λ c. search needs) returns
+    tie.close (tie.spec span-requires copy-between-requires (λ c. search rules) returns
     (λ c. sym (ap (put _ 0) (skips _ _ [] c.if1.false) ∙ put-nil _ 0)))

@@ -1,5 +1,5 @@
 -- `machine_step::records::put_failure` meets its contract: the front, then a count of 0. Assumes nothing.
-use Rattle.lists.proofs.Kit.{refl, sym, ap, ◌∙◌, List, [], ◌++◌, append-nil, ℕ, needs}
+use Rattle.lists.proofs.Kit.{refl, sym, ap, ◌∙◌, List, [], ◌++◌, append-nil, ℕ, rules}
 use Rattle.area.specs.Little.{le8}
 use Rattle.sia.proofs.Laws.Joined.{lay-same, lay-two}
 use Rattle.machine_rules.specs.Record.{pairing, record_bytes}
@@ -20,4 +20,4 @@ returns c =
 
 pub put-failure-spec : {M : Type 1} → statement M
 put-failure-spec =
-    tie.close (tie.spec (λ c κs. search needs) (λ c κs. search needs) (λ c. search needs) returns)
+    tie.close (tie.spec (λ c κs. search rules) (λ c κs. search rules) (λ c. search rules) returns)

@@ -1,5 +1,5 @@
 -- `machine_step::records::put_front` meets its contract: five parts, one behind the other. Assumes nothing.
-use Rattle.lists.proofs.Kit.{◌≡◌, refl, sym, length, needs}
+use Rattle.lists.proofs.Kit.{◌≡◌, refl, sym, length, rules}
 use Rattle.area.proofs.Laws.Parts.{part-whole}
 use Rattle.area.proofs.Laws.Little.{length-bytes}
 use Rattle.sia.proofs.Laws.Joined.{lay-same, lay-two}
@@ -24,5 +24,5 @@ returns c =
 
 pub put-front-spec : {M : Type 1} → statement M
 put-front-spec =
-    tie.close (tie.spec (λ c κs. search needs) (λ c κs. search needs) (λ c κs. search needs) (λ c. search needs) (λ c κs. search needs)
-    (λ c κs. search needs) (λ c. search needs) returns)
+    tie.close (tie.spec (λ c κs. search rules) (λ c κs. search rules) (λ c κs. search rules) (λ c. search rules) (λ c κs. search rules)
+    (λ c κs. search rules) (λ c. search rules) returns)

@@ -1,5 +1,5 @@
 -- `machine_step::records::put_proof` meets its contract: nothing is laid where no proof is asked. Assumes nothing.
-use Rattle.lists.proofs.Kit.{sym, ap, subst, ◌∙◌, List, [], ℕ, ◌≤◌, length, needs}
+use Rattle.lists.proofs.Kit.{sym, ap, subst, ◌∙◌, List, [], ℕ, ◌≤◌, length, rules}
 use Rattle.lists.proofs.Laws.Pick.{picks, skips}
 use Rattle.area.specs.Area.{put}
 use Rattle.area.proofs.Laws.Puts.{put-nil}
@@ -27,5 +27,5 @@ returns c =
 pub put-proof-spec : {M : Type 1} → statement M
 unfolding shown_proof
 put-proof-spec =
-    tie.close (tie.spec range-proof-requires (λ c. search needs) returns
+    tie.close (tie.spec range-proof-requires (λ c. search rules) returns
     (λ c. sym (ap (put _ 0) (skips _ _ [] c.if1.false) ∙ put-nil _ 0)))

@@ -1,5 +1,5 @@
 -- `machine_step::records::put_success` meets its contract: the front, the proof, the count and the bytes, one behind the other. Assumes nothing.
-use Rattle.lists.proofs.Kit.{◌≡◌, ◌+◌, ◌*◌, arith, length, needs}
+use Rattle.lists.proofs.Kit.{◌≡◌, ◌+◌, ◌*◌, arith, length, rules}
 use Rattle.sia.proofs.Laws.Joined.{lay-same}
 use Rattle.machine_rules.specs.Record.{pairing}
 use Rattle.machine_step.proofs.Laws.Parts.{length_front, rest-long, record-parts, length_two, length_three, behind, lay-behind}
@@ -24,7 +24,7 @@ at-proof c =
     let at-count-of = c.before.before in let at-put-proof = at-count-of.before.before.before in
     at-put-proof
 
--- ---- the needs
+-- ---- the rules
 
 put-proof-requires : tie.Need-put-proof-requires
 put-proof-requires c κs =
@@ -57,7 +57,7 @@ returns c =
 
 pub put-success-spec : {M : Type 1} → statement M
 put-success-spec =
-    tie.close (tie.spec (λ c κs. search needs) (λ c. search needs) (λ c. search needs) (λ c. search needs) put-proof-requires
-    (λ c. search needs) (λ c. search needs) (λ c κs. search needs) (λ c κs. search needs)
+    tie.close (tie.spec (λ c κs. search rules) (λ c. search rules) (λ c. search rules) (λ c. search rules) put-proof-requires
+    (λ c. search rules) (λ c. search rules) (λ c κs. search rules) (λ c κs. search rules)
     (λ c. omega (arith, at-start (at_front (at-proof c.before.before))))
-    (λ c. search needs) (λ c. search needs) (λ c. search needs) put-bytes-requires (λ c. search needs) returns)
+    (λ c. search rules) (λ c. search rules) (λ c. search rules) put-bytes-requires (λ c. search rules) returns)

@@ -1,5 +1,5 @@
 -- `machine_step::pairs::committed_root` meets its contract. Assumes nothing.
-use Rattle.lists.proofs.Kit.{ap, ◌∙◌, needs}
+use Rattle.lists.proofs.Kit.{ap, ◌∙◌, rules}
 use Rattle.machine_rules.specs.Roots.{contract_root}
 use Rattle.machine_sight.proofs.Laws.Lookup.{committed-known}
 use Rattle.machine_step.proofs.roots.committed_root.Statement.{statement}
@@ -12,5 +12,5 @@ contract-root-requires c κs =
 
 pub committed-root-spec : {M : Type 1} → statement M
 committed-root-spec =
-    tie.close (tie.spec (λ c κs. search needs) (λ c. search needs) contract-root-requires
+    tie.close (tie.spec (λ c κs. search rules) (λ c. search rules) contract-root-requires
     (λ c. c.contract-root.ensures ∙ ap (contract_root _) c.before.before.committed-seen.ensures.0))

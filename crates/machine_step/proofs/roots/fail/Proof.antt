@@ -1,5 +1,5 @@
 -- `machine_step::roots::fail` meets its contract: the record stands behind those written. Assumes nothing.
-use Rattle.lists.proofs.Kit.{refl, sym, ap, ◌∙◌, subst, List, [], ℕ, needs}
+use Rattle.lists.proofs.Kit.{refl, sym, ap, ◌∙◌, subst, List, [], ℕ, rules}
 use Rattle.area.specs.Area.{put}
 use Rattle.area.proofs.Laws.Lent.{lent}
 use Rattle.machine_rules.specs.Roots.{kept_root, root_by, root_of}
@@ -32,5 +32,5 @@ returns c =
 
 pub fail-spec : {M : Type 1} → statement M
 fail-spec =
-    tie.close (tie.spec (λ c κs. search needs) committed-root-requires (λ c. search needs) (λ c. search needs) (λ c. search needs) (λ c κs. search needs)
-    (λ c. search needs) (λ c. search needs) returns)
+    tie.close (tie.spec (λ c κs. search rules) committed-root-requires (λ c. search rules) (λ c. search rules) (λ c. search rules) (λ c κs. search rules)
+    (λ c. search rules) (λ c. search rules) returns)

@@ -1,5 +1,5 @@
 -- `machine_step::pairs::running_root` meets its contract. Assumes nothing.
-use Rattle.lists.proofs.Kit.{ap, ◌∙◌, needs}
+use Rattle.lists.proofs.Kit.{ap, ◌∙◌, rules}
 use Rattle.machine_rules.specs.Roots.{contract_root}
 use Rattle.machine_step.proofs.Laws.Sights.{running-known}
 use Rattle.machine_step.proofs.roots.running_root.Statement.{statement}
@@ -12,5 +12,5 @@ contract-root-requires c κs =
 
 pub running-root-spec : {M : Type 1} → statement M
 running-root-spec =
-    tie.close (tie.spec (λ c κs. search needs) contract-root-requires
+    tie.close (tie.spec (λ c κs. search rules) contract-root-requires
     (λ c. c.contract-root.ensures ∙ ap (contract_root _) c.before.parent-seen.ensures.0))

@@ -1,5 +1,5 @@
 -- `machine_step::running::succeed` meets its contract: the effect, the roots, the progress, the root, then the record behind those written. Assumes nothing.
-use Rattle.lists.proofs.Kit.{◌≤◌, arith, length, needs}
+use Rattle.lists.proofs.Kit.{◌≤◌, arith, length, rules}
 use Rattle.area.proofs.Laws.Lent.{lent}
 use Rattle.machine_rules.specs.View.{Turn, turn, Volume, volume}
 use Rattle.machine_step.proofs.Laws.Task.{counts}
@@ -38,7 +38,7 @@ the-volume s = volume s.args.disk.now s.args.diskroots.now
 abbrev the-turn : tie.Start → Turn
 the-turn s = turn s.args.progress s.args.stage.now s.args.output.now s.args.stageroots.now
 
--- ---- the needs
+-- ---- the rules
 
 effect-requires : tie.Need-effect-requires
 effect-requires c κs =
@@ -97,5 +97,5 @@ returns c =
 
 pub succeed-spec : {M : Type 1} → statement M
 succeed-spec =
-    tie.close (tie.spec (λ c κs. search needs) effect-requires rehash-requires advanced-requires running-root-requires (λ c κs. search needs)
-    (λ c. within c) (λ c. within c) (λ c. search needs) put-success-requires (λ c. search needs) (λ c. search needs) (λ c. search needs) returns)
+    tie.close (tie.spec (λ c κs. search rules) effect-requires rehash-requires advanced-requires running-root-requires (λ c κs. search rules)
+    (λ c. within c) (λ c. within c) (λ c. search rules) put-success-requires (λ c. search rules) (λ c. search rules) (λ c. search rules) returns)

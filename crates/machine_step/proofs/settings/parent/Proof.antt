@@ -1,5 +1,5 @@
 -- `machine_step::settings::parent` meets its contract. Assumes nothing.
-use Rattle.lists.proofs.Kit.{needs}
+use Rattle.lists.proofs.Kit.{rules}
 use Rattle.machine_rules.specs.View.{parent}
 use Rattle.machine_step.proofs.settings.parent.Statement.{statement}
 use Rattle.machine_step.proofs.settings.parent.Tie as tie
@@ -7,4 +7,4 @@ use Rattle.machine_step.proofs.settings.parent.Tie as tie
 pub parent-spec : {M : Type 1} → statement M
 unfolding parent
 parent-spec =
-    tie.close (tie.spec (λ c κs. search needs) (λ c. c.place_of.ensures))
+    tie.close (tie.spec (λ c κs. search rules) (λ c. c.place_of.ensures))

@@ -1,5 +1,5 @@
 -- `machine_step::taking::step` meets its contract: a failure by its number, or what its task leaves. Assumes nothing.
-use Rattle.lists.proofs.Kit.{◌≡◌, refl, sym, ap, ◌∙◌, List, ℕ, needs}
+use Rattle.lists.proofs.Kit.{◌≡◌, refl, sym, ap, ◌∙◌, List, ℕ, rules}
 use Rattle.sia.proofs.Laws.Known.{known-instruction}
 use Rattle.machine_rules.specs.View.{Turn, turn, Volume, volume}
 use Rattle.machine_rules.specs.Roots.{root_at}
@@ -33,7 +33,7 @@ planned-is c =
     ∙ ap (λ (f : Spot → List ℕ). plan_of a.setting f a.progress a.i a.input.now)
     (sym (reads_kept a.setting (the-volume (at-start c.before)) a.stage.now a.stageroots.now refl))
 
--- ---- the needs
+-- ---- the rules
 
 planned-requires : tie.Need-planned-requires
 planned-requires c κs =
@@ -71,5 +71,5 @@ returns-2 c = let at_stage = c.before.before.before in let done = at_stage.befor
 
 pub step_spec : {M : Type 1} → statement M
 step_spec =
-    tie.close (tie.spec planned-requires fail-requires (λ c. search needs) (λ c. search needs) returns
-    succeed-requires (λ c. search needs) (λ c. search needs) (λ c. search needs) returns-2)
+    tie.close (tie.spec planned-requires fail-requires (λ c. search rules) (λ c. search rules) returns
+    succeed-requires (λ c. search rules) (λ c. search rules) (λ c. search rules) returns-2)

@@ -1,5 +1,5 @@
 -- `machine_step::running::run` meets its contract: each turn is the run's next, and as many are left as there are instructions. Assumes nothing.
-use Rattle.lists.proofs.Kit.{◌≡◌, refl, sym, ◌∙◌, true, ◌<◌, arith, get_or, not-true, not-false, needs}
+use Rattle.lists.proofs.Kit.{◌≡◌, refl, sym, ◌∙◌, true, ◌<◌, arith, get_or, not-true, not-false, rules}
 use Rattle.machine_rules.specs.View.{Turn, turn, volume}
 use Rattle.machine_rules.specs.declared.Setting.{Setting}
 use Rattle.machine_rules.specs.Run.{current, going, ready}
@@ -55,7 +55,7 @@ told c =
     let o = c.before.before.before in
     goes (the-set o) _ (the-turn o) (its o _) (on o) (sym c.before.ready.ensures ∙ not-false _ c.if2.false)
 
--- ---- the needs
+-- ---- the rules
 
 loop-holds : tie.Need-loop-init invariant-loop decreases-loop
 loop-holds c =
@@ -113,7 +113,7 @@ returns-2 c =
 
 pub run_spec : {M : Type 1} → statement M
 run_spec =
-    tie.close (tie.spec invariant-loop decreases-loop loop-holds (λ c κs. tt) (λ c. omega (arith, below c)) (λ c. below c) (λ c κs. search needs)
+    tie.close (tie.spec invariant-loop decreases-loop loop-holds (λ c κs. tt) (λ c. omega (arith, below c)) (λ c. below c) (λ c κs. search rules)
     same_length same-length-2 same-length-3 returns step-requires loop-less loop-again
     (λ c. let l = c.before.before in l.loop.invariant.kept.stageroots ∙ sym (at-start l).requires.stageroots)
     (λ c. let l = c.before.before in l.loop.invariant.kept.stage ∙ sym (at-start l).requires.stage)

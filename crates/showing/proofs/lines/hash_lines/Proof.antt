@@ -1,5 +1,5 @@
 -- `showing::lines::hash_lines` is safe and ends: a hash is read where 32 bytes are left. Assumes nothing.
-use Rattle.lists.proofs.Kit.{◌-◌, ◌≤◌, needs, length}
+use Rattle.lists.proofs.Kit.{◌-◌, ◌≤◌, rules, length}
 use Rattle.showing.proofs.lines.hash_lines.Statement.{statement}
 use Rattle.showing.proofs.lines.hash_lines.Tie as tie
 
@@ -11,6 +11,6 @@ decreases-loop hashes at₀ t4 t5 at = length hashes - at
 
 pub hash-lines-spec : {M : Type 1} → statement M
 hash-lines-spec =
-    tie.close (tie.spec invariant-loop decreases-loop (λ c. search needs) (λ c. search needs) (λ c. search needs) (λ c. search needs)
-    (λ c κs. search needs) (λ c. search needs) (λ c. search needs) (λ c. search needs) (λ c κs. search needs) (λ c. search needs)
-    (λ c κs. search needs) (λ c. search needs) (λ c. search needs) (λ c. search needs))
+    tie.close (tie.spec invariant-loop decreases-loop (λ c. search rules) (λ c. search rules) (λ c. search rules) (λ c. search rules)
+    (λ c κs. search rules) (λ c. search rules) (λ c. search rules) (λ c. search rules) (λ c κs. search rules) (λ c. search rules)
+    (λ c κs. search rules) (λ c. search rules) (λ c. search rules) (λ c. search rules))

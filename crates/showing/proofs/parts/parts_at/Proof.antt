@@ -1,6 +1,6 @@
 -- `showing::parts::parts_at` meets its contract: each test in turn finds what is missing, and past them all the parts stand where the two
 -- counts, as they were read, put them. Assumes nothing.
-use Rattle.lists.proofs.Kit.{◌≡◌, refl, ap, ◌∙◌, List, ℕ, ◌+◌, ◌-◌, ◌*◌, ◌/◌, ◌≤◌, ◌<◌, arith, length, needs, lt-ltb, le-ltb}
+use Rattle.lists.proofs.Kit.{◌≡◌, refl, ap, ◌∙◌, List, ℕ, ◌+◌, ◌-◌, ◌*◌, ◌/◌, ◌≤◌, ◌<◌, arith, length, rules, lt-ltb, le-ltb}
 use Rattle.lists.proofs.Laws.Pick.{yes, no}
 use Rattle.showing.specs.Whole.{number_at, lacking, standing, output_at, parts_at}
 use Rattle.showing.specs.declared.parts.Parts.{Parts}
@@ -43,7 +43,7 @@ lacks k from p e h z = absurd (omega (arith, ap (λ (q : Parts). q.fault) e))
 returns-2 : tie.Need-returns-2
 returns-2 c = (
   short _ _ _ c.before.before.load.ensures c.before.before.before.if1.false c.before.if2.true c.missing2.ensures,
-  lacks 2 _ _ c.missing2.ensures (search needs),
+  lacks 2 _ _ c.missing2.ensures (search rules),
 )
 
 returns-3 : tie.Need-returns-3
@@ -51,7 +51,7 @@ returns-3 c =
     let at_load = c.before.before.before in (
       past _ _ _ at_load.load.ensures at_load.before.if1.false c.before.before.if2.false
           (uncounted _ _ _ c.before.if3.true c.missing3.ensures),
-      lacks 3 _ _ c.missing3.ensures (search needs),
+      lacks 3 _ _ c.missing3.ensures (search rules),
     )
 
 returns-4 : tie.Need-returns-4
@@ -60,7 +60,7 @@ returns-4 c =
     let at_load = at-if3.before.before in (
       past _ _ _ at_load.load.ensures at_load.before.if1.false at-if3.before.if2.false
           (cut _ _ _ _ c.before.before.load2.ensures at-if3.if3.false c.before.if4.true c.missing4.ensures),
-      lacks 4 _ _ c.missing4.ensures (search needs),
+      lacks 4 _ _ c.missing4.ensures (search rules),
     )
 
 returns-5 : tie.Need-returns-5
@@ -70,15 +70,15 @@ returns-5 c =
     let at_load = at-if3.before.before in (
       past _ _ _ at_load.load.ensures at_load.before.if1.false at-if3.before.if2.false
           (all _ _ _ _ c.before.load2.ensures at-if3.if3.false c.if4.false refl),
-      λ e. record { ahead = search needs; proof = search needs; count = search needs; shown = search needs; within = search needs },
+      λ e. record { ahead = search rules; proof = search rules; count = search rules; shown = search rules; within = search rules },
     )
 
 pub parts-at-spec : {M : Type 1} → statement M
 unfolding parts_at
 parts-at-spec = tie.close (tie.spec
-    (λ c. search needs) (λ c κs. search needs)
-    (λ c. (yes _ _ _ (lt-ltb _ _ c.before.if1.true) c.missing.ensures, lacks 1 _ _ c.missing.ensures (search needs)))
-    (λ c. search needs) (λ c. search needs) (λ c κs. search needs) (λ c. search needs) (λ c. search needs)
-    (λ c κs. search needs) returns-2 (λ c. search needs) (λ c. search needs) (λ c. search needs) (λ c κs. search needs)
-    returns-3 (λ c. search needs) (λ c κs. search needs) (λ c. search needs) (λ c κs. search needs) returns-4
-    (λ c. search needs) returns-5)
+    (λ c. search rules) (λ c κs. search rules)
+    (λ c. (yes _ _ _ (lt-ltb _ _ c.before.if1.true) c.missing.ensures, lacks 1 _ _ c.missing.ensures (search rules)))
+    (λ c. search rules) (λ c. search rules) (λ c κs. search rules) (λ c. search rules) (λ c. search rules)
+    (λ c κs. search rules) returns-2 (λ c. search rules) (λ c. search rules) (λ c. search rules) (λ c κs. search rules)
+    returns-3 (λ c. search rules) (λ c κs. search rules) (λ c. search rules) (λ c κs. search rules) returns-4
+    (λ c. search rules) returns-5)

@@ -1,6 +1,6 @@
 -- `sia::limits::few` meets its contract. The loop's invariant: the answer is that of the instructions that are left to look at.
 -- Assumes nothing.
-use Rattle.lists.proofs.Kit.{◌≡◌, refl, sym, ◌∙◌, ◌-◌, ◌≤◌, arith, take, drop, le-leb, lt-leb, needs}
+use Rattle.lists.proofs.Kit.{◌≡◌, refl, sym, ◌∙◌, ◌-◌, ◌≤◌, arith, take, drop, le-leb, lt-leb, rules}
 use Rattle.lists.specs.Tests.{every}
 use Rattle.lists.proofs.Laws.Every.{every-not, every-next, every-end}
 use Rattle.sia.specs.Empty.{no_instruction}
@@ -32,7 +32,7 @@ loop-again c =
 
 pub few-spec : {M : Type 1} → statement M
 few-spec = tie.close (tie.spec
-    invariant-loop decreases-loop (λ c. (omega arith, refl)) (λ c. search needs) (λ c. omega arith) returns (λ c. search needs)
+    invariant-loop decreases-loop (λ c. (omega arith, refl)) (λ c. search rules) (λ c. omega arith) returns (λ c. search rules)
     (λ c. omega arith) loop-again
     (λ c. let l = c.before.loop in
     let s = c.before.before in

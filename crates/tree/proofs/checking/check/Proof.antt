@@ -1,5 +1,5 @@
 -- `check` meets its contract: each test in turn says no, and past them all the rebuilt root decides. Assumes nothing.
-use Rattle.lists.proofs.Kit.{◌≡◌, refl, sym, ap, ◌∙◌, true, List, ℕ, ◌≤◌, ◌*◌, arith, length, leb, needs, not-true, not-false, le-leb, lt-leb, eq-eqb}
+use Rattle.lists.proofs.Kit.{◌≡◌, refl, sym, ap, ◌∙◌, true, List, ℕ, ◌≤◌, ◌*◌, arith, length, leb, rules, not-true, not-false, le-leb, lt-leb, eq-eqb}
 use Rattle.lists.proofs.Kit.{ne_eqb}
 use Rattle.lists.specs.Pick.{both}
 use Rattle.lists.proofs.Laws.Pick.{yes, no, both-join, both-not-left, both-not-right}
@@ -59,7 +59,7 @@ unfolding count verdict
 check-spec = tie.close (tie.spec
     (λ c. no _ _ _ (both-not-left _ _ (lt-leb _ _ c.if1.true)) refl)
     (λ c. no _ _ _ (both-not-right _ _ (lt-leb _ _ c.if2.true)) refl)
-    (λ c κs. search needs)
+    (λ c κs. search rules)
     (λ c. yes _ _ _ (limited _ c.before.before.before.if1.false c.before.before.if2.false)
     (no _ _ _ (sym c.before.ranged.ensures ∙ not-true _ c.if3.true) refl))
     (λ c. let r = ranged-tells _ _ _ (sym c.before.ranged.ensures ∙ not-false _ c.if3.false) in omega arith)
@@ -71,4 +71,4 @@ check-spec = tie.close (tie.spec
     (λ c. let back-3 = c.before.before.before in let back-6 = back-3.before.before.before in let back-9 = back-6.before.before.before in
     let a = back-9.args in
     omega (arith, c.count.ensures, hashes-few 64 0 a.count a.first a.end (omega arith) (omega arith)))
-    returns-5 (λ c κs. search needs) rebuild-requires (λ c. search needs) (λ c κs. search needs) returns-6)
+    returns-5 (λ c κs. search rules) rebuild-requires (λ c. search rules) (λ c κs. search rules) returns-6)

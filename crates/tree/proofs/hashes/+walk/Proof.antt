@@ -1,6 +1,6 @@
 -- `hashes::walk` meets its contract, by the depth, which is the measure: outside the part's root is laid, wholly inside nothing, else
 -- the calls one level down lay the left and then the right. Assumes nothing.
-use Rattle.lists.proofs.Kit.{sym, ◌∙◌, ◌+◌, ◌-◌, ℕ, ◌<◌, arith, needs}
+use Rattle.lists.proofs.Kit.{sym, ◌∙◌, ◌+◌, ◌-◌, ℕ, ◌<◌, arith, rules}
 use Rattle.tree.proofs.Laws.Levels.{Level, level, told_in, room_out, half-deep}
 use Rattle.tree.proofs.Laws.Laid.{root-long, laid_out, laid_in, laid-less, laid_more, written-less, written-left, written-right}
 use borrow.Fn.Kinds.{In}
@@ -56,7 +56,7 @@ pub +walk-spec : {M : Type 1} → statement M
     -- outside
     (λ c κs. let out = c.before in let w = out.before.before.before.requires.1 in
     record { some = w.walked.some; deep = w.walked.deep; all = w.all })
-    (λ c. search needs)
+    (λ c. search rules)
     (λ c κs. let test = c.before.before.before in let out = test.before in let w = out.before.before.before.requires.1 in
     let long = root-long _ _ _ _ _ w.walked.some w.all c.before.before.over.ensures in
     (omega (arith, long), room_out _ _ _ _ _ _ _ (sym out.outside.ensures ∙ test.if1.true) w.room))
@@ -64,7 +64,7 @@ pub +walk-spec : {M : Type 1} → statement M
     let first = out.before.before.before in
     let room = room_out _ _ _ _ _ _ _ (sym out.outside.ensures ∙ test.if1.true) first.requires.1.room in
     omega (arith, room, first.well-formed.1.1.1.1.1.1.1.0))
-    (λ c. search needs)
+    (λ c. search rules)
     (λ c. let copied = c.before.before in let root = copied.before.before.before in let test = root.before in let out = test.before in
     let w = out.before.before.before.requires.1 in
     laid_out _ _ _ _ _ _ _ _ _ w.walked.some w.all (sym out.outside.ensures ∙ test.if1.true) root.over.ensures
@@ -79,7 +79,7 @@ pub +walk-spec : {M : Type 1} → statement M
     (λ c. (past t c.before.before).deep)
     (λ c κs. let half = c.before.before in let l = past t half.before in
     (omega (arith, l.deep), written-less _ l half.power.ensures c.before.if3.true (start t half.before).pre.1))
-    (λ c. search needs)
+    (λ c. search rules)
     (λ c. let call = c.before.before in let test = call.before.before in let half = test.before in
     laid-less _ _ _ _ _ (past t half.before) half.power.ensures test.if3.true call.walk.ensures)
     -- the left half, and the right
@@ -91,7 +91,7 @@ pub +walk-spec : {M : Type 1} → statement M
     (λ c. let back-3 = c.before.before.before in let back-4 = back-3.before in let test = back-4 in (past t test.before.before).deep)
     (λ c κs. let one = c.before.before.before in let test = one.before.before in let half = test.before in let l = past t half.before in
     (omega (arith, l.deep), written-right _ l half.power.ensures test.if3.false (start t half.before).pre.1 one.walk2.ensures))
-    (λ c. search needs)
+    (λ c. search rules)
     (λ c. let two = c.before.before in let one-3 = two.before.before.before in let one = one-3.before in let test = one.before.before in
     let half = test.before in
     laid_more _ _ _ _ _ (past t half.before) half.power.ensures (start t half.before).pre.1.all test.if3.false

@@ -1,5 +1,5 @@
 -- `hashes::write` meets its contract: what is laid from the least depth that holds the leaves is what depth 64 gives. Assumes nothing.
-use Rattle.lists.proofs.Kit.{needs}
+use Rattle.lists.proofs.Kit.{rules}
 use Rattle.tree.proofs.Laws.Levels.{walked-deep, room-deep}
 use Rattle.tree.proofs.Laws.Laid.{laid-deep}
 use Rattle.tree.proofs.hashes.write.Statement.{statement}
@@ -7,10 +7,10 @@ use Rattle.tree.proofs.hashes.write.Tie as tie
 
 pub write_spec : {M : Type 1} → statement M
 write_spec = tie.close (tie.spec
-    (λ c κs. search needs)
+    (λ c κs. search rules)
     (λ c κs. let back-3 = c.before.before.before in let back-4 = back-3.before in let holds = c.before.depth.ensures in
     let w = back-4.requires in
     record { walked = walked-deep w.walked holds; all = w.all; room = room-deep _ _ _ _ _ _ _ holds w.room })
-    (λ c. search needs)
+    (λ c. search rules)
     (λ c. let back-3 = c.before.before.before in let back-4 = back-3.before in
     laid-deep _ _ _ _ _ _ _ _ _ back-4.depth.ensures c.before.before.walk.ensures))

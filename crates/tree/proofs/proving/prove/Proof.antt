@@ -1,6 +1,6 @@
 -- `prove` meets its contract: refused where the bytes, the range or the area are not as stated, else the walk is laid from byte 0 on.
 -- Assumes nothing.
-use Rattle.lists.proofs.Kit.{sym, ◌∙◌, arith, needs, not-true, not-false}
+use Rattle.lists.proofs.Kit.{sym, ◌∙◌, arith, rules, not-true, not-false}
 use Rattle.tree.specs.Walk.{count}
 use Rattle.tree.specs.Answers.{proved}
 use Rattle.tree.proofs.Laws.Leaves.{segments-cover}
@@ -45,7 +45,7 @@ returns-3 c =
 pub prove-spec : {M : Type 1} → statement M
 unfolding proved
 prove-spec = tie.close (tie.spec
-    (λ c κs. search needs) (λ c κs. search needs)
+    (λ c κs. search rules) (λ c κs. search rules)
     (λ c. not-asked _ _ _ (sym c.before.before.provable.ensures ∙ not-true _ c.before.if1.true) c.refused.ensures)
     (λ c κs. let p = provable-tells _ _ _ (sym c.before.provable.ensures ∙ not-false _ c.if1.false) in omega arith)
-    (λ c κs. search needs) returns-2 write-requires (λ c. search needs) returns-3)
+    (λ c κs. search rules) returns-2 write-requires (λ c. search rules) returns-3)
