@@ -1,6 +1,8 @@
 // One input of the program of the bench, kept as far as it can matter: nine ids (a host holds eight contracts), 2,897 bytes of head (the
 // longest head has 2,896) and 65,537 bytes of data (at most 65,536 are declared). What is longer is counted and dropped, and the numbers
 // ahead of it are lowered, so that an input of any length has its answer. Rests on `bench_program` for what an input means, and on `stdin`.
+#![tactic(auto)]
+
 ghost use Rattle.std.specs.Prelude.{◌≡◌, ◌-◌, ◌<◌, min, [], ◌∷◌};
 ghost use Rattle.bench_input.specs.Reader as Says;
 ghost use Rattle.bench_input.specs.Reader.{state, fresh, ids_from, head_from, data_from, number_to, fed_byte, in_data};

@@ -1,5 +1,7 @@
 // One program from a fresh host to its close: contracts are formed, a head is opened, the data is given as one piece, and the pair
 // reached is agreed to, or given up after a failure. The first refusal ends it. Rests on `machine` alone.
+#![tactic(auto)]
+
 ghost use Rattle.std.specs.Prelude.{◌≡◌};
 ghost use Rattle.bench_program.specs.Single as Says;
 ghost use Rattle.bench_program.specs.Single.{leaves};

@@ -1,4 +1,6 @@
 // RFC 7693 BLAKE2b, whole: a digest of 1 to 64 bytes, keyed by 0 to 64 or unkeyed, of any message. Rests on `area` for bytes and numbers in them.
+#![tactic(auto)]
+
 ghost use Rattle.std.specs.Prelude.{◌≡◌};
 ghost use Rattle.blake2b.specs.Answers.{left, digested};
 

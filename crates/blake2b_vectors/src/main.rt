@@ -1,5 +1,7 @@
 // Shows digests, one a line, and RFC 7693's own self-test. Standard input holds 66 bytes for keys, 1,000 bytes for messages, and then
 // items of three numbers of 8 bytes: how long the digest, the key and the message are. Keys and messages are front parts.
+#![tactic(auto)]
+
 mod self_test;
 
 use stdout::{decimal, hex, text};

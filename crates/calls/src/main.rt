@@ -1,5 +1,7 @@
 // Plays a script of calls from standard input, item by item, and writes the report of each; docs/CALLS.md has the items and the report.
 // It stops at the end of input and at the first malformed item, for which it writes nothing.
+#![tactic(auto)]
+
 ghost use Rattle.std.specs.Prelude.{◌≤◌};
 
 use host::Host;

@@ -1,5 +1,6 @@
 // Many inputs of the programs `depot` and `calls`, from standard input, and a line for each: its place, its kind, how many bytes the program
 // writes, and their digest. A case is its kind (`d` or `c`), its length in 8 bytes, and its bytes.
+#![tactic(auto)]
 
 mod depots; // depots.rt: an input of `depot`
 mod scripts; // scripts.rt: a script of `calls`

@@ -1,5 +1,7 @@
 // The program of the bench: sectors of 4,096 bytes, disk 8 sectors, stage 4, output 16,384. It reads one input, plays it, and writes the
 // records, or a refusal's number in 8 bytes.
+#![tactic(auto)]
+
 use bench_input::Reader;
 use host::Host;
 

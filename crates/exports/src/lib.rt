@@ -1,5 +1,7 @@
 // What programs in C or Rust link: the layers' public functions, with document 01's number for each answer. A slice is a pointer
 // and then a length.
+#![tactic(auto)]
+
 ghost use Rattle.std.specs.Prelude.{◌≡◌};
 ghost use Rattle.exports.specs.Numbers.{numbered, root_laid};
 ghost use Rattle.exports.specs.Programs.{shown, priced, played};

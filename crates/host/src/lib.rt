@@ -2,6 +2,8 @@
 // that a host is in order, and what the calls answer that make a host, form a contract and drop one, stands here; `host_order` decides the
 // one, `host_contracts` makes the others. Rests on `sia` for heads and on `area`.
 // These are inner functions: what they require, their callers prove.
+#![tactic(auto)]
+
 ghost use Rattle.std.specs.Prelude.{◌≡◌};
 ghost use Rattle.host.specs.Empty.{no_place, no_prices, no_terms, no_progress, no_program};
 ghost use Rattle.host.specs.Empty as Says;

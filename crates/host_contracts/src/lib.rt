@@ -1,5 +1,7 @@
 // Making a host, forming a contract and dropping one: what each call answers and leaves is `host`'s definition of it. A refusal of
 // forming or dropping leaves the host as it was. Rests on `host_order` (whether a host is in order) and `host`.
+#![tactic(auto)]
+
 ghost use Rattle.std.specs.Prelude.{◌≡◌, not, ◌<◌};
 ghost use Rattle.lists.specs.Tests.{some};
 ghost use Rattle.host.specs.Empty.{new_place, bare};

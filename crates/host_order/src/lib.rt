@@ -1,5 +1,7 @@
 // Whether a host is in order, decided on any record, however damaged, and whether the areas lent with it are as long as stated. Each function is one
 // clause of `host`'s definition, in its order. Rests on `host` and `sia`. Inner functions: what they require, their callers prove.
+#![tactic(auto)]
+
 ghost use Rattle.std.specs.Prelude.{◌≡◌, ◌+◌, ◌≤◌, ◌<◌, leb};
 ghost use Rattle.std.proofs.Math.Seq.{slice};
 ghost use Rattle.lists.specs.Pick.{pick};

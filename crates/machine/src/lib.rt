@@ -3,6 +3,8 @@
 // anything: what it answers and leaves is the definition of the same name in `machine_rules` (`host` for the first three).
 // Rests on `host_order` (whether a host is in order), `sia_read` (heads) and `machine_step` (instructions in turn). What a call's types need is passed on
 // too, so that a user names this crate alone.
+#![tactic(auto)]
+
 mod closing; // closing.rt: giving up, or agreeing to what a program has reached
 mod commit; // commit.rt: the slots and bytes of a commit
 mod interrupting; // interrupting.rt: interrupting a program

@@ -3,6 +3,8 @@
 // only read.
 // Rests on `area` for spans, on `host` for free slots and on `tree` for roots. Whether an instruction can run was judged before: inner functions,
 // what they require their callers prove.
+#![tactic(auto)]
+
 ghost use Rattle.std.specs.Prelude.{◌≡◌, ◌+◌, ◌≤◌, length};
 ghost use Rattle.area.specs.Area.{part};
 ghost use Rattle.machine_rules.specs.Effect as Says;

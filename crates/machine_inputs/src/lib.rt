@@ -1,5 +1,7 @@
 // An instruction's inputs: whether it is well-formed, how many bytes it needs, and what the bytes that it names say (checks 21 to 23).
 // Rests on `sia` for instructions and on the definitions of `machine_rules`. Inner functions: what they require, their callers prove.
+#![tactic(auto)]
+
 ghost use Rattle.std.specs.Prelude.{◌≡◌};
 ghost use Rattle.machine_inputs.specs.Given.{no_args, malformed};
 

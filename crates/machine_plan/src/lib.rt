@@ -2,6 +2,8 @@
 // which looks a root up among those that are kept.
 // Rests on `machine_inputs` for what an instruction's inputs say and on `machine_sight` for what is seen. Inner functions: what they require,
 // their callers prove.
+#![tactic(auto)]
+
 mod chain; // chain.rt: checks 21 to 42, and the plan of an instruction
 mod charge; // charge.rt: what an instruction is charged
 mod judge; // judge.rt: checks 26 to 42, in order

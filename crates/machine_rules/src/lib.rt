@@ -1,5 +1,7 @@
 // What the machine means stands in specs/: document 01 as definitions, and the demands. Here are the structs and the enums that they
 // share with the code. Rests on `host` (the record), `sia` (heads) and `tree` (roots and proofs).
+#![tactic(auto)]
+
 pub mod class; // class.rt: the class of a record's number
 
 use host::{Host, Place, Terms};

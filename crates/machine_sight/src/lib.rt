@@ -1,6 +1,7 @@
 // What the machine sees of contracts, and what it knows of it by kept roots: the bytes of a sector, in whichever area holds it, and its root, kept or
 // worked out; the sectors of the parent, of a committed contract and of the contract that has a root; roots and proofs of what is seen.
 // Rests on `tree` for roots and proofs, and on the definitions of `machine_rules`. Inner functions: what they require, their callers prove.
+#![tactic(auto)]
 
 mod contract_roots; // contract_roots.rt: roots and proofs of what is seen, from the roots kept beside its sectors
 mod lookup; // lookup.rt: the sector that has a root

@@ -2,6 +2,8 @@
 // whether a program goes on; and the pairs that it started from and has reached.
 // Rests on `machine_plan` (whether and at what cost), `machine_effect` (what it does) and `machine_sight` (roots and proofs). Inner functions: what
 // they require, their callers prove.
+#![tactic(auto)]
+
 ghost use Rattle.std.specs.Prelude.{◌≡◌};
 ghost use Rattle.machine_rules.specs.Run as Says;
 

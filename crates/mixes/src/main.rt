@@ -4,6 +4,8 @@
 // budget and the seven prices (8 bytes each; a price above 65,535 counts as 65,535), and then visits: how often, how many empty pieces ahead
 // of each (8 bytes each), the head and the data, each after its length (8 bytes). One line is written: how many visits were done, the
 // number of the first refusal if there was one, and the digests of the disk and of the records of the last visit.
+#![tactic(auto)]
+
 ghost use Rattle.std.specs.Prelude.{◌+◌, ◌≤◌, length};
 
 use libc::STDIN_FILENO;

@@ -1,6 +1,8 @@
 // Scripts of calls: an item of a script is one call, with the areas that it lends, a proof for the checker, or a number that is put into the
 // host's record to damage it. Playing an item makes the call, and reports what it answered, the host, and digests of the whole areas and of
 // the kept roots. Numbers are 8 bytes, the lowest first.
+#![tactic(auto)]
+
 ghost use Rattle.std.specs.Prelude.{◌≡◌, ◌≤◌, length};
 
 mod items; // items.rt: each kind of item, and its call

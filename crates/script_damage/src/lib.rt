@@ -1,5 +1,7 @@
 // A number put into the host's record, to damage it. What does not fit is malformed; an index or a value that passed `fits` is within its
 // array or its width, and elsewhere the functions below leave the record as it is. Rests on `host`.
+#![tactic(auto)]
+
 ghost use Rattle.std.specs.Prelude.{◌≡◌, ◌%◌};
 
 use host::{Host, Place, Prices, Program, Progress, Terms};

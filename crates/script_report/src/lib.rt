@@ -1,5 +1,7 @@
 // The bytes of a report on an item of a script: the answer, the host, and digests of the whole areas and of the kept roots. Each function
 // writes from `at` on, and answers where it ended. Rests on `host` and `blake2b`. An inner crate: its caller proves what it requires.
+#![tactic(auto)]
+
 ghost use Rattle.std.specs.Prelude.{◌≡◌, ◌+◌, ◌≤◌, length};
 
 use host::{Host, Place, Program};

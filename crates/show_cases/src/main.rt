@@ -1,5 +1,7 @@
 // Many inputs of the program `show`, from standard input, and what it prints for each, under a line with its place and its length. An input is
 // its length in 8 bytes, and its bytes.
+#![tactic(auto)]
+
 use libc::{STDIN_FILENO, STDOUT_FILENO};
 
 // Input after input. There are no more than `turns` counts.

@@ -1,5 +1,7 @@
 // Records, as `depot` writes them, printed for a person: a line a record, and behind it, indented, the hashes of its proof and its output. A
 // refusal, which is 8 bytes and nothing more, is one line. What makes no sense is told with its place.
+#![tactic(auto)]
+
 ghost use Rattle.std.specs.Prelude.{length};
 ghost use Rattle.showing.specs.Whole.{Whole};
 

@@ -1,6 +1,8 @@
 // Heads in Sia encoding: a contract's id, the instructions of a program with their operands, and the length of its data. Numbers
 // are 8 bytes, the lowest first. What a head's bytes are, and how they are read, stands here; `sia_read` reads them, `sia_write` writes them.
 // Rests on `area`.
+#![tactic(auto)]
+
 ghost use Rattle.std.specs.Prelude.{◌≡◌, length};
 ghost use Rattle.area.specs.Area.{same};
 ghost use Rattle.sia.specs.Number.{number_given, number};

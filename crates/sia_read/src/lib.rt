@@ -1,5 +1,7 @@
 // Reading a head, left to right, up to the first fault. Each section is read from a place of the bytes on: its reader answers document 01's
 // number (0: it read its section), the place behind the section, and the value; on a fault the other two say nothing. Rests on `sia`'s definitions.
+#![tactic(auto)]
+
 ghost use Rattle.std.specs.Prelude.{◌≡◌, ◌≤◌, length, drop, replicate};
 ghost use Rattle.sia.specs.Empty.{no_operand, no_instruction};
 ghost use Rattle.sia.specs.Decode as Says;

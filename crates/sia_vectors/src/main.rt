@@ -1,6 +1,8 @@
 // Heads from standard input, read and written again. A case is 8 bytes with a length, then that many bytes. A line is written for
 // each: the reader's number, and, where that is 0, the head, with one entry past each count, and what the writer makes of it: over an
 // area that is longer, over one that is a byte too short, and of the same head with a count or the length above its limit.
+#![tactic(auto)]
+
 use libc::STDIN_FILENO;
 use sia::{Head, Instruction, Number, Op, Operand};
 use stdout::{decimal, hex, text};

@@ -1,4 +1,6 @@
 // Writing a head: the length of its bytes, and its bytes laid over an area that has room for them. Rests on `sia`'s definitions.
+#![tactic(auto)]
+
 ghost use Rattle.std.specs.Prelude.{◌≡◌, true, ◌+◌, ◌*◌, ◌≤◌, length, take};
 ghost use Rattle.lists.specs.Tests.{every};
 ghost use Rattle.area.specs.Area.{put};

@@ -1,5 +1,7 @@
 // Standard input as one input that may use at most `left` bytes of it: a program that is given one input lends all that there is, and one
 // whose standard input holds many inputs lends each its own length.
+#![tactic(auto)]
+
 ghost use Rattle.std.specs.Prelude.{◌≤◌, ◌<◌, length};
 
 use libc::STDIN_FILENO;

@@ -1,4 +1,6 @@
 // Standard output: words, numbers, and bytes in hexadecimal.
+#![tactic(auto)]
+
 use libc::STDOUT_FILENO;
 
 pub fn text(words: &[u8]) {

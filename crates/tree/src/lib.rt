@@ -2,6 +2,8 @@
 // and within one part of several, and the checker of such proofs. Rests on `blake2b`'s promise.
 // No call has a `requires`: lengths and ranges that are not as stated are refused with document 01's 2. The functions of the modules below
 // are inner ones, and what they require their callers prove.
+#![tactic(auto)]
+
 ghost use Rattle.std.specs.Prelude.{◌≡◌};
 ghost use Rattle.tree.specs.Answers.{root_given, rooted, joined, no_count, count_given, counted};
 

@@ -1,6 +1,8 @@
 // Roots and proofs of segments whose bytes are set by their place, written out for comparison with `expected/main.go`, which makes the same
 // lines by another implementation; and damaged proofs, which the checker refuses: each has the bytes and hashes that the walk for its count
 // and range wants, but for the one thing that its line names.
+#![tactic(auto)]
+
 ghost use Rattle.std.specs.Prelude.{◌+◌, ◌≤◌, length};
 
 use libc::STDIN_FILENO;
