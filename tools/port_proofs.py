@@ -179,14 +179,14 @@ def respell(text, names, notes, live=False):
         if base in loops and not before:
             return m.group(0)
         k = norm(f)
-        if k in names.steps:
-            return base + before + "." + names.steps[k]
-        return m.group(0)
+        new = names.steps.get(k)
+        # a name of Rattle's own, as `slots-1`, never stands for a field's name
+        if new is None or (new.endswith("-1") and not f.endswith("1")):
+            return m.group(0)
+        return base + before + "." + new
 
     text = re.sub(r"(?<![\w.'-])((?:[A-Za-z_][^\s(){}\[\],;.:=\"]*|\)))((?:\.before)*)\.([A-Za-z][^\s(){}\[\],;.:=\"]*)", path, text)
-    # a test that is turned round is stated of what it turns
-    text = re.sub(r"\(not-(?:true|false) _ ([^\s(),;]*\.if-not-[^\s.(),;]+\.(?:true|false))\)", r"\1", text)
-    text = re.sub(r"not-(?:true|false) _ ([^\s(),;]*\.if-not-[^\s.(),;]+\.(?:true|false))", r"\1", text)
+    # an array that was read in place had a name of Rattle's own among the arguments
     for pair in names.of.get("args") or []:
         old, new = pair[0].replace(" ", ""), pair[1].replace(" ", "")
         text = re.sub(re.escape(old) + r"(?![\w'-])", new, text)
@@ -402,6 +402,14 @@ def convert(path, key, of, crate, module):
     inv_text = respell(block(out_inv), names, notes, True)
     ans_text = respell(block(final_ans), names, notes)
     ans_text = re.sub(r"(?<![\w.'-])tie\b", "goal", ans_text)
+    # the test of `!f(..)`, a call: its facts are now the call's own result, not its opposite
+    calls = [n for n in names.steps.values() if n and not n.startswith("if-")]
+    def call(m):
+        return any(n == m.group("f") or n.startswith(m.group("f") + "-") for n in calls)
+    ans_text = re.sub(r"not-(?:true|false) _ (?P<t>[\w.-]*\.if-not-(?P<f>[\w]+)(?:-\d+)?\.(?:true|false))", lambda m: m.group("t") if call(m) else m.group(0), ans_text)
+    ans_text = re.sub(
+        r"ap not \((?P<e>sym [\w.-]+)\)(?P<s>\s*∙\s*)(?P<t>[\w.-]*\.if-not-(?P<f>[\w]+)(?:-\d+)?\.(?:true|false))",
+        lambda m: f"ap not ({m.group('e')}{m.group('s')}{m.group('t')})" if call(m) else m.group(0), ans_text)
 
     def imports(body):
         have = tokens(body)
@@ -422,7 +430,7 @@ def convert(path, key, of, crate, module):
                 n = n.strip()
                 shown = n.split(" as ")[-1].strip()
                 core = shown.replace("◌", "")
-                if shown in have or core in have or core in ops or (core and "◌" in shown and core in body):
+                if shown in have or core in have or core in ops or (core == "[]" and re.search(r"(?<!\w)\[\]", body)) or (core and "◌" in shown and core in body):
                     ns.append(n)
             if ns:
                 rows.append(m.group(1) + "{" + ", ".join(ns) + "}")
