@@ -175,9 +175,17 @@ def respell(text, names, notes):
     def path(m):
         f = m.group(1)
         k = norm(f)
-        if k in names.steps:
-            return "." + names.steps[k]
-        return m.group(0)
+        new = names.steps.get(k)
+        # a name of Rattle's own, as `slots-1`, never stands for a field's name
+        if new is None or (new.endswith("-1") and not m.group(1).endswith("1")):
+            return m.group(0)
+        return "." + new
+    # an array that was read in place had a name of Rattle's own among the arguments
+    for pair in names.of.get("args", []):
+        old, new = ["".join(x.split()) for x in pair]
+        if old.startswith("."):
+            text = re.sub(re.escape(old) + r"(?![\w-])", new, text)
+    text = text.replace(".well-formed", ".well_formed")
     text = re.sub(r"(?<=[\w'\)₀-₉])\.([A-Za-z][^\s(){}\[\],;.:=\"]*)", path, text)
     def tie(m):
         n = m.group(1)
@@ -393,7 +401,7 @@ def convert(path, key, of, crate, module):
                 n = n.strip()
                 shown = n.split(" as ")[-1].strip()
                 core = shown.replace("◌", "")
-                if shown in have or core in have or core in ops or (core and "◌" in shown and core in body):
+                if shown in have or core in have or core in ops or (core == "[]" and re.search(r"(?<!\w)\[\]", body)) or (core and "◌" in shown and core in body):
                     ns.append(n)
             if ns:
                 rows.append(m.group(1) + "{" + ", ".join(ns) + "}")
