@@ -1,13 +1,12 @@
 -- `host::Host::bare` meets its contract: 8 times no contract, and no program. Assumes nothing.
-use Rattle.lists.proofs.Kit.{ap₂, replicate, rules}
+use Rattle.lists.proofs.Kit.{ap₂, replicate}
 use Rattle.area.specs.Area.{zeros}
 use Rattle.host.specs.declared.Place.{Place}
 use Rattle.host.specs.declared.Program.{Program}
 use Rattle.host.specs.Empty.{bare}
-use Rattle.host.proofs.Host.bare.Statement.{statement}
-use Rattle.host.proofs.Host.bare.Tie as tie
+use Rattle.host.proofs.Host.bare.Goals as goal
 
-returns : tie.Need-returns
+pub returns : goal.returns
 unfolding bare
 returns c =
     let a = c.before.before.args in
@@ -20,8 +19,4 @@ returns c =
       diskroots = zeros 2048;
       stageroots = zeros 512;
     })
-    c.before.none.ensures c.none2.ensures
-
-pub bare_spec : {M : Type 1} → statement M
-bare_spec =
-    tie.close (tie.spec (λ c κs. search rules) (λ c κs. search rules) returns)
+    c.before.none-none.ensures c.none-program.ensures
