@@ -7,35 +7,31 @@ use Rattle.area.specs.Little.{value_of}
 use Rattle.area.proofs.Laws.Little.{value-one}
 use Rattle.sia.specs.Decode.{value, flag, reading}
 use Rattle.sia.proofs.Laws.Reading.{short, long}
-use Rattle.sia_read.proofs.flag.Statement.{statement}
-use Rattle.sia_read.proofs.flag.Tie as tie
+use Rattle.sia_read.proofs.flag.Goals as goal
 
-returns-2 : tie.Need-returns-2
+pub returns-then-byte-gt1 : goal.returns-then-byte-gt1
 unfolding flag reading pick
-returns-2 c =
+returns-then-byte-gt1 c =
     let a = c.before.before.before.args in
-    let above : 1 < value_of (part a.bytes.now a.at 1) = omega (arith, c.if2.true, value-one a.bytes.now a.at (omega arith)) in
+    let above : 1 < value_of (part a.bytes.now a.at 1) = omega (arith, c.if-byte-gt1.true, value-one a.bytes.now a.at (omega arith)) in
     record {
       stays = search rules;
-      says = long _ a.bytes.now a.at 1 c.before.before.if1.false (yes _ _ _ (lt-ltb _ _ above) refl);
+      says = long _ a.bytes.now a.at 1 c.before.before.if-bytes-at-lt1.false (yes _ _ _ (lt-ltb _ _ above) refl);
     }
 
-returns-3 : tie.Need-returns-3
+pub returns : goal.returns
 unfolding flag reading pick
-returns-3 c =
+returns c =
     let a = c.before.before.before.args in
     let byte = value-one a.bytes.now a.at (omega arith) in
-    let within : value_of (part a.bytes.now a.at 1) ≤ 1 = omega (arith, c.if2.false) in
+    let within : value_of (part a.bytes.now a.at 1) ≤ 1 = omega (arith, c.if-byte-gt1.false) in
     record {
       stays = omega arith;
       says =
-          long _ a.bytes.now a.at 1 c.before.before.if1.false
+          long _ a.bytes.now a.at 1 c.before.before.if-bytes-at-lt1.false
           (no _ _ _ (le-ltb _ _ within) (ap (λ (n : ℕ). value (eqb n 1) (drop (a.at + 1) a.bytes.now)) byte));
     }
 
-pub flag-spec : {M : Type 1} → statement M
+pub returns-then-bytes-at-lt1 : goal.returns-then-bytes-at-lt1
 unfolding flag
-flag-spec = tie.close (tie.spec
-    (λ c. search rules)
-    (λ c. let a = c.before.args in record { stays = search rules; says = short _ a.bytes.now a.at 1 _ _ c.if1.true })
-    (λ c. search rules) returns-2 (λ c. search rules) returns-3)
+returns-then-bytes-at-lt1 c = let a = c.before.args in record { stays = search rules; says = short _ a.bytes.now a.at 1 _ _ c.if-bytes-at-lt1.true }
