@@ -383,6 +383,14 @@ def convert(path, key, of, crate, module):
     inv_text = respell(block(out_inv), names, notes)
     ans_text = respell(block(final_ans), names, notes)
     ans_text = re.sub(r"(?<![\w.'-])tie\b", "goal", ans_text)
+    # the test of `!f(..)`, a call: its facts are now the call's own result, not its opposite
+    calls = [n for n in names.steps.values() if n and not n.startswith("if-")]
+    def call(m):
+        return any(n == m.group("f") or n.startswith(m.group("f") + "-") for n in calls)
+    ans_text = re.sub(r"not-(?:true|false) _ (?P<t>[\w.-]*\.if-not-(?P<f>[\w]+)(?:-\d+)?\.(?:true|false))", lambda m: m.group("t") if call(m) else m.group(0), ans_text)
+    ans_text = re.sub(
+        r"ap not \((?P<e>sym [\w.-]+)\)(?P<s>\s*∙\s*)(?P<t>[\w.-]*\.if-not-(?P<f>[\w]+)(?:-\d+)?\.(?:true|false))",
+        lambda m: f"ap not ({m.group('e')}{m.group('s')}{m.group('t')})" if call(m) else m.group(0), ans_text)
 
     def imports(body):
         have = tokens(body)
