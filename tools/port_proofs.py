@@ -241,6 +241,8 @@ class Names:
 def respell(text, names, notes, live=False):
     loops = set(re.findall(r"let (\S+) = [^=]*?\.loop[-\w]* in", text)) | ({"l"} if live else set())
 
+    text = re.sub(r"\.(\w+)_lem(?=\.(?:ensures|result|new|auto|captures))", r".\1", text)
+    text = re.sub(r"\.inv(?![\w-])", ".invariant", text)
     for arm in names.of.get("arms") or []:
         for field, old, sub in (arm[2] if arm else []):
             if sub:
@@ -306,7 +308,7 @@ def respell(text, names, notes, live=False):
             notes.append("pre as a whole: " + ", ".join(fs))
     else:
         text = re.sub(r"\.pre(?![\w-])", ".requires", text)
-    text = re.sub(r"(?:tie|lts)\.([^\s(){}\[\],;.:=\"]+)(?: \(calls t\) \(here t\) \w+\.Post)?(?: (?:invariant|decreases)-[^\s(){}\[\],;.:=\"]+)*", tie, text)
+    text = re.sub(r"(?:tie|lts)\.([^\s(){}\[\],;.:=\"]+)(?: \(calls t\) \(here t\) \w+\.Post)?(?: reads\.Pre reads\.Post)?(?: (?:invariant|decreases)-[^\s(){}\[\],;.:=\"]+)*", tie, text)
     return text
 
 
@@ -468,7 +470,7 @@ def convert(path, key, of, crate, module):
     place_of = lambda old: names.places.get(norm(old))
     same, lemmas = [], {}
     for d in decls[:-1]:
-        sig1 = " ".join(" ".join(d["sig"]).split())
+        sig1 = re.sub(r"(?: (?:invariant|decreases)-[^\s()]+)+| reads\.Pre reads\.Post", "", " ".join(" ".join(d["sig"]).split()))
         m1 = re.match(r"(?:abbrev )?(\S+) : (?:\(\w+ : )?(?:tie|lts)\.([A-Z][^\s()]*)\)? → (?:tie|lts)\.([A-Z][^\s()]*)$", sig1)
         if m1 and not m1.group(2).startswith("Need"):
             same.append(d["name"])
@@ -493,7 +495,7 @@ def convert(path, key, of, crate, module):
         else:
             goal = re.sub(r"-clause-.*$", "", name)
             place, cur, var, sigvar = asked_at.get(goal), name if goal in asked_at else None, lhs[-1] if len(lhs) > 1 else "c", None
-            cur = goal if goal in asked_at else None
+            cur = name if goal in asked_at else None
         if sigvar:
             sig = pass_places(flatten(sig, sigvar, same), sigvar, cur, place, lemmas)
         head_, body_ = eq.split(" =", 1) if " =" in eq else (eq, "")
@@ -528,6 +530,8 @@ def convert(path, key, of, crate, module):
         for u in uses:
             line = " ".join(" ".join(u["l"]).split())
             if cycle and re.search(r"borrow\.Fn\.(Kinds|PlainCycle)|\.Reads as |\.Kinds as |\.Lts-\S+ as |\.\{statement\}", line):
+                continue
+            if re.search(r"\.Reads as reads$|\.Lts as lts$", line):
                 continue
             if ".Statement" in line or line.endswith(".Tie as tie") or ".Tie." in line:
                 continue
