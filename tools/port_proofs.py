@@ -174,6 +174,7 @@ def atom(text, i):
 
 def flatten(text, var, same):
     """Says all facts of `var` itself: places that stand before, and names for them, are `var`."""
+    same = [n for n in same if not re.search(r"let " + re.escape(n) + r"\s*=", text)]
     for _ in range(60):
         old = text
         text = re.sub(r"(?:\.before)+(?![\w-])", "", text)
@@ -514,14 +515,23 @@ def convert(path, key, of, crate, module):
     inv_text = respell(block(out_inv), names, notes, True)
     ans_text = respell(block(final_ans), names, notes)
     ans_text = re.sub(r"(?<![\w.'-])tie\b", "goal", ans_text)
-    # the test of `!f(..)`, a call: its facts are now the call's own result, not its opposite
-    calls = [n for n in names.steps.values() if n and not n.startswith("if-")]
+    # the test of `!f(..)`: its facts are now the call's own result, not its opposite
+    calls = {r[2][1] for r in of["places"] if ["fact", "true"] in r[4] or ["fact", "false"] in r[4]}
+
     def call(m):
-        return any(n == m.group("f") or n.startswith(m.group("f") + "-") for n in calls)
-    ans_text = re.sub(r"not-(?:true|false) _ (?P<t>[\w.-]*\.if-not-(?P<f>[\w]+)(?:-\d+)?\.(?:true|false))", lambda m: m.group("t") if call(m) else m.group(0), ans_text)
+        return "if-not-" + m.group("f") in calls
+
+    for old_, new_ in (("left", "false"), ("taken", "true")):
+        ans_text = re.sub(r"(\.(?:if|loop)-[\w-]+)\." + old_ + r"(?![\w-])", r"\1." + new_, ans_text)
+    test = r"(?P<t>(?:\([\w' .-]*\)|[\w'-]+)(?:\.[\w'-]+)*\.if-not-(?P<f>[\w-]+)\.(?:true|false))"
+    ans_text = re.sub(r"not-(?:true|false) _ " + test, lambda m: m.group("t") + "#" if call(m) else m.group(0), ans_text)
     ans_text = re.sub(
-        r"ap not \((?P<e>sym [\w.-]+)\)(?P<s>\s*∙\s*)(?P<t>[\w.-]*\.if-not-(?P<f>[\w]+)(?:-\d+)?\.(?:true|false))",
-        lambda m: f"ap not ({m.group('e')}{m.group('s')}{m.group('t')})" if call(m) else m.group(0), ans_text)
+        r"ap not \((?P<e>sym [\w.'-]+)\)(?P<s>\s*∙\s*)" + test,
+        lambda m: f"ap not ({m.group('e')}{m.group('s')}{m.group('t')}#)" if call(m) else m.group(0), ans_text)
+    more = ans_text
+    ans_text = re.sub(test + r"(?!#)", lambda m: f"(ap not {m.group('t')})" if call(m) else m.group(0), ans_text)
+    more = ["ap", "not"] if ans_text != more else []
+    ans_text = ans_text.replace("#", "")
 
     def imports(body):
         have = tokens(body)
@@ -529,6 +539,8 @@ def convert(path, key, of, crate, module):
         rows = []
         for u in uses:
             line = " ".join(" ".join(u["l"]).split())
+            if line.startswith("use Rattle.lists.proofs.Kit.{"):
+                line = line[:-1] + "".join(", " + n for n in more if not re.search(r"[{ ]" + n + "[,}]", line)) + "}"
             if cycle and re.search(r"borrow\.Fn\.(Kinds|PlainCycle)|\.Reads as |\.Kinds as |\.Lts-\S+ as |\.\{statement\}", line):
                 continue
             if re.search(r"\.Reads as reads$|\.Lts as lts$", line):
