@@ -288,7 +288,24 @@ def respell(text, names, notes, live=False):
         names.used.add(new)
         return new
 
-    text = re.sub(r"\.(?:well-formed|good)(?![\w-])", ".well_formed", text)
+    text = re.sub(r"(?<!\.requires)\.(?:well-formed|good)(?![\w-])", ".well_formed", text)
+    for (place_, prev_, step_, callee_, extra_) in names.of["places"]:
+        ps = names.of["params"].get(callee_) if callee_ else None
+        if not ps:
+            continue
+
+        def given(m, ps=ps):
+            ks = [k for k in m.group(3).split(".") if k]
+            j = 0
+            while ks and j < len(ps) - 1 and ks[0] == "1":
+                ks.pop(0)
+                j += 1
+            if not ks or ks[0] != "0":
+                return m.group(0)
+            ks.pop(0)
+            return f".{m.group(1)}.{m.group(2)}." + ".".join([ps[j]] + ks)
+        for spelled in {step_[0], step_[1]}:
+            text = re.sub(r"\.(" + re.sub(r"[-_]", "[-_]", spelled) + r")\.(new|last|auto)((?:\.[0-9]+)+)(?![\w-])", given, text)
     pre = names.of.get("pre")
     if pre:
         fs = pre["fields"]
