@@ -444,7 +444,7 @@ def convert(path, key, of, crate, module):
             v = "t " + v
         if re.sub(r"\s+", " ", b.strip()) in TRIVIAL:
             # under `unfolding` the check does not open the definition itself
-            if unf and (goal.startswith("returns") or goal.endswith("preserved")):
+            if unf and (goal.startswith("returns") or goal.endswith(("preserved", "init"))):
                 pass
             else:
                 continue
