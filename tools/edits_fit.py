@@ -1,7 +1,7 @@
 #!/usr/bin/env python3
 """Sees that each wrong program fits the text: every `old:` stands exactly once in its file.
 
-usage: python3 tools/edits_fit.py [CRATE..]     must-fail/ and must-fail-more/ of these crates, or of all
+usage: python3 tools/edits_fit.py [CRATE..]     must-fail/ of these crates, or of all
 """
 import glob
 import os
@@ -33,7 +33,7 @@ def faults(path):
 def main():
     bad = 0
     for crate in sys.argv[1:] or sorted(os.listdir("crates")):
-        for path in sorted(glob.glob(f"crates/{crate}/must-fail*/*.edit")):
+        for path in sorted(glob.glob(f"crates/{crate}/must-fail/*.edit")):
             for fault in faults(path):
                 bad += 1
                 print(f"{path}: {fault}")
