@@ -171,14 +171,26 @@ class Names:
         return self.needs.get(norm(old))
 
 
-def respell(text, names, notes):
+def respell(text, names, notes, live=False):
+    loops = set(re.findall(r"let (\S+) = [^=]*?\.loop[-\w]* in", text)) | ({"l"} if live else set())
+
     def path(m):
-        f = m.group(1)
+        base, before, f = m.group(1), m.group(2), m.group(3)
+        if base in loops and not before:
+            return m.group(0)
         k = norm(f)
-        if k in names.steps:
-            return "." + names.steps[k]
-        return m.group(0)
-    text = re.sub(r"(?<=[\w'\)₀-₉])\.([A-Za-z][^\s(){}\[\],;.:=\"]*)", path, text)
+        new = names.steps.get(k)
+        # a name of Rattle's own, as `slots-1`, never stands for a field's name
+        if new is None or (new.endswith("-1") and not f.endswith("1")):
+            return m.group(0)
+        return base + before + "." + new
+
+    text = re.sub(r"(?<![\w.'-])((?:[A-Za-z_][^\s(){}\[\],;.:=\"]*|\)))((?:\.before)*)\.([A-Za-z][^\s(){}\[\],;.:=\"]*)", path, text)
+    # an array that was read in place had a name of Rattle's own among the arguments
+    for pair in names.of.get("args") or []:
+        old, new = pair[0].replace(" ", ""), pair[1].replace(" ", "")
+        text = re.sub(re.escape(old) + r"(?![\w'-])", new, text)
+
     def tie(m):
         n = m.group(1)
         if n.startswith("Need-"):
@@ -200,6 +212,8 @@ def respell(text, names, notes):
             return m.group(0)
         names.used.add(new)
         return new
+
+    text = re.sub(r"\.well-formed(?![\w-])", ".well_formed", text)
     pre = names.of.get("pre")
     if pre:
         fs = pre["fields"]
@@ -220,7 +234,7 @@ def respell(text, names, notes):
             notes.append("pre as a whole: " + ", ".join(fs))
     else:
         text = re.sub(r"\.pre(?![\w-])", ".requires", text)
-    text = re.sub(r"tie\.([^\s(){}\[\],;.:=\"]+)(?: (?:invariant|decreases)-[^\s(){}\[\],;.:=\"]+)*", tie, text)
+    text = re.sub(r"(?:tie|lts)\.([^\s(){}\[\],;.:=\"]+)(?: \(calls t\) \(here t\) \w+\.Post)?(?: (?:invariant|decreases)-[^\s(){}\[\],;.:=\"]+)*", tie, text)
     return text
 
 
@@ -239,12 +253,15 @@ def convert(path, key, of, crate, module):
     uses = [i for i in items if i["kind"] == "use"]
     decls = [i for i in items if i["kind"] == "decl"]
     final = decls[-1]
-    body = "\n".join(final["eq"] or [])
-    m = re.search(r"tie\.spec\b", body)
+    body = re.sub(r"(?m)^\s+--[^\n]*\n", "", "\n".join(final["eq"] or []))
+    cycle = ".+" in module or module.startswith("+")
+    m = re.search(r"(?:tie|lts)\.spec\b", body)
     if not m or not re.match(r".*[_-]spec$", final["name"]):
         return ["not of the form: " + final["name"]]
     args, rest = args_of(body[m.end():])
     spec_unf = final["unf"]
+    if cycle:
+        args = args[3:]
     by = {d["name"]: d for d in decls}
     # leading invariants and measures
     inv = []
@@ -253,6 +270,8 @@ def convert(path, key, of, crate, module):
     answers = {}
     if len(args) != len(names.order):
         notes.append(f"{len(args)} answers for {len(names.order)} needs: " + ", ".join(names.order))
+        if "--force" not in sys.argv:
+            return notes
     pair = list(zip(args, names.order)) if len(args) == len(names.order) else []
     if not pair:
         # by declared type alone
@@ -276,7 +295,7 @@ def convert(path, key, of, crate, module):
         inner = whole_paren(a)
         m2 = re.match(r"λ ([^.]*)\.\s*(.*)$", inner or a, re.S)
         if not m2:
-            direct.append((goal, "c", (inner or a) + " c", None))
+            direct.append((goal, "c", (inner or a) + (" t c" if cycle else " c"), None))
             continue
         vs = m2.group(1).split()
         b = re.sub(r"\s*\n\s*", " ", m2.group(2)) if "record" not in m2.group(2) else m2.group(2)
@@ -287,6 +306,12 @@ def convert(path, key, of, crate, module):
     loops = {l[0][1]: (l[1], ch) for l, ch in zip(of["loops"], of["changed"])}
     kept = []
     for d in decls[:-1]:
+        if cycle and d["name"] in ("here", "calls"):
+            continue
+        if cycle and re.search(r": Measures \d+ kinds\.ps", d["sig"][0]):
+            f = module.rsplit("+", 1)[1]
+            out_inv.append((d["c"], f"abbrev pub decreases-{f} : goal.decreases-{f}", None, f"decreases-{f} l = l.{d['name']}"))
+            continue
         sig = "\n".join(d["sig"])
         t = re.search(r"tie\.(invariant|decreases)-([^\s(){}\[\],;.:=\"]+)", sig)
         if t and d["name"] in inv or (t and re.match(r"abbrev (pub )?\S+ : tie\.(invariant|decreases)-\S+$", sig)):
@@ -323,6 +348,8 @@ def convert(path, key, of, crate, module):
         kept_text = sig
         out_ans.append((d["c"], sig, d["unf"], "\n".join(d["eq"] or []), None))
     for goal, v, b, unf in direct:
+        if cycle:
+            v = "t " + v
         if re.sub(r"\s+", " ", b.strip()) in TRIVIAL:
             # under `unfolding` the check does not open the definition itself
             if unf and (goal.startswith("returns") or goal.endswith("preserved")):
@@ -336,7 +363,7 @@ def convert(path, key, of, crate, module):
         if goal in asked and len(asked[goal]) > 1:
             fields = asked[goal]
             lhs, rhs = eq.split(" =", 1)
-            var = lhs.split()[1]
+            var = " ".join(lhs.split()[1:])
             lets, r = "", rhs.strip()
             mm = re.match(r"((?:let .*? in\s+)+)(\(.*)$", r, re.S)
             if mm and whole_paren(mm.group(2)):
@@ -372,9 +399,17 @@ def convert(path, key, of, crate, module):
         return "\n\n".join(s)
 
     head = [x for x in (items[0]["c"] if items else []) if x.startswith("--")]
-    inv_text = respell(block(out_inv), names, notes)
+    inv_text = respell(block(out_inv), names, notes, True)
     ans_text = respell(block(final_ans), names, notes)
     ans_text = re.sub(r"(?<![\w.'-])tie\b", "goal", ans_text)
+    # the test of `!f(..)`, a call: its facts are now the call's own result, not its opposite
+    calls = [n for n in names.steps.values() if n and not n.startswith("if-")]
+    def call(m):
+        return any(n == m.group("f") or n.startswith(m.group("f") + "-") for n in calls)
+    ans_text = re.sub(r"not-(?:true|false) _ (?P<t>[\w.-]*\.if-not-(?P<f>[\w]+)(?:-\d+)?\.(?:true|false))", lambda m: m.group("t") if call(m) else m.group(0), ans_text)
+    ans_text = re.sub(
+        r"ap not \((?P<e>sym [\w.-]+)\)(?P<s>\s*∙\s*)(?P<t>[\w.-]*\.if-not-(?P<f>[\w]+)(?:-\d+)?\.(?:true|false))",
+        lambda m: f"ap not ({m.group('e')}{m.group('s')}{m.group('t')})" if call(m) else m.group(0), ans_text)
 
     def imports(body):
         have = tokens(body)
@@ -382,6 +417,8 @@ def convert(path, key, of, crate, module):
         rows = []
         for u in uses:
             line = " ".join(" ".join(u["l"]).split())
+            if cycle and re.search(r"borrow\.Fn\.(Kinds|PlainCycle)|\.Reads as |\.Kinds as |\.Lts-\S+ as |\.\{statement\}", line):
+                continue
             if ".Statement" in line or line.endswith(".Tie as tie") or ".Tie." in line:
                 continue
             m = re.match(r"(use [^{]+\.)\{(.*)\}$", line)
@@ -393,7 +430,7 @@ def convert(path, key, of, crate, module):
                 n = n.strip()
                 shown = n.split(" as ")[-1].strip()
                 core = shown.replace("◌", "")
-                if shown in have or core in have or core in ops or (core and "◌" in shown and core in body):
+                if shown in have or core in have or core in ops or (core == "[]" and re.search(r"(?<!\w)\[\]", body)) or (core and "◌" in shown and core in body):
                     ns.append(n)
             if ns:
                 rows.append(m.group(1) + "{" + ", ".join(ns) + "}")
@@ -432,6 +469,10 @@ def main():
         path = os.path.join(folder, "Proof.antt")
         module = os.path.relpath(folder, root).replace(os.sep, ".")
         key = f"Rattle-{crate}-proofs.{module}.Lts"
+        if key not in data:
+            base = module.rsplit("+", 1)
+            if len(base) == 2 and f"Rattle-{crate}-proofs.{module}.Lts-{base[1]}" in data:
+                key = f"Rattle-{crate}-proofs.{module}.Lts-{base[1]}"
         if key not in data:
             cand = [k for k in data if k.startswith(f"Rattle-{crate}-proofs.{module}")]
             print(f"{path}: no names ({cand})")

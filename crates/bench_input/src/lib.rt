@@ -12,7 +12,7 @@ use std::io;
 use std::io::{Read, Write};
 
 // Which section the next byte belongs to.
-#[derive(Drop)]
+#[derive(Clone, Copy)]
 pub enum Section {
     Front,
     Ids,
@@ -23,7 +23,7 @@ pub enum Section {
 
 // Where a reader stands: how many ids are to come behind this one, how many bytes of this section (of this id), how many of the section's
 // bytes are still kept, and how many bytes stand in the area.
-#[derive(Drop)]
+#[derive(Clone, Copy)]
 pub struct Reader {
     pub section: Section,
     pub ids: u64,
@@ -259,7 +259,7 @@ fn lower(all: &mut [u8], at: usize, most: u64)
 }
 
 // Where a reader stands between two reads, and how many bytes are to come at most.
-#[derive(Drop)]
+#[derive(Clone, Copy)]
 struct Turn {
     pub reader: Reader,
     pub left: u64,

@@ -20,7 +20,7 @@ pub fn play(source: &mut impl Read, many: u64, shown: &mut [u8]) -> io::Result<u
 }
 
 // Where a script stands: it may use `left` bytes more, and the reports of the items played end at `end`.
-#[derive(Drop)]
+#[derive(Clone, Copy)]
 struct Stands {
     fine: bool,
     left: u64,

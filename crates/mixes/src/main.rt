@@ -22,7 +22,7 @@ const MOST: u64 = 1_000_000_000;
 
 // Where the visits stand: whether another may follow, the number of a refusal (0: none), the visits done, the bytes of records that the
 // last one wrote, and the host.
-#[derive(Drop)]
+#[derive(Clone, Copy)]
 struct Course {
     on: bool,
     number: u64,

@@ -19,7 +19,7 @@ pub const REPORT: usize = 5_320;
 
 // What an item did. Not fine: it is malformed, and nothing changed. `left` counts the bytes that the script may still use, `written` those of
 // the item's report.
-#[derive(Drop)]
+#[derive(Clone, Copy)]
 pub struct Played {
     pub fine: bool,
     pub left: u64,

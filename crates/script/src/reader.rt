@@ -10,7 +10,7 @@ pub const ITEM: usize = 131_154;
 
 // What has come: the length of the item at the front of its area, 0 where there is no whole one, and how many bytes the script may still
 // use.
-#[derive(Drop)]
+#[derive(Clone, Copy)]
 pub struct Came {
     pub length: usize,
     pub left: u64,
