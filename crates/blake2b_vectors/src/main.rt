@@ -9,8 +9,8 @@ use std::io::Write;
 use stdout::{decimal, hex, text};
 
 fn main(rt: HostRuntime) -> io::Result<()> {
-    let mut source = rt.reader();
-    let mut sink = io::writer(&rt);
+    let mut source = rt.stdin();
+    let mut sink = rt.stdout();
     let passed = self_test::passes();
     if passed {
         text(&mut sink, b"RFC 7693 Appendix E self-test: passed\n")?;

@@ -10,8 +10,8 @@ use std::io;
 use std::io::{Read, Write};
 
 fn main(rt: HostRuntime) -> io::Result<()> {
-    let mut source = rt.reader();
-    let mut sink = io::writer(&rt);
+    let mut source = rt.stdin();
+    let mut sink = rt.stdout();
     let mut disk = [0u8; 262_144];
     let mut stage = [0u8; 65_536];
     let mut input = [0u8; 65_536];

@@ -10,8 +10,8 @@ use std::io::{Read, Write};
 use stdout::{decimal, hex, text};
 
 fn main(rt: HostRuntime) -> io::Result<()> {
-    let mut source = rt.reader();
-    let mut sink = io::writer(&rt);
+    let mut source = rt.stdin();
+    let mut sink = rt.stdout();
     let mut shown = [0u8; 262_144];
     all_cases(&mut source, &mut sink, &mut shown)
 }

@@ -8,8 +8,8 @@ use std::io;
 use std::io::Write;
 
 fn main(rt: HostRuntime) -> io::Result<()> {
-    let mut source = rt.reader();
-    let mut sink = io::writer(&rt);
+    let mut source = rt.stdin();
+    let mut sink = rt.stdout();
     let mut all = [0u8; Reader::KEPT];
     let n = bench_input::gather(&mut source, u64::MAX, false, &mut all)?;
     answer(&mut sink, &all[0..n])

@@ -32,8 +32,8 @@ struct Course {
 }
 
 fn main(rt: HostRuntime) -> io::Result<()> {
-    let mut source = rt.reader();
-    let mut sink = io::writer(&rt);
+    let mut source = rt.stdin();
+    let mut sink = rt.stdout();
     let mut front = [0u8; 96];
     let came = stdin::full(&mut source, &mut front)?;
     if came != AHEAD {

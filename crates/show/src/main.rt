@@ -4,7 +4,7 @@
 use std::io;
 
 fn main(rt: HostRuntime) -> io::Result<()> {
-    let mut source = rt.reader();
-    let mut sink = io::writer(&rt);
+    let mut source = rt.stdin();
+    let mut sink = rt.stdout();
     showing::show_from(&mut source, &mut sink, u64::MAX)
 }

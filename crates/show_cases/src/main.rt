@@ -7,8 +7,8 @@ use std::io::{Read, Write};
 
 // Input after input. There are no more than `turns` counts.
 fn main(rt: HostRuntime) -> io::Result<()> {
-    let mut source = rt.reader();
-    let mut sink = io::writer(&rt);
+    let mut source = rt.stdin();
+    let mut sink = rt.stdout();
     let mut turns: u64 = u64::MAX;
     while 0 < turns {
         let place = u64::MAX - turns;

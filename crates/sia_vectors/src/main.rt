@@ -12,8 +12,8 @@ use stdout::{decimal, hex, text};
 const BEFORE: u8 = 0xaa;
 
 fn main(rt: HostRuntime) -> io::Result<()> {
-    let mut source = rt.reader();
-    let mut sink = io::writer(&rt);
+    let mut source = rt.stdin();
+    let mut sink = rt.stdout();
     let mut left: u64 = 1_000_000;
     while 0 < left {
         if !one_case(&mut source, &mut sink)? {

@@ -552,8 +552,8 @@ fn lay_root(bytes: &[u8], all: &mut [u8], at: usize)
 }
 
 fn main(rt: HostRuntime) -> io::Result<()> {
-    let mut source = rt.reader();
-    let mut sink = io::writer(&rt);
+    let mut source = rt.stdin();
+    let mut sink = rt.stdout();
     let mut bytes = [0u8; 262_208];
     let mut roots = [0u8; 4096];
     let mut out = [0u8; 4096];
