@@ -149,6 +149,73 @@ def plain(t):
     return re.sub(r"\s+", " ", t.strip())
 
 
+WORDRE = r"(?<![\w.'-])%s(?![\w'-])"
+
+
+def atom(text, i):
+    """The argument that begins at i, after blanks: (start, end)."""
+    n = len(text)
+    while i < n and text[i].isspace():
+        i += 1
+    j, depth = i, 0
+    while j < n:
+        ch = text[j]
+        if ch in "([{":
+            depth += 1
+        elif ch in ")]}":
+            if depth == 0:
+                break
+            depth -= 1
+        elif depth == 0 and (ch.isspace() or ch in ",;"):
+            break
+        j += 1
+    return i, j
+
+
+def flatten(text, var, same):
+    """Says all facts of `var` itself: places that stand before, and names for them, are `var`."""
+    for _ in range(60):
+        old = text
+        text = re.sub(r"(?:\.before)+(?![\w-])", "", text)
+        for name in same:
+            m = re.search(WORDRE % re.escape(name) + r"(?= )", text)
+            while m:
+                i, j = atom(text, m.end())
+                text = text[: m.start()] + text[i:j] + text[j:]
+                m = re.search(WORDRE % re.escape(name) + r"(?= )", text)
+        text = re.sub(r"\((" + re.escape(var) + r")\)", r"\1", text)
+        m = re.search(r"let ([^\s=:]+)\s*=\s*" + re.escape(var) + r"\s+in\b\s*", text)
+        if m:
+            x = m.group(1)
+            rest = text[m.end():]
+            rest = re.sub(WORDRE % re.escape(x), lambda _: var, rest) if x != var else rest
+            text = text[: m.start()] + rest
+        if text == old:
+            return text
+    return text
+
+
+def pass_places(text, var, cur, place, lemmas):
+    """Gives each lemma over a place the record of that place."""
+    for name, (at, pos) in lemmas.items():
+        k = 0
+        while True:
+            m = re.compile(WORDRE % re.escape(name)).search(text, k)
+            if not m:
+                break
+            k = m.end()
+            i = m.end()
+            for _ in range(pos + 1):
+                i, j = atom(text, i)
+                if _ < pos:
+                    i = j
+            if text[i:j] == var and at != place and cur:
+                new = f"(goal.at.{cur} {var}).{at}"
+                text = text[:i] + new + text[j:]
+                k = i + len(new)
+    return text
+
+
 class Names:
     def __init__(self, of):
         self.of = of
@@ -173,6 +240,11 @@ class Names:
 
 def respell(text, names, notes, live=False):
     loops = set(re.findall(r"let (\S+) = [^=]*?\.loop[-\w]* in", text)) | ({"l"} if live else set())
+
+    for arm in names.of.get("arms") or []:
+        for field, old, sub in (arm[2] if arm else []):
+            if sub:
+                text = re.sub(r"\." + re.sub(r"[-_]", "[-_]", re.escape(old).replace("\\-", "-")) + "".join(r"\." + re.escape(x) for x in sub) + r"(?![\w'-])", f".{arm[0]}.{field}", text)
 
     def path(m):
         base, before, f = m.group(1), m.group(2), m.group(3)
@@ -213,7 +285,7 @@ def respell(text, names, notes, live=False):
         names.used.add(new)
         return new
 
-    text = re.sub(r"\.well-formed(?![\w-])", ".well_formed", text)
+    text = re.sub(r"\.(?:well-formed|good)(?![\w-])", ".well_formed", text)
     pre = names.of.get("pre")
     if pre:
         fs = pre["fields"]
@@ -390,6 +462,44 @@ def convert(path, key, of, crate, module):
             else:
                 notes.append(f"{goal}: its parts {fields} are not written: {r[:60]}")
         final_ans.append((c, sig, unf, eq))
+
+    # all facts of one record
+    asked_at = dict(zip(names.order, [b for a, b in of["asked_at"]]))
+    place_of = lambda old: names.places.get(norm(old))
+    same, lemmas = [], {}
+    for d in decls[:-1]:
+        sig1 = " ".join(" ".join(d["sig"]).split())
+        m1 = re.match(r"(?:abbrev )?(\S+) : (?:\(\w+ : )?(?:tie|lts)\.([A-Z][^\s()]*)\)? → (?:tie|lts)\.([A-Z][^\s()]*)$", sig1)
+        if m1 and not m1.group(2).startswith("Need"):
+            same.append(d["name"])
+            continue
+        m2 = re.search(r": (.*?)(?:tie|lts)\.((?:After|Else|Then|Start|At|In|Joined)[^\s()]*)", sig1)
+        if m2 and place_of(m2.group(2)):
+            before = re.sub(r"\{[^}]*\}", "", m2.group(1))
+            pos = sum(len(g.split()) for g in re.findall(r"\(([^():]*) :", before[: before.rfind("(")] if "(" in before else ""))
+            lemmas[d["name"]] = (place_of(m2.group(2)), pos)
+    flat_rows = []
+    for c, sig, unf, eq in final_ans:
+        name = name_of(sig)
+        if name in same:
+            continue
+        lhs = eq.split(" =", 1)[0].split()
+        if name in lemmas:
+            place, pos = lemmas[name]
+            m3 = re.search(r"\(([^():]*) : (?:tie|lts)\.(?:After|Else|Then|Start|At|In|Joined)", sig)
+            sigvar = m3.group(1).strip() if m3 else None
+            var = lhs[1 + pos] if len(lhs) > 1 + pos else (sigvar or "c")
+            cur = place
+        else:
+            goal = re.sub(r"-clause-.*$", "", name)
+            place, cur, var, sigvar = asked_at.get(goal), name if goal in asked_at else None, lhs[-1] if len(lhs) > 1 else "c", None
+            cur = goal if goal in asked_at else None
+        if sigvar:
+            sig = pass_places(flatten(sig, sigvar, same), sigvar, cur, place, lemmas)
+        head_, body_ = eq.split(" =", 1) if " =" in eq else (eq, "")
+        body_ = pass_places(flatten(body_, var, same), var, cur, place, lemmas)
+        flat_rows.append((c, sig, unf, head_ + " =" + body_))
+    final_ans = flat_rows
 
     def block(rows):
         s = []

@@ -17,7 +17,7 @@ pub use playing::{begin, least};
 pub use speaking::play;
 
 // What a run answers: document 01's number, how many bytes of the output area are records to be written out, and the host.
-#[derive(Drop)]
+#[derive(Clone, Copy)]
 pub struct Outcome {
     pub number: u64,
     pub written: u64,

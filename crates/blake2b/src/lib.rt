@@ -12,7 +12,7 @@ mod data; // data.rt: the data in blocks
 mod straight; // straight.rt: the one block of a leaf or a node
 
 // Done: 0. Refused: 2, for a digest or a key of another length.
-#[derive(Drop)]
+#[derive(Clone, Copy)]
 pub enum Answer {
     Done,
     Refused,

@@ -19,7 +19,7 @@ pub use sizes::is_size;
 pub use slots::{Slots, below, distinct, free_copy, sectors, slots_taken, staged_in, wide};
 
 // A place for a contract. Of the slots, those below its size in sectors: `slots[p]` is the disk slot of position p.
-#[derive(Drop)]
+#[derive(Clone, Copy)]
 pub struct Place {
     pub held: bool,
     pub id: [u8; 32],
@@ -29,14 +29,14 @@ pub struct Place {
 
 // What instructions are charged.
 #[rattlefmt::skip]
-#[derive(Drop)]
+#[derive(Clone, Copy)]
 pub struct Prices {
     pub init: u16, pub memory: u16,
     pub readbase: u16, pub readlength: u16, pub writebase: u16, pub writelength: u16, pub truncatebase: u16,
 }
 
 // What opening fixes; `room` is the output length.
-#[derive(Drop)]
+#[derive(Clone, Copy)]
 pub struct Terms {
     pub head: Head,
     pub prices: Prices,
@@ -47,14 +47,14 @@ pub struct Terms {
 // What instructions change: how many ran, the tally, the bytes written, the running size, and whether one failed. `staged[p]` is
 // the stage slot of position p, or NONE.
 #[rattlefmt::skip]
-#[derive(Drop)]
+#[derive(Clone, Copy)]
 pub struct Progress {
     pub ran: u64, pub tally: u64, pub written: u64, pub size: u64, pub failed: bool,
     pub staged: [u8; 64],
 }
 
 // The program, if one is open; `came` counts the data bytes that have come.
-#[derive(Drop)]
+#[derive(Clone, Copy)]
 pub struct Program {
     pub active: bool,
     pub terms: Terms,
@@ -64,7 +64,7 @@ pub struct Program {
 
 // The bytes of a sector, the sectors of the disk area and of the stage area, the places for contracts, the program, and a root kept beside
 // each slot of disk and stage: that of slot n is the 32 bytes from 32 * n on.
-#[derive(Drop)]
+#[derive(Clone, Copy)]
 pub struct Host {
     pub sector: u64,
     pub disk: u64,
@@ -76,7 +76,7 @@ pub struct Host {
 }
 
 // What a call answers: document 01's number, and the host.
-#[derive(Drop)]
+#[derive(Clone, Copy)]
 pub struct Made {
     pub number: u64,
     pub host: Host,

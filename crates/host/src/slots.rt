@@ -8,7 +8,7 @@ ghost use Rattle.host.specs.Listed.{listed};
 use crate::{Host, Place};
 
 // Slots in an array: the first `count`. Eight places of 64 fill it.
-#[derive(Drop)]
+#[derive(Clone, Copy)]
 pub struct Slots {
     pub count: usize,
     pub items: [u8; 512],

@@ -13,7 +13,7 @@ use host::{Host, Program};
 use machine_rules::Pair;
 
 // What closing answers: document 01's number, the tally, the growth in bytes, and the host.
-#[derive(Drop)]
+#[derive(Clone, Copy)]
 pub struct Closing {
     pub number: u64,
     pub tally: u64,

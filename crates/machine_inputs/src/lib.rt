@@ -30,7 +30,7 @@ pub fn no_args() -> Args
 }
 
 // The decoder's answer: the arguments, and where Write's data begin in the input area, 0 for all others; or nothing told, which is 23.
-#[derive(Drop)]
+#[derive(Clone, Copy)]
 pub struct Given {
     pub told: bool,
     pub args: Args,
@@ -52,7 +52,7 @@ impl Given {
 }
 
 // What 32 bytes are: an id or a root. Of other lengths nothing is told.
-#[derive(Drop)]
+#[derive(Clone, Copy)]
 pub struct Key {
     pub told: bool,
     pub bytes: [u8; 32],

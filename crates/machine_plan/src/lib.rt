@@ -18,7 +18,7 @@ use machine_sight::Seen;
 use sia::Op;
 
 // What is read: whether it is there, and its sectors.
-#[derive(Drop)]
+#[derive(Clone, Copy)]
 pub struct Source {
     pub there: bool,
     pub seen: Seen,
@@ -26,7 +26,7 @@ pub struct Source {
 
 // An instruction's plan and, where it can run, what it starts from: its arguments, where Write's data begin in the input area, and what it reads. A failure
 // has nothing of these.
-#[derive(Drop)]
+#[derive(Clone, Copy)]
 pub struct Task {
     pub plan: Plan,
     pub op: Op,

@@ -10,7 +10,7 @@ use Rattle.host.specs.Places.{has_id, whose}
 use Rattle.host.specs.Calls.{freshed, formed_at, formed, replaced, dropped}
 use Rattle.machine_rules.specs.View.{turn_of, with_run, parent, volume_by}
 use Rattle.machine_rules.specs.Run.{failed_progress, failing, turned}
-use Rattle.machine_rules.specs.Calls.{piece, Interrupted, interrupt}
+use Rattle.machine_rules.specs.Calls.{Interrupted}
 use Rattle.machine_rules.specs.Calls.{interrupt_by, stopped_by}
 use Rattle.machine_rules.specs.Commit.{Closed, given_up, final_slots, final_place, commit}
 use Rattle.machine_rules.specs.Visit.{Areas, Agreement, stops, closes, Shaped, Declared, Ready}

@@ -12,7 +12,7 @@ use Rattle.lists.proofs.Laws.Apart.{tail_apart, join_apart, apart_out}
 use Rattle.area.specs.Area.{same}
 use Rattle.area.proofs.Laws.Same.{same-eq, same_refl}
 use Rattle.sia.specs.Names.{read_only}
-use Rattle.host.specs.Empty.{no_place, new_place, bare}
+use Rattle.host.specs.Empty.{no_place, new_place}
 use Rattle.host.specs.With.{with_places}
 use Rattle.host.specs.Places.{has_id, whose, committed, taken}
 use Rattle.host.specs.Order.{place_in_order, twins, places_in_order, in_order}

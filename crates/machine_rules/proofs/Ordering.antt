@@ -24,7 +24,7 @@ use Rattle.host.proofs.Laws.Order.{order-facts, facts-staged, came-within}
 use Rattle.machine_rules.specs.View.{turn_of, setting_of, volume_by, volume_of}
 use Rattle.machine_rules.specs.Run.{failing, going, run, turned}
 use Rattle.machine_rules.specs.Calls.{room_right, begun, opened_head, opened, Pieced, accepted, piece, Interrupted, stopped, interrupt}
-use Rattle.machine_rules.specs.Calls.{reached, accepted_by, piece_by, interrupt_by, stopped_by, reached_by}
+use Rattle.machine_rules.specs.Calls.{accepted_by, piece_by, interrupt_by, stopped_by, reached_by}
 use Rattle.machine_rules.specs.Commit.{Closed, given_up, close, agreed_by, close_by}
 use Rattle.machine_rules.specs.Visit.{Areas, Opening, Agreement, opens, gives, stops, closes, Declared}
 use Rattle.machine_rules.specs.Outcome.{Refused}

@@ -4,7 +4,7 @@ use lib.IntN.{pos}
 use Rattle.lists.specs.Pick.{pick}
 use Rattle.host.specs.Calls.{formed, dropped}
 use Rattle.host.specs.Calls as Contract
-use Rattle.machine_rules.specs.Calls.{answered, opened_head, opened, pieced, piece, interrupted, interrupt, reached_at, no_pair, reached}
+use Rattle.machine_rules.specs.Calls.{answered, opened_head, opened, pieced, interrupted, reached_at, no_pair}
 use Rattle.machine_rules.specs.Calls.{accepted_by, piece_by, interrupt_by, stopped_by, reached_by}
 use Rattle.machine_rules.specs.Commit.{closed, given_up, commit, agreed_by, close_by}
 use Rattle.machine_rules.specs.Visit.{Areas}

@@ -12,7 +12,7 @@ use Rattle.host.specs.Calls.{answered, length_right, freshed, formed, dropped}
 use Rattle.host.proofs.Laws.Sizes.{size-facts, power_size}
 use Rattle.host.proofs.Laws.Order.{facts-lent}
 use Rattle.machine_rules.specs.View.{with_run}
-use Rattle.machine_rules.specs.Calls.{Pieced, Interrupted, opened_head, opened, accepted_by, piece, stopped_by, interrupt, piece_by, interrupt_by}
+use Rattle.machine_rules.specs.Calls.{Pieced, Interrupted, opened_head, opened, accepted_by, stopped_by, piece_by, interrupt_by}
 use Rattle.machine_rules.specs.Commit.{Closed, given_up, commit}
 use Rattle.machine_rules.specs.Visit.{Areas, Opening, Agreement, opens, gives, stops, closes}
 use Rattle.machine_rules.specs.Sectors.{Fixed, FullSectors}

@@ -28,7 +28,7 @@ use Rattle.host.specs.declared.Host.{Host}
 use Rattle.machine_rules.specs.declared.Spot.{Spot}
 use Rattle.machine_rules.specs.declared.Spot.TheVariants.{OnDisk, InStage}
 use Rattle.machine_rules.specs.declared.Plan.{Plan}
-use Rattle.machine_rules.proofs.Laws.Looks.{same-finds, found, looks}
+use Rattle.machine_rules.proofs.Laws.Looks.{same-finds, looks}
 
 -- ---- what ReadSector reads
 

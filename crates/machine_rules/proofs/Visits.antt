@@ -6,7 +6,7 @@ use Rattle.machine_rules.specs.View as View
 use Rattle.machine_rules.specs.View.{turn_of, parent, setting_of, volume_by, volume_of}
 use Rattle.machine_rules.specs.Roots.{kept_root, root_by, root_of}
 use Rattle.machine_rules.specs.Record.{pair_of, starting_pair}
-use Rattle.machine_rules.specs.Calls.{Pieced, accepted}
+use Rattle.machine_rules.specs.Calls.{Pieced}
 use Rattle.machine_rules.specs.Commit.{Closed}
 use Rattle.machine_rules.specs.Visit.{Areas, Opening, Agreement, opens, Declared, Visit}
 use Rattle.machine_rules.specs.Trace.{together, lent_to, visited, left_by, made, after}

@@ -4,7 +4,7 @@ ghost use Rattle.machine_rules.specs.Class.{class_of};
 
 // Invalid and Host are the classes of document 01's table of checks; an interrupt's number is of a class of its own. No record has a number
 // of class Unknown.
-#[derive(Drop)]
+#[derive(Clone, Copy)]
 pub enum Class {
     Done,
     Interrupted,

@@ -7,7 +7,7 @@ pub mod class; // class.rt: the class of a record's number
 use host::{Host, Place, Terms};
 
 // What stays while the instructions of a program run: the size of a sector, the sectors of disk and stage, the contracts, and the terms of the program.
-#[derive(Drop)]
+#[derive(Clone, Copy)]
 pub struct Setting {
     pub sector: u64,
     pub disksectors: u64,
@@ -18,7 +18,7 @@ pub struct Setting {
 
 // What kinds of instructions differ in: whether there is such an instruction, how many operands it has, its time, whether it hands out what it reads,
 // and whether it changes the parent.
-#[derive(Drop)]
+#[derive(Clone, Copy)]
 pub struct Kind {
     pub known: bool,
     pub operands: u64,
@@ -28,7 +28,7 @@ pub struct Kind {
 }
 
 // What an instruction's inputs say: an id or root, zeros where there is none; two offsets, the first also Truncate's new size; and a length.
-#[derive(Drop)]
+#[derive(Clone, Copy)]
 pub struct Args {
     pub key: [u8; 32],
     pub first: u64,
@@ -38,7 +38,7 @@ pub struct Args {
 
 // The plan of an instruction: the number of its failure and nothing else, or 0 with its cost, the parent's new size, the hashes of its proof and the length
 // of its record.
-#[derive(Drop)]
+#[derive(Clone, Copy)]
 pub struct Plan {
     pub number: u64,
     pub cost: u64,
@@ -48,14 +48,14 @@ pub struct Plan {
 }
 
 // Where the bytes of a sector are: in a slot of the disk, or of the stage.
-#[derive(Drop)]
+#[derive(Clone, Copy)]
 pub enum Spot {
     OnDisk(usize),
     InStage(usize),
 }
 
 // A sector by the place of its contract and its position there, and where its bytes are.
-#[derive(Drop)]
+#[derive(Clone, Copy)]
 pub struct Seat {
     pub place: usize,
     pub position: usize,
@@ -63,14 +63,14 @@ pub struct Seat {
 }
 
 // What a look-up by root comes to: a sector, or none.
-#[derive(Drop)]
+#[derive(Clone, Copy)]
 pub enum Sought {
     At(Seat),
     Nowhere,
 }
 
 // What opening, a piece and an interrupt answer: document 01's number, the tally, and the host.
-#[derive(Drop)]
+#[derive(Clone, Copy)]
 pub struct Answer {
     pub number: u64,
     pub tally: u64,
@@ -78,14 +78,14 @@ pub struct Answer {
 }
 
 // A size and a root.
-#[derive(Drop)]
+#[derive(Clone, Copy)]
 pub struct Pair {
     pub size: u64,
     pub root: [u8; 32],
 }
 
 // The size and root that a program has reached.
-#[derive(Drop)]
+#[derive(Clone, Copy)]
 pub struct Reached {
     pub number: u64,
     pub size: u64,
@@ -93,7 +93,7 @@ pub struct Reached {
 }
 
 // What the call that asks whether a host is sound answers: document 01's number, and yes or no.
-#[derive(Drop)]
+#[derive(Clone, Copy)]
 pub struct Sounded {
     pub number: u64,
     pub sound: bool,
@@ -101,7 +101,7 @@ pub struct Sounded {
 
 // What the call that looks a root up answers: document 01's number, whether a sector with that root is found, the place of its contract, its
 // position there, and whether the stage holds it.
-#[derive(Drop)]
+#[derive(Clone, Copy)]
 pub struct Located {
     pub number: u64,
     pub found: bool,

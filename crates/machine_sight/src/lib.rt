@@ -16,7 +16,7 @@ pub use sectors::{sector, span, spot_of};
 pub use sights::{committed_seen, one, parent_seen};
 
 // What is seen: the first `count` positions. `slots[p]` is the disk slot of position p, `staged[p]` its stage slot, or Progress::NONE.
-#[derive(Drop)]
+#[derive(Clone, Copy)]
 pub struct Seen {
     pub count: usize,
     pub slots: [u8; 64],

@@ -14,14 +14,14 @@ mod limits; // limits.rt: the limits of a head
 pub use limits::within;
 
 // A part of the input that an instruction names.
-#[derive(Drop)]
+#[derive(Clone, Copy)]
 pub struct Operand {
     pub offset: u64,
     pub len: u64,
 }
 
 // Of the operands, the first `count`.
-#[derive(Drop)]
+#[derive(Clone, Copy)]
 pub struct Instruction {
     pub name: [u8; 16],
     pub count: u64,
@@ -30,7 +30,7 @@ pub struct Instruction {
 }
 
 // Of the instructions, the first `count`; `length` is the declared length of the data.
-#[derive(Drop)]
+#[derive(Clone, Copy)]
 pub struct Head {
     pub contract: [u8; 32],
     pub count: u64,
@@ -39,27 +39,27 @@ pub struct Head {
 }
 
 // The reader's answer: 0, 9 or 10, and the head, which is empty on a fault.
-#[derive(Drop)]
+#[derive(Clone, Copy)]
 pub struct Told {
     pub number: u64,
     pub head: Head,
 }
 
 // The writer's answer: 0, 2 or 10, and the length of what it wrote.
-#[derive(Drop)]
+#[derive(Clone, Copy)]
 pub struct Written {
     pub number: u64,
     pub length: usize,
 }
 
 // What 8 bytes are; other lengths are refused.
-#[derive(Drop)]
+#[derive(Clone, Copy)]
 pub enum Number {
     Is(u64),
     Refused,
 }
 
-#[derive(Drop)]
+#[derive(Clone, Copy)]
 pub enum Op {
     Read,
     ReadSector,

@@ -9,49 +9,49 @@ ghost use Rattle.sia.specs.Decode.{Reads, decode};
 
 use sia::{Head, Instruction, Operand, Told};
 
-#[derive(Drop)]
+#[derive(Clone, Copy)]
 struct ReadNumber {
     pub number: u64,
     pub next: usize,
     pub value: u64,
 }
 
-#[derive(Drop)]
+#[derive(Clone, Copy)]
 struct ReadFlag {
     pub number: u64,
     pub next: usize,
     pub value: bool,
 }
 
-#[derive(Drop)]
+#[derive(Clone, Copy)]
 struct ReadOperand {
     pub number: u64,
     pub next: usize,
     pub value: Operand,
 }
 
-#[derive(Drop)]
+#[derive(Clone, Copy)]
 struct ReadOperands {
     pub number: u64,
     pub next: usize,
     pub list: [Operand; 4],
 }
 
-#[derive(Drop)]
+#[derive(Clone, Copy)]
 struct ReadInstruction {
     pub number: u64,
     pub next: usize,
     pub value: Instruction,
 }
 
-#[derive(Drop)]
+#[derive(Clone, Copy)]
 struct ReadInstructions {
     pub number: u64,
     pub next: usize,
     pub list: [Instruction; 32],
 }
 
-#[derive(Drop)]
+#[derive(Clone, Copy)]
 struct ReadHead {
     pub number: u64,
     pub next: usize,

@@ -9,7 +9,7 @@ ghost use Rattle.tree.specs.Asks.{Rebuilt};
 use crate::{asked, hashing, walks};
 
 // What the checker takes.
-#[derive(Drop)]
+#[derive(Clone, Copy)]
 pub struct Checker {}
 
 impl Checker {
@@ -18,7 +18,7 @@ impl Checker {
 }
 
 // A root rebuilt, and the byte at which the next hash stands.
-#[derive(Drop)]
+#[derive(Clone, Copy)]
 struct Built {
     pub root: [u8; 32],
     pub next: usize,

@@ -19,19 +19,19 @@ mod walks; // walks.rt: down the tree
 pub use checking::{Checker, check};
 pub use proving::{prove, prove_in};
 
-#[derive(Drop)]
+#[derive(Clone, Copy)]
 pub enum Answer {
     Done,
     Refused,
 }
 
-#[derive(Drop)]
+#[derive(Clone, Copy)]
 pub struct Rooted {
     pub answer: Answer,
     pub root: [u8; 32],
 }
 
-#[derive(Drop)]
+#[derive(Clone, Copy)]
 pub struct Counted {
     pub answer: Answer,
     pub count: usize,

@@ -1,6 +1,6 @@
 -- The record of a host under new ids: ids come in only where they are compared, with each other and with the ReadOnly word, so every test of
 -- a place, of places and of order is as it was. Assumes nothing.
-use Rattle.lists.proofs.Kit.{◌≡◌, refl, sym, ap, ap₂, ◌∙◌, Bool, true, false, not, List, [], ◌∷◌, ◌++◌, ℕ, ◌+◌, ◌/◌, ◌%◌, length, leb, ltb, eqb}
+use Rattle.lists.proofs.Kit.{◌≡◌, refl, sym, ap, ap₂, ◌∙◌, Bool, true, false, not, List, [], ◌∷◌, ◌++◌, ℕ, ◌+◌, ◌/◌, ◌%◌, leb, ltb, eqb}
 use Rattle.lists.specs.Pick.{pick, both, either}
 use Rattle.lists.specs.Tests.{every, some, each, apart, sum}
 use Rattle.lists.proofs.Laws.Pick.{by, picks, skips}

@@ -7,7 +7,6 @@ use Rattle.lists.specs.Tests.{every}
 use Rattle.lists.proofs.Laws.Pick.{by, picks, skips, never, both_left, neither}
 use Rattle.lists.proofs.Laws.Every.{every-at}
 use Rattle.area.proofs.Laws.Parts.{length_part}
-use Rattle.area.proofs.Laws.Slots as Slots
 use Rattle.area.proofs.Laws.Slots.{slot-length}
 use Rattle.machine_rules.specs.View.{sector, Volume}
 use Rattle.machine_rules.specs.declared.Setting.{Setting}

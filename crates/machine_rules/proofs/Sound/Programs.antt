@@ -9,7 +9,6 @@ use Rattle.machine_rules.specs.Record.{pairing, same_pair, pair_of, starting_pai
 use Rattle.machine_rules.specs.Run.{run, Stepped, turned}
 use Rattle.machine_rules.specs.Calls.{pieced, accepted_by, piece_by, interrupted, stopped_by, interrupt_by, reached_at, reached_pair_by, reached_by}
 use Rattle.machine_rules.specs.Commit.{given_up, commit, agreed_by, close_by}
-use Rattle.machine_rules.specs.Sound.{right}
 use Rattle.machine_rules.specs.Visit.{Areas, Agreement, Sound, named, gives_by, stops_by, reaches_by, closes_by}
 use Rattle.machine_rules.specs.Trace.{whole_run_by}
 use Rattle.machine_rules.proofs.Laws.Readers.{root-agree, all_start, with_way, known-disk}

@@ -1,7 +1,6 @@
 -- A run with kept roots is the run with roots worked out from bytes, and keeps them right. Assumes nothing.
 use Rattle.lists.proofs.Kit.{◌≡◌, refl, sym, ap, ap₂, ◌∙◌, subst, true, List, ◌∷◌, ℕ, zero, suc}
 use Rattle.lists.proofs.Laws.Pick.{by}
-use Rattle.area.proofs.Laws.Slots as Slots
 use Rattle.machine_rules.specs.View.{kept, worked, Turn, Volume}
 use Rattle.machine_rules.specs.declared.Setting.{Setting}
 use Rattle.machine_rules.specs.Inputs.{inputs_of}

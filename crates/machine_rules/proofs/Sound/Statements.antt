@@ -13,10 +13,8 @@ use Rattle.machine_rules.specs.declared.Setting.{Setting}
 use Rattle.machine_rules.specs.Roots.{root_by, root_of, root_on_disk}
 use Rattle.machine_rules.specs.Record.{pair_of, running_pair}
 use Rattle.machine_rules.specs.Facts.{Solid, valid}
-use Rattle.machine_rules.specs.Calls.{Pieced, piece, interrupt}
-use Rattle.machine_rules.specs.Sound.{right}
+use Rattle.machine_rules.specs.Calls.{Pieced}
 use Rattle.machine_rules.specs.Visit.{Areas, opens, gives, Ready, Sound}
-use Rattle.machine_rules.specs.Depot.{forming, dropping, opening, closing}
 use Rattle.machine_rules.specs.KeptRoots.{Faithful, Bytewise, Sounds}
 use Rattle.machine_rules.specs.Trace.{lent_to, sectors_of, running, running_sectors, fed_by}
 use Rattle.machine_rules.proofs.Laws.Outputs.{sector-length}

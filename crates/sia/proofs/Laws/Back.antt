@@ -1,6 +1,6 @@
 -- Writing what was read: the bytes of what a section was read as, in front of the bytes behind it, are the bytes that were read.
 -- Assumes nothing.
-use Rattle.lists.proofs.Kit.{◌≡◌, refl, sym, ap, ◌∙◌, subst, List, [], ◌∷◌, ◌++◌, append_assoc, ℕ, zero, suc, ◌+◌, ◌≤◌, arith, length, take}
+use Rattle.lists.proofs.Kit.{◌≡◌, refl, sym, ap, ◌∙◌, subst, List, [], ◌∷◌, ◌++◌, append_assoc, ℕ, zero, suc, ◌≤◌, arith, length, take}
 use Rattle.lists.proofs.Kit.{take-append-drop, take_at, length-take-le, ltb, eqb, ltb-false}
 use Rattle.area.specs.Little.{value_of, bytes_of, le8, Bytes}
 use Rattle.area.proofs.Laws.Little.{bytes-value}

@@ -3,8 +3,7 @@ use Rattle.lists.proofs.Kit.{◌≡◌, sym, ◌∙◌, List, map, ℕ, length, 
 use mir.Val.{Val}
 use denote.Laws.{Is}
 use denote.Struct.Declared.{row}
-use denote.Struct.Field.{Field, u8-field}
-use Rattle.sia.specs.contracts.Operand as operand
+use denote.Struct.Field.{Field}
 use Rattle.sia.specs.contracts.Instruction as instruction
 use Rattle.sia.specs.contracts.Head as head
 use Rattle.sia.specs.declared.Instruction.{Instruction}
@@ -15,7 +14,7 @@ pub long : (F : Field) (l : List F.Value) {n : ℕ} → length (map F.into l) �
 long F l e = sym (length-map l F.into) ∙ e
 
 pub known-instruction : (x : Instruction) (vs : List Val) → Is (row instruction.the_type) x vs → (length x.name ≡ 16) × (length x.operands ≡ 4)
-known-instruction x vs g = (long u8-field x.name g.1.1.0.1.0.1, long operand.the_field x.operands g.1.1.1.1.0.1.0.1)
+known-instruction x vs g = (g.1.1.0.1.0.1, g.1.1.1.1.0.1.0.1)
 
 pub known-head : (h : Head) (vs : List Val) → Is (row head.the_type) h vs → (length h.contract ≡ 32) × (length h.instructions ≡ 32)
-known-head h vs g = (long u8-field h.contract g.1.1.0.1.0.1, long instruction.the_field h.instructions g.1.1.1.1.0.1.0.1)
+known-head h vs g = (g.1.1.0.1.0.1, g.1.1.1.1.0.1.0.1)

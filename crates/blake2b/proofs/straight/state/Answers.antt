@@ -1,0 +1,15 @@
+-- `blake2b::straight::state` meets its contract: the parts of F, put together, and the message is one block. Assumes nothing.
+use Rattle.lists.proofs.Kit.{ap, ◌∙◌, arith}
+use Rattle.blake2b.specs.Blake2b.{finished}
+use Rattle.blake2b.proofs.Laws.Steps.{whole}
+use Rattle.blake2b.proofs.Laws.Data.{of_words, one_block}
+use Rattle.blake2b.proofs.straight.state.Goals as goal
+
+pub returns : goal.returns
+returns c =
+    let at_block = c.before.before.before in
+    let at-start = at_block.before in
+    let a = at-start.before.before.args in
+    let parts = whole _ _ _ _ c.before.before.local.ensures c.before.rounds_again.ensures c.folded.ensures in
+    let block = of_words _ _ _ _ at_block.block.ensures parts in
+    one_block _ _ _ (omega arith) (omega arith) block ∙ ap (finished a.message.now) at-start.start-h.ensures
