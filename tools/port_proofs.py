@@ -174,6 +174,7 @@ def atom(text, i):
 
 def flatten(text, var, same):
     """Says all facts of `var` itself: places that stand before, and names for them, are `var`."""
+    same = [n for n in same if not re.search(r"let " + re.escape(n) + r"\s*=", text)]
     for _ in range(60):
         old = text
         text = re.sub(r"(?:\.before)+(?![\w-])", "", text)
@@ -241,6 +242,8 @@ class Names:
 def respell(text, names, notes, live=False):
     loops = set(re.findall(r"let (\S+) = [^=]*?\.loop[-\w]* in", text)) | ({"l"} if live else set())
 
+    text = re.sub(r"\.(\w+)_lem(?=\.(?:ensures|result|new|auto|captures))", r".\1", text)
+    text = re.sub(r"\.inv(?![\w-])", ".invariant", text)
     for arm in names.of.get("arms") or []:
         for field, old, sub in (arm[2] if arm else []):
             if sub:
@@ -285,7 +288,24 @@ def respell(text, names, notes, live=False):
         names.used.add(new)
         return new
 
-    text = re.sub(r"\.(?:well-formed|good)(?![\w-])", ".well_formed", text)
+    text = re.sub(r"(?<!\.requires)\.(?:well-formed|good)(?![\w-])", ".well_formed", text)
+    for (place_, prev_, step_, callee_, extra_) in names.of["places"]:
+        ps = names.of["params"].get(callee_) if callee_ else None
+        if not ps:
+            continue
+
+        def given(m, ps=ps):
+            ks = [k for k in m.group(3).split(".") if k]
+            j = 0
+            while ks and j < len(ps) - 1 and ks[0] == "1":
+                ks.pop(0)
+                j += 1
+            if not ks or ks[0] != "0":
+                return m.group(0)
+            ks.pop(0)
+            return f".{m.group(1)}.{m.group(2)}." + ".".join([ps[j]] + ks)
+        for spelled in {step_[0], step_[1]}:
+            text = re.sub(r"\.(" + re.sub(r"[-_]", "[-_]", spelled) + r")\.(new|last|auto)((?:\.[0-9]+)+)(?![\w-])", given, text)
     pre = names.of.get("pre")
     if pre:
         fs = pre["fields"]
@@ -306,7 +326,7 @@ def respell(text, names, notes, live=False):
             notes.append("pre as a whole: " + ", ".join(fs))
     else:
         text = re.sub(r"\.pre(?![\w-])", ".requires", text)
-    text = re.sub(r"(?:tie|lts)\.([^\s(){}\[\],;.:=\"]+)(?: \(calls t\) \(here t\) \w+\.Post)?(?: (?:invariant|decreases)-[^\s(){}\[\],;.:=\"]+)*", tie, text)
+    text = re.sub(r"(?:tie|lts)\.([^\s(){}\[\],;.:=\"]+)(?: \(calls t\) \(here t\) \w+\.Post)?(?: reads\.Pre reads\.Post)?(?: (?:invariant|decreases)-[^\s(){}\[\],;.:=\"]+)*", tie, text)
     return text
 
 
@@ -468,7 +488,7 @@ def convert(path, key, of, crate, module):
     place_of = lambda old: names.places.get(norm(old))
     same, lemmas = [], {}
     for d in decls[:-1]:
-        sig1 = " ".join(" ".join(d["sig"]).split())
+        sig1 = re.sub(r"(?: (?:invariant|decreases)-[^\s()]+)+| reads\.Pre reads\.Post", "", " ".join(" ".join(d["sig"]).split()))
         m1 = re.match(r"(?:abbrev )?(\S+) : (?:\(\w+ : )?(?:tie|lts)\.([A-Z][^\s()]*)\)? → (?:tie|lts)\.([A-Z][^\s()]*)$", sig1)
         if m1 and not m1.group(2).startswith("Need"):
             same.append(d["name"])
@@ -493,7 +513,7 @@ def convert(path, key, of, crate, module):
         else:
             goal = re.sub(r"-clause-.*$", "", name)
             place, cur, var, sigvar = asked_at.get(goal), name if goal in asked_at else None, lhs[-1] if len(lhs) > 1 else "c", None
-            cur = goal if goal in asked_at else None
+            cur = name if goal in asked_at else None
         if sigvar:
             sig = pass_places(flatten(sig, sigvar, same), sigvar, cur, place, lemmas)
         head_, body_ = eq.split(" =", 1) if " =" in eq else (eq, "")
@@ -512,14 +532,23 @@ def convert(path, key, of, crate, module):
     inv_text = respell(block(out_inv), names, notes, True)
     ans_text = respell(block(final_ans), names, notes)
     ans_text = re.sub(r"(?<![\w.'-])tie\b", "goal", ans_text)
-    # the test of `!f(..)`, a call: its facts are now the call's own result, not its opposite
-    calls = [n for n in names.steps.values() if n and not n.startswith("if-")]
+    # the test of `!f(..)`: its facts are now the call's own result, not its opposite
+    calls = {r[2][1] for r in of["places"] if ["fact", "true"] in r[4] or ["fact", "false"] in r[4]}
+
     def call(m):
-        return any(n == m.group("f") or n.startswith(m.group("f") + "-") for n in calls)
-    ans_text = re.sub(r"not-(?:true|false) _ (?P<t>[\w.-]*\.if-not-(?P<f>[\w]+)(?:-\d+)?\.(?:true|false))", lambda m: m.group("t") if call(m) else m.group(0), ans_text)
+        return "if-not-" + m.group("f") in calls
+
+    for old_, new_ in (("left", "false"), ("taken", "true")):
+        ans_text = re.sub(r"(\.(?:if|loop)-[\w-]+)\." + old_ + r"(?![\w-])", r"\1." + new_, ans_text)
+    test = r"(?P<t>(?:\([\w' .-]*\)|[\w'-]+)(?:\.[\w'-]+)*\.if-not-(?P<f>[\w-]+)\.(?:true|false))"
+    ans_text = re.sub(r"not-(?:true|false) _ " + test, lambda m: m.group("t") + "#" if call(m) else m.group(0), ans_text)
     ans_text = re.sub(
-        r"ap not \((?P<e>sym [\w.-]+)\)(?P<s>\s*∙\s*)(?P<t>[\w.-]*\.if-not-(?P<f>[\w]+)(?:-\d+)?\.(?:true|false))",
-        lambda m: f"ap not ({m.group('e')}{m.group('s')}{m.group('t')})" if call(m) else m.group(0), ans_text)
+        r"ap not \((?P<e>sym [\w.'-]+)\)(?P<s>\s*∙\s*)" + test,
+        lambda m: f"ap not ({m.group('e')}{m.group('s')}{m.group('t')}#)" if call(m) else m.group(0), ans_text)
+    more = ans_text
+    ans_text = re.sub(test + r"(?!#)", lambda m: f"(ap not {m.group('t')})" if call(m) else m.group(0), ans_text)
+    more = ["ap", "not"] if ans_text != more else []
+    ans_text = ans_text.replace("#", "")
 
     def imports(body):
         have = tokens(body)
@@ -527,7 +556,11 @@ def convert(path, key, of, crate, module):
         rows = []
         for u in uses:
             line = " ".join(" ".join(u["l"]).split())
+            if line.startswith("use Rattle.lists.proofs.Kit.{"):
+                line = line[:-1] + "".join(", " + n for n in more if not re.search(r"[{ ]" + n + "[,}]", line)) + "}"
             if cycle and re.search(r"borrow\.Fn\.(Kinds|PlainCycle)|\.Reads as |\.Kinds as |\.Lts-\S+ as |\.\{statement\}", line):
+                continue
+            if re.search(r"\.Reads as reads$|\.Lts as lts$", line):
                 continue
             if ".Statement" in line or line.endswith(".Tie as tie") or ".Tie." in line:
                 continue
