@@ -15,7 +15,6 @@ use Rattle.machine_rules.proofs.Laws.Few.{few-spots}
 use Rattle.machine_sight.specs.Seen.{spots_of, Inside, Ranged}
 use Rattle.machine_sight.proofs.Laws.Roots.{seen-count}
 use Rattle.machine_sight.proofs.Callers.{span-inside, range-ranged}
-use Rattle.machine_effect.specs.Asks as Effect
 use Rattle.machine_plan.specs.Planned.{said}
 use Rattle.machine_step.specs.Asks.{Tasked}
 use Rattle.machine_step.proofs.Laws.Task.{Fits, fits}

@@ -6,11 +6,9 @@ use Rattle.lists.proofs.Laws.Pick.{both_left, both_right}
 use Rattle.sia.specs.Encode.{within}
 use Rattle.host.specs.Order.{terms_in_order}
 use Rattle.machine_rules.specs.View.{Turn, parent, Volume}
-use Rattle.machine_rules.specs.Plan.{spots}
 use Rattle.machine_rules.specs.Facts.{Solid, Good}
 use Rattle.machine_sight.specs.Seen.{spots_of}
 use Rattle.machine_sight.proofs.Looks.{program-seeks}
-use Rattle.machine_effect.specs.Asks as Effect
 use Rattle.machine_step.specs.Asks.{Reads, Steps}
 use Rattle.machine_rules.specs.declared.Setting.{Setting}
 use Rattle.lists.proofs.Kit.{◌≡◌, ap, ◌∙◌, List, ℕ, ◌/◌, arith}

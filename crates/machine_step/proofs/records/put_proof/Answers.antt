@@ -1,0 +1,24 @@
+-- `machine_step::records::put_proof` meets its contract: nothing is laid where no proof is asked. Assumes nothing.
+use Rattle.lists.proofs.Kit.{sym, ap, subst, ◌∙◌, List, [], ℕ, ◌≤◌, length}
+use Rattle.lists.proofs.Laws.Pick.{picks, skips}
+use Rattle.area.specs.Area.{put}
+use Rattle.area.proofs.Laws.Puts.{put-nil}
+use Rattle.sia.proofs.Laws.Joined.{lay-same}
+use Rattle.machine_step.specs.Shown.{shown_proof}
+use Rattle.machine_step.proofs.records.put_proof.Goals as goal
+
+pub range_proof-requires : goal.range_proof-requires
+unfolding shown_proof
+range_proof-requires c = let asked = c.if-asked.true in
+    let out = c.args.out.now in
+    let room = subst (λ (l : List ℕ). length l ≤ length out) (picks c.args.asked _ [] asked) c.requires.n_in_bounds in
+    record { known = c.requires.known; lies = c.requires.lies; ranged = c.requires.ranged asked; n_in_bounds = room }
+
+pub returns-then-asked : goal.returns-then-asked
+unfolding shown_proof
+returns-then-asked c =
+    lay-same _ 0 _ c.range_proof.ensures (sym (picks _ _ [] c.if-asked.true))
+
+pub returns-else-asked : goal.returns-else-asked
+unfolding shown_proof
+returns-else-asked c = sym (ap (put _ 0) (skips _ _ [] c.if-asked.false) ∙ put-nil _ 0)
