@@ -179,11 +179,11 @@ def flatten(text, var, same):
         old = text
         text = re.sub(r"(?:\.before)+(?![\w-])", "", text)
         for name in same:
-            m = re.search(WORDRE % re.escape(name) + r"(?= )", text)
+            m = re.search(WORDRE % re.escape(name) + r"(?= +[^ =])", text)
             while m:
                 i, j = atom(text, m.end())
                 text = text[: m.start()] + text[i:j] + text[j:]
-                m = re.search(WORDRE % re.escape(name) + r"(?= )", text)
+                m = re.search(WORDRE % re.escape(name) + r"(?= +[^ =])", text)
         text = re.sub(r"\((" + re.escape(var) + r")\)", r"\1", text)
         m = re.search(r"let ([^\s=:]+)\s*=\s*" + re.escape(var) + r"\s+in\b\s*", text)
         if m:
@@ -444,7 +444,7 @@ def convert(path, key, of, crate, module):
             v = "t " + v
         if re.sub(r"\s+", " ", b.strip()) in TRIVIAL:
             # under `unfolding` the check does not open the definition itself
-            if unf and (goal.startswith("returns") or goal.endswith("preserved")):
+            if unf and (goal.startswith("returns") or goal.endswith(("preserved", "init"))):
                 pass
             else:
                 continue

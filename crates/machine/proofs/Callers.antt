@@ -17,7 +17,6 @@ use Rattle.machine_rules.specs.Facts.{Good, Solid}
 use Rattle.machine_rules.specs.Commit.{Closed, closed, final_slots, copied_back, final_place, commit}
 use Rattle.machine_rules.specs.Visit.{Declared}
 use Rattle.machine_rules.proofs.Committing.{order-places, order-some}
-use Rattle.machine_rules.proofs.Laws.Final.{final}
 use Rattle.machine_rules.proofs.Laws.Copies.{whole-sectors}
 use Rattle.machine_rules.proofs.Laws.Sizes.{place-size, whose-whole, whose-here, whose-on}
 use Rattle.host.proofs.Laws.Whose.{has-held}

@@ -1,10 +1,10 @@
 -- The arrays of a host that code is given are as long as declared: what a function is told of a parameter, as rules' `Declared`. Assumes nothing.
-use Rattle.lists.proofs.Kit.{List, [], ◌∷◌, map}
+use Rattle.lists.proofs.Kit.{List, [], ◌∷◌}
 use mir.Val.{Val}
 use denote.Laws.{Is}
 use denote.Array.{each}
 use denote.Shadow.{shadow}
-use denote.Struct.Declared.{row, field}
+use denote.Struct.Declared.{row}
 use Rattle.host.specs.declared.Place.{Place}
 use Rattle.host.specs.declared.Host.{Host}
 use Rattle.host.specs.contracts.Host as host
@@ -14,7 +14,7 @@ use Rattle.machine_rules.specs.Visit.{Shaped, Declared}
 
 -- the places of a host, which are a field of it
 field-placed : (ps : List Place) (us : List Val)
-    → shadow (each (field place.the_type).row.Denot (field place.the_type).row.own_val (map (field place.the_type).into ps) us) → Shaped ps
+    → shadow (each (place.the_row).Denot (place.the_row).own_val ps us) → Shaped ps
 field-placed [] us g = tt
 field-placed (p ∷ ps) [] g = absurd g
 field-placed (p ∷ ps) (u ∷ us) g = (placed p (u ∷ []) g.0, field-placed ps us g.1)
