@@ -3,15 +3,16 @@
 // ahead of it are lowered, so that an input of any length has its answer. Rests on `bench_program` for what an input means, and on `stdin`.
 #![tactic(auto)]
 
-ghost use Rattle.std.specs.Prelude.{◌≡◌, ◌-◌, ◌<◌, min, [], ◌∷◌};
+ghost use Rattle.std.specs.Prelude.{◌≡◌, ◌-◌, ◌<◌, min, [], ◌∷◌, IfOk};
 ghost use Rattle.bench_input.specs.Reader as Says;
 ghost use Rattle.bench_input.specs.Reader.{state, fresh, ids_from, head_from, data_from, number_to, fed_byte, in_data};
 ghost use Rattle.bench_input.specs.Gathered.{reads_on, Feeds, Gathered};
 
-use libc::STDOUT_FILENO;
+use std::io;
+use std::io::{Read, Write};
 
 // Which section the next byte belongs to.
-#[derive(Drop)]
+#[derive(Clone, Copy)]
 pub enum Section {
     Front,
     Ids,
@@ -22,7 +23,7 @@ pub enum Section {
 
 // Where a reader stands: how many ids are to come behind this one, how many bytes of this section (of this id), how many of the section's
 // bytes are still kept, and how many bytes stand in the area.
-#[derive(Drop)]
+#[derive(Clone, Copy)]
 pub struct Reader {
     pub section: Section,
     pub ids: u64,
@@ -258,7 +259,7 @@ fn lower(all: &mut [u8], at: usize, most: u64)
 }
 
 // Where a reader stands between two reads, and how many bytes are to come at most.
-#[derive(Drop)]
+#[derive(Clone, Copy)]
 struct Turn {
     pub reader: Reader,
     pub left: u64,
@@ -286,43 +287,44 @@ fn feed_piece(reader: Reader, bytes: &[u8], all: &mut [u8]) -> Reader
 }
 
 // One read, and what it brought fed. Where it brought nothing, nothing more is to come.
-fn read_once(turn: Turn, all: &mut [u8]) -> Turn
+fn read_once(source: &mut impl Read, turn: Turn, all: &mut [u8]) -> io::Result<Turn>
     requires { 0 < turn.left }
-    ensures feeds { Feeds (state turn.reader all.old) (state result.reader all.new) }
-    ensures left_lt_left { result.left < turn.left }
+    ensures feeds { IfOk result (λ t. Feeds (state turn.reader all.old) (state t.reader all.new)) }
+    ensures left_lt_left { IfOk result (λ t. t.left < turn.left) }
 {
     let reader = turn.reader;
-    let mut space = io::large_buffer();
-    let got = stdin::fill(turn.left, &mut space);
+    let mut space = [0u8; 65536];
+    let got = stdin::fill(source, turn.left, &mut space)?;
     let left = turn.left - got as u64;
     if got == 0 {
-        return Turn { reader, left: 0 };
+        return Ok(Turn { reader, left: 0 });
     }
     let fed = feed_piece(reader, &space[0..got], all);
-    Turn { reader: fed, left }
+    Ok(Turn { reader: fed, left })
 }
 
 // Reads an input of at most `left` bytes from standard input, keeps it at the front of an area, and answers how many bytes stand there. It
 // stops where nothing more is kept; where another input follows, it reads on to the end of this one. For an area of another length it reads
 // nothing.
-pub fn gather(left: u64, follows: bool, all: &mut [u8]) -> usize
-    ensures { Gathered all.new result }
+pub fn gather(source: &mut impl Read, left: u64, follows: bool, all: &mut [u8]) -> io::Result<usize>
+    ensures { IfOk result (λ n. Gathered all.new n) }
 {
     if all.len() != Reader::KEPT {
-        return 0;
+        return Ok(0);
     }
     let reader = Reader::new();
     let mut turn = Turn { reader, left };
     while more(turn, follows) {
-        turn = read_once(turn, all);
+        turn = read_once(source, turn, all)?;
     }
     let last = turn.reader;
-    last.held()
+    Ok(last.held())
 }
 
 // Writes the first n bytes of what is to be written out.
-pub fn show(output: &[u8], n: usize) {
+pub fn show(sink: &mut impl Write, output: &[u8], n: usize) -> io::Result<()> {
     if n <= output.len() {
-        io::write_all(STDOUT_FILENO, &output[0..n]);
+        sink.write_all(&output[0..n])?;
     }
+    Ok(())
 }

@@ -4,75 +4,87 @@
 
 mod self_test;
 
+use std::io;
+use std::io::Write;
 use stdout::{decimal, hex, text};
 
-fn main() {
+fn main(rt: HostRuntime) -> io::Result<()> {
+    let mut source = rt.stdin();
+    let mut sink = rt.stdout();
     let passed = self_test::passes();
     if passed {
-        text(b"RFC 7693 Appendix E self-test: passed\n");
+        text(&mut sink, b"RFC 7693 Appendix E self-test: passed\n")?;
     } else {
-        text(b"RFC 7693 Appendix E self-test: FAILED\n");
+        text(&mut sink, b"RFC 7693 Appendix E self-test: FAILED\n")?;
     }
-    let mut input = io::large_buffer();
-    let n = io::read_full(0, &mut input);
-    show_all(&input[..n]);
+    let mut input = [0u8; 65536];
+    let n = stdin::full(&mut source, &mut input)?;
+    show_all(&mut sink, &input[..n])
 }
 
 // Each item of the input; bytes behind the last whole one are left.
-fn show_all(input: &[u8]) {
+fn show_all(sink: &mut impl Write, input: &[u8]) -> io::Result<()> {
     if input.len() < 1066 {
-        text(b"no keys and messages\n");
-        return;
+        return text(sink, b"no keys and messages\n");
     }
     let mut at: usize = 1066;
     while 24 <= input.len() - at {
         let nn = area::load(input, at);
         let kk = area::load(input, at + 8);
         let ll = area::load(input, at + 16);
-        show(&input[..66], &input[66..1066], nn, kk, ll);
+        show(sink, &input[..66], &input[66..1066], nn, kk, ll)?;
         at += 24;
     }
+    Ok(())
 }
 
 // One line: the three lengths, and the digest or the refusal.
-fn show(keys: &[u8], messages: &[u8], nn: u64, kk: u64, ll: u64) {
-    text(b"digest ");
-    decimal(nn);
-    text(b", key ");
-    decimal(kk);
-    text(b", message ");
-    decimal(ll);
-    text(b": ");
+fn show(
+    sink: &mut impl Write,
+    keys: &[u8],
+    messages: &[u8],
+    nn: u64,
+    kk: u64,
+    ll: u64,
+) -> io::Result<()> {
+    text(sink, b"digest ")?;
+    decimal(sink, nn)?;
+    text(sink, b", key ")?;
+    decimal(sink, kk)?;
+    text(sink, b", message ")?;
+    decimal(sink, ll)?;
+    text(sink, b": ")?;
     if nn > 66 {
-        return missing();
+        return missing(sink);
     }
     if kk > keys.len() as u64 {
-        return missing();
+        return missing(sink);
     }
     if ll > messages.len() as u64 {
-        return missing();
+        return missing(sink);
     }
     let k = kk as usize;
     let l = ll as usize;
-    show_digest(&keys[..k], &messages[..l], nn as usize);
+    show_digest(sink, &keys[..k], &messages[..l], nn as usize)
 }
 
-fn missing() {
-    text(b"not in the input\n");
+fn missing(sink: &mut impl Write) -> io::Result<()> {
+    text(sink, b"not in the input\n")
 }
 
-fn show_digest(key: &[u8], message: &[u8], nn: usize) {
+fn show_digest(sink: &mut impl Write, key: &[u8], message: &[u8], nn: usize) -> io::Result<()> {
     let mut space = [0u8; 66];
     if nn <= 66 {
-        show_in(key, message, &mut space[..nn]);
+        show_in(sink, key, message, &mut space[..nn])?;
     }
+    Ok(())
 }
 
-fn show_in(key: &[u8], message: &[u8], out: &mut [u8]) {
+fn show_in(sink: &mut impl Write, key: &[u8], message: &[u8], out: &mut [u8]) -> io::Result<()> {
     let a = blake2b::digest(key, message, out);
     match a {
-        blake2b::Answer::Done => hex(out),
-        blake2b::Answer::Refused => text(b"refused, 2"),
+        blake2b::Answer::Done => hex(sink, out)?,
+        blake2b::Answer::Refused => text(sink, b"refused, 2")?,
     }
-    text(b"\n");
+    text(sink, b"\n")
 }

@@ -2,13 +2,16 @@
 // It stops at the end of input and at the first malformed item, for which it writes nothing.
 #![tactic(auto)]
 
-ghost use Rattle.std.specs.Prelude.{◌≤◌};
+ghost use Rattle.std.specs.Prelude.{◌≤◌, IfOk};
 
 use host::Host;
-use libc::STDOUT_FILENO;
 use script::Played;
+use std::io;
+use std::io::{Read, Write};
 
-fn main() {
+fn main(rt: HostRuntime) -> io::Result<()> {
+    let mut source = rt.stdin();
+    let mut sink = rt.stdout();
     let mut disk = [0u8; 262_144];
     let mut stage = [0u8; 65_536];
     let mut input = [0u8; 65_536];
@@ -16,38 +19,47 @@ fn main() {
     let mut item = [0u8; script::ITEM];
     let mut report = [0u8; script::REPORT];
     play_all(
+        &mut source,
+        &mut sink,
         &mut item,
         &mut disk,
         &mut stage,
         &mut input,
         &mut output,
         &mut report,
-    );
+    )
 }
 
 // Item after item, up to one that is malformed or missing. No input has more bytes than `left` counts at first, nor more items than `turns`.
 fn play_all(
+    source: &mut impl Read,
+    sink: &mut impl Write,
     item: &mut [u8],
     disk: &mut [u8],
     stage: &mut [u8],
     input: &mut [u8],
     output: &mut [u8],
     report: &mut [u8],
-) {
+) -> io::Result<()> {
     let mut host = script::no_host();
     let mut left: u64 = u64::MAX;
     let mut turns: u64 = u64::MAX;
     while 0 < turns {
-        let played = play_next(left, item, host, disk, stage, input, output, report);
+        let played = play_next(
+            source, sink, left, item, host, disk, stage, input, output, report,
+        )?;
         let after = played.host;
         host = after;
         left = played.left;
         turns = stdin::still(played.fine, turns);
     }
+    Ok(())
 }
 
 // Reads the next item, plays it, and writes its report.
 fn play_next(
+    source: &mut impl Read,
+    sink: &mut impl Write,
     left: u64,
     item: &mut [u8],
     host: Host,
@@ -56,11 +68,11 @@ fn play_next(
     input: &mut [u8],
     output: &mut [u8],
     report: &mut [u8],
-) -> Played
-    ensures { result.left ≤ left }
+) -> io::Result<Played>
+    ensures { IfOk result (λ p. p.left ≤ left) }
 {
-    let played = script::play_next(left, item, host, disk, stage, input, output, report);
+    let played = script::play_next(source, left, item, host, disk, stage, input, output, report)?;
     let written = played.written;
-    io::write_all(STDOUT_FILENO, &report[0..written]);
-    played
+    sink.write_all(&report[0..written])?;
+    Ok(played)
 }

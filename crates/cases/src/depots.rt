@@ -1,15 +1,17 @@
 // An input of `depot`, which has 8 sectors of disk, 4 of stage, and an output of 16,384 bytes.
-ghost use Rattle.std.specs.Prelude.{◌≤◌, length};
+ghost use Rattle.std.specs.Prelude.{◌≤◌, length, IfOk};
 
 use bench_input::Reader;
 use host::Host;
+use std::io;
+use std::io::Read;
 
 // Reads an input of so many bytes and plays it; answers how many bytes `depot` writes, which stand at the front of `shown`.
-pub fn play(many: u64, shown: &mut [u8]) -> usize
-    ensures { result ≤ length shown.new }
+pub fn play(source: &mut impl Read, many: u64, shown: &mut [u8]) -> io::Result<usize>
+    ensures { IfOk result (λ n. n ≤ length shown.new) }
 {
     let mut all = [0u8; Reader::KEPT];
-    let n = bench_input::gather(many, true, &mut all);
+    let n = bench_input::gather(source, many, true, &mut all)?;
     let mut disk = [0u8; 32_768];
     let mut stage = [0u8; 16_384];
     let mut input = [0u8; 65_536];
@@ -22,7 +24,7 @@ pub fn play(many: u64, shown: &mut [u8]) -> usize
         &mut input,
         &mut output,
     );
-    written(done.number, done.written, &output, shown)
+    Ok(written(done.number, done.written, &output, shown))
 }
 
 // A refusal's number in 8 bytes, or the records.

@@ -1,24 +1,26 @@
 // A script of `calls`, read as `calls` reads it.
-ghost use Rattle.std.specs.Prelude.{◌≤◌, length};
+ghost use Rattle.std.specs.Prelude.{◌≤◌, length, IfOk};
 
 use host::Host;
+use std::io;
+use std::io::Read;
 
 // Plays a script of so many bytes of standard input on areas of zeros; answers how many bytes `calls` writes, which stand at the front of
 // `shown`. What is behind a malformed item is read too, so that the next case begins behind it.
 #[rattlefmt::skip]
-pub fn play(many: u64, shown: &mut [u8]) -> usize
-    ensures { result ≤ length shown.new }
+pub fn play(source: &mut impl Read, many: u64, shown: &mut [u8]) -> io::Result<usize>
+    ensures { IfOk result (λ n. n ≤ length shown.new) }
 {
     let mut item = [0u8; script::ITEM];
     let mut disk = [0u8; 262_144];
     let mut stage = [0u8; 65_536];
     let mut input = [0u8; 65_536];
     let mut output = [0u8; 65_536];
-    items(many, &mut item, &mut disk, &mut stage, &mut input, &mut output, shown)
+    items(source, many, &mut item, &mut disk, &mut stage, &mut input, &mut output, shown)
 }
 
 // Where a script stands: it may use `left` bytes more, and the reports of the items played end at `end`.
-#[derive(Drop)]
+#[derive(Clone, Copy)]
 struct Stands {
     fine: bool,
     left: u64,
@@ -28,37 +30,40 @@ struct Stands {
 
 // Item after item, up to one that is malformed or the end.
 #[rattlefmt::skip]
-fn items(many: u64, item: &mut [u8], disk: &mut [u8], stage: &mut [u8], input: &mut [u8], output: &mut [u8], shown: &mut [u8]) -> usize
-    ensures { result ≤ length shown.new }
+fn items(
+    source: &mut impl Read, many: u64, item: &mut [u8],
+    disk: &mut [u8], stage: &mut [u8], input: &mut [u8], output: &mut [u8], shown: &mut [u8],
+) -> io::Result<usize>
+    ensures { IfOk result (λ n. n ≤ length shown.new) }
 {
     let mut host = script::no_host();
     let mut left = many;
     let mut end: usize = 0;
     let mut turns: u64 = u64::MAX;
     while 0 < turns {
-        let stands = next(left, end, item, host, disk, stage, input, output, shown);
+        let stands = next(source, left, end, item, host, disk, stage, input, output, shown)?;
         let after = stands.host;
         host = after;
         left = stands.left;
         end = stands.end;
         turns = stdin::still(stands.fine, turns);
     }
-    stdin::skip(left);
-    end
+    stdin::skip(source, left)?;
+    Ok(end)
 }
 
 // One item, from where the script stands.
 #[rattlefmt::skip]
 fn next(
-    left: u64, end: usize, item: &mut [u8], host: Host,
+    source: &mut impl Read, left: u64, end: usize, item: &mut [u8], host: Host,
     disk: &mut [u8], stage: &mut [u8], input: &mut [u8], output: &mut [u8], shown: &mut [u8],
-) -> Stands
+) -> io::Result<Stands>
     requires { end ≤ length shown.old }
-    ensures { result.end ≤ length shown.new }
+    ensures { IfOk result (λ stands. stands.end ≤ length shown.new) }
 {
-    let played = script::play_next(left, item, host, disk, stage, input, output, &mut shown[end..]);
+    let played = script::play_next(source, left, item, host, disk, stage, input, output, &mut shown[end..])?;
     let after = played.host;
-    Stands { fine: played.fine, left: played.left, end: further(end, played.written, shown.len()), host: after }
+    Ok(Stands { fine: played.fine, left: played.left, end: further(end, played.written, shown.len()), host: after })
 }
 
 // A place so many bytes further on, within a length.

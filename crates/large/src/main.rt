@@ -4,11 +4,15 @@
 #![tactic(auto)]
 
 use bench_input::Reader;
+use std::io;
+use std::io::Write;
 
-fn main() {
+fn main(rt: HostRuntime) -> io::Result<()> {
+    let mut source = rt.stdin();
+    let mut sink = rt.stdout();
     let mut all = [0u8; Reader::KEPT];
-    let n = bench_input::gather(u64::MAX, false, &mut all);
-    answer(&all[0..n]);
+    let n = bench_input::gather(&mut source, u64::MAX, false, &mut all)?;
+    answer(&mut sink, &all[0..n])
 }
 
 // An area of two sectors. Behind a call its elements are not counted one by one.
@@ -17,7 +21,7 @@ fn two_sectors() -> [u8; 2_097_152] {
 }
 
 // Plays an input on fresh areas, and writes what it comes to.
-fn answer(all: &[u8]) {
+fn answer(sink: &mut impl Write, all: &[u8]) -> io::Result<()> {
     let mut disk = two_sectors();
     let mut stage = two_sectors();
     let mut input = [0u8; 65_536];
@@ -30,5 +34,5 @@ fn answer(all: &[u8]) {
         &mut input,
         &mut output,
     );
-    bench_input::show(&output, n);
+    bench_input::show(sink, &output, n)
 }

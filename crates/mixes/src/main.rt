@@ -8,9 +8,10 @@
 
 ghost use Rattle.std.specs.Prelude.{◌+◌, ◌≤◌, length};
 
-use libc::STDIN_FILENO;
 use machine::{Host, Prices};
 use sia::Number;
+use std::io;
+use std::io::{Read, Write};
 use stdout::{decimal, hex, text};
 
 // The bytes ahead of the visits.
@@ -21,7 +22,7 @@ const MOST: u64 = 1_000_000_000;
 
 // Where the visits stand: whether another may follow, the number of a refusal (0: none), the visits done, the bytes of records that the
 // last one wrote, and the host.
-#[derive(Drop)]
+#[derive(Clone, Copy)]
 struct Course {
     on: bool,
     number: u64,
@@ -30,18 +31,19 @@ struct Course {
     host: Host,
 }
 
-fn main() {
+fn main(rt: HostRuntime) -> io::Result<()> {
+    let mut source = rt.stdin();
+    let mut sink = rt.stdout();
     let mut front = [0u8; 96];
-    let came = io::read_full(STDIN_FILENO, &mut front);
+    let came = stdin::full(&mut source, &mut front)?;
     if came != AHEAD {
-        text(b"bytes missing ahead of the visits\n");
-        return;
+        return text(&mut sink, b"bytes missing ahead of the visits\n");
     }
     let mut disk = [0u8; 262_144];
-    let mut output = io::large_buffer();
+    let mut output = [0u8; 65536];
     let start = formed(&front);
-    let end = each(start, &front, &mut disk, &mut output);
-    show(end, &disk, &output);
+    let end = each(&mut source, start, &front, &mut disk, &mut output)?;
+    show(&mut sink, end, &disk, &output)
 }
 
 // A host of the largest areas, with the contract whose id stands in front.
@@ -57,14 +59,20 @@ fn formed(front: &[u8; 96]) -> Course {
 }
 
 // The visits of the input.
-fn each(start: Course, front: &[u8; 96], disk: &mut [u8], output: &mut [u8]) -> Course {
+fn each(
+    source: &mut impl Read,
+    start: Course,
+    front: &[u8; 96],
+    disk: &mut [u8],
+    output: &mut [u8],
+) -> io::Result<Course> {
     let mut course = start;
     let mut left = MOST;
     while 0 < left {
-        course = next(course, front, disk, output);
+        course = next(source, course, front, disk, output)?;
         left = fewer(course.on, left - 1);
     }
-    course
+    Ok(course)
 }
 
 // How many are left, where more may follow.
@@ -79,26 +87,26 @@ fn fewer(on: bool, left: u64) -> u64
 
 // The next visit of the input.
 #[rattlefmt::skip]
-fn next(course: Course, front: &[u8; 96], disk: &mut [u8], output: &mut [u8]) -> Course {
-    let Number::Is(times) = number() else {
-        return stopped(course);
+fn next(source: &mut impl Read, course: Course, front: &[u8; 96], disk: &mut [u8], output: &mut [u8]) -> io::Result<Course> {
+    let Number::Is(times) = number(source)? else {
+        return Ok(stopped(course));
     };
-    let Number::Is(empty) = number() else {
-        return stopped(course);
+    let Number::Is(empty) = number(source)? else {
+        return Ok(stopped(course));
     };
-    let mut head = io::buffer();
-    let Number::Is(n) = counted(&mut head) else {
-        return stopped(course);
+    let mut head = [0u8; 4096];
+    let Number::Is(n) = counted(source, &mut head)? else {
+        return Ok(stopped(course));
     };
-    let mut bytes = io::large_buffer();
-    let Number::Is(m) = counted(&mut bytes) else {
-        return stopped(course);
+    let mut bytes = [0u8; 65536];
+    let Number::Is(m) = counted(source, &mut bytes)? else {
+        return Ok(stopped(course));
     };
     let h = within(n, head.len());
     let b = within(m, bytes.len());
-    let mut stage = io::large_buffer();
-    let mut input = io::large_buffer();
-    repeated(course, front, times, empty, &head[0..h], &bytes[0..b], disk, &mut stage, &mut input, output)
+    let mut stage = [0u8; 65536];
+    let mut input = [0u8; 65536];
+    Ok(repeated(course, front, times, empty, &head[0..h], &bytes[0..b], disk, &mut stage, &mut input, output))
 }
 
 fn stopped(course: Course) -> Course {
@@ -108,29 +116,29 @@ fn stopped(course: Course) -> Course {
 }
 
 // The next number of the input.
-fn number() -> Number {
+fn number(source: &mut impl Read) -> io::Result<Number> {
     let mut bytes = [0u8; 8];
-    let came = io::read_full(STDIN_FILENO, &mut bytes);
+    let came = stdin::full(source, &mut bytes)?;
     if came != 8 {
-        return Number::Refused;
+        return Ok(Number::Refused);
     }
-    sia::number_of(&bytes)
+    Ok(sia::number_of(&bytes))
 }
 
 // The next length of the input, and that many bytes into the front of the area.
-fn counted(area: &mut [u8]) -> Number {
-    let Number::Is(n) = number() else {
-        return Number::Refused;
+fn counted(source: &mut impl Read, area: &mut [u8]) -> io::Result<Number> {
+    let Number::Is(n) = number(source)? else {
+        return Ok(Number::Refused);
     };
     let length = n as usize;
     if area.len() < length {
-        return Number::Refused;
+        return Ok(Number::Refused);
     }
-    let came = io::read_full(STDIN_FILENO, &mut area[0..length]);
+    let came = stdin::full(source, &mut area[0..length])?;
     if came != length {
-        return Number::Refused;
+        return Ok(Number::Refused);
     }
-    Number::Is(n)
+    Ok(Number::Is(n))
 }
 
 // As much of a length as there is.
@@ -253,27 +261,27 @@ fn price(front: &[u8], at: usize) -> u16
 }
 
 // The line.
-fn show(end: Course, disk: &[u8], output: &[u8]) {
-    text(b"visits ");
-    decimal(end.visits);
+fn show(sink: &mut impl Write, end: Course, disk: &[u8], output: &[u8]) -> io::Result<()> {
+    text(sink, b"visits ")?;
+    decimal(sink, end.visits)?;
     if end.number != 0 {
-        text(b" refused ");
-        decimal(end.number);
+        text(sink, b" refused ")?;
+        decimal(sink, end.number)?;
     }
-    text(b" disk ");
-    show_digest(disk);
-    text(b" records ");
+    text(sink, b" disk ")?;
+    show_digest(sink, disk)?;
+    text(sink, b" records ")?;
     let n = within(end.written, output.len());
-    show_digest(&output[0..n]);
-    text(b"\n");
+    show_digest(sink, &output[0..n])?;
+    text(sink, b"\n")
 }
 
 // The digest of 32 bytes, with no key.
-fn show_digest(bytes: &[u8]) {
+fn show_digest(sink: &mut impl Write, bytes: &[u8]) -> io::Result<()> {
     let mut digest = [0u8; 32];
     let answer = blake2b::digest(b"", bytes, &mut digest);
     match answer {
-        blake2b::Answer::Done => hex(&digest),
-        blake2b::Answer::Refused => text(b"refused"),
+        blake2b::Answer::Done => hex(sink, &digest),
+        blake2b::Answer::Refused => text(sink, b"refused"),
     }
 }

@@ -33,7 +33,7 @@ fn with_rest(fine: bool, number: u64, tally: u64, growth: i64, more: usize, rest
 }
 
 // The lengths of two areas that an item lends; where they do not fit, none is.
-#[derive(Drop)]
+#[derive(Clone, Copy)]
 struct Lent {
     fits: bool,
     one: usize,

@@ -3,7 +3,7 @@
 // the kept roots. Numbers are 8 bytes, the lowest first.
 #![tactic(auto)]
 
-ghost use Rattle.std.specs.Prelude.{◌≡◌, ◌≤◌, length};
+ghost use Rattle.std.specs.Prelude.{◌≡◌, ◌≤◌, length, IfOk};
 
 mod items; // items.rt: each kind of item, and its call
 mod reader; // reader.rt: items from standard input
@@ -11,13 +11,15 @@ mod shapes; // shapes.rt: where an item ends
 
 use machine::Host;
 pub use reader::ITEM;
+use std::io;
+use std::io::Read;
 
 // The most bytes of a report: the answer of `reached` with its root, three numbers, eight places with 64 slots each, an open program, six digests.
 pub const REPORT: usize = 5_320;
 
 // What an item did. Not fine: it is malformed, and nothing changed. `left` counts the bytes that the script may still use, `written` those of
 // the item's report.
-#[derive(Drop)]
+#[derive(Clone, Copy)]
 pub struct Played {
     pub fine: bool,
     pub left: u64,
@@ -46,13 +48,14 @@ fn malformed(left: u64, host: Host) -> Played
 // it is malformed.
 #[rattlefmt::skip]
 pub fn play_next(
-    left: u64, item: &mut [u8], host: Host, disk: &mut [u8], stage: &mut [u8], input: &mut [u8], output: &mut [u8], report: &mut [u8],
-) -> Played
-    ensures { (result.left ≤ left) × (result.written ≤ length report.old) }
+    source: &mut impl Read, left: u64, item: &mut [u8], host: Host,
+    disk: &mut [u8], stage: &mut [u8], input: &mut [u8], output: &mut [u8], report: &mut [u8],
+) -> io::Result<Played>
+    ensures { IfOk result (λ p. (p.left ≤ left) × (p.written ≤ length report.old)) }
 {
-    let came = reader::next_from(left, item);
+    let came = reader::next_from(source, left, item)?;
     let n = came.length;
-    play(came.left, &item[0..n], host, disk, stage, input, output, report)
+    Ok(play(came.left, &item[0..n], host, disk, stage, input, output, report))
 }
 
 // Plays the item that `item` begins with. The areas that its call lends are front parts of these.

@@ -8,7 +8,7 @@ use host::{Host, Place, Program};
 
 // What an item answered, and the host that it left. Of `reached` the size stands for the tally, of `sound` and `locate` yes or no. Behind the
 // three numbers the first `more` of `rest` are shown: the root of `reached`, and where `locate` found a sector.
-#[derive(Drop)]
+#[derive(Clone, Copy)]
 pub struct Made {
     pub fine: bool,
     pub number: u64,

@@ -1,6 +1,10 @@
 // Records, as `depot` writes them, from standard input, printed for a person.
 #![tactic(auto)]
 
-fn main() {
-    showing::show_from(u64::MAX);
+use std::io;
+
+fn main(rt: HostRuntime) -> io::Result<()> {
+    let mut source = rt.stdin();
+    let mut sink = rt.stdout();
+    showing::show_from(&mut source, &mut sink, u64::MAX)
 }

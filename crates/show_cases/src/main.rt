@@ -2,35 +2,35 @@
 // its length in 8 bytes, and its bytes.
 #![tactic(auto)]
 
-use libc::{STDIN_FILENO, STDOUT_FILENO};
+use std::io;
+use std::io::{Read, Write};
 
 // Input after input. There are no more than `turns` counts.
-fn main() {
+fn main(rt: HostRuntime) -> io::Result<()> {
+    let mut source = rt.stdin();
+    let mut sink = rt.stdout();
     let mut turns: u64 = u64::MAX;
     while 0 < turns {
         let place = u64::MAX - turns;
-        let whole = one_input(place);
+        let whole = one_input(&mut source, &mut sink, place)?;
         turns = stdin::still(whole, turns);
     }
+    Ok(())
 }
 
 // Shows the next input. It answers false where there is none.
-fn one_input(place: u64) -> bool {
+fn one_input(source: &mut impl Read, sink: &mut impl Write, place: u64) -> io::Result<bool> {
     let mut ahead = [0u8; 8];
-    let got = io::read_full(STDIN_FILENO, &mut ahead);
+    let got = stdin::full(source, &mut ahead)?;
     if got != 8 {
-        return false;
+        return Ok(false);
     }
     let length = area::load(&ahead, 0);
-    heading(place, length);
-    showing::show_from(length);
-    true
+    heading(sink, place, length)?;
+    showing::show_from(source, sink, length)?;
+    Ok(true)
 }
 
-fn heading(place: u64, length: u64) {
-    io::write_all(STDOUT_FILENO, b"input ");
-    io::print_decimal(STDOUT_FILENO, place);
-    io::write_all(STDOUT_FILENO, b", bytes ");
-    io::print_decimal(STDOUT_FILENO, length);
-    io::write_all(STDOUT_FILENO, b"\n");
+fn heading(sink: &mut impl Write, place: u64, length: u64) -> io::Result<()> {
+    writeln!(sink, "input {place}, bytes {length}")
 }

@@ -10,65 +10,68 @@ mod parts; // parts.rt: where the parts of a record stand
 mod words; // words.rt: numbers in words
 
 use parts::Parts;
+use std::io;
+use std::io::{Read, Write};
 use stdout::{decimal, text};
 
 // Shows one input, which may use at most `left` bytes of standard input; all of them are read.
-pub fn show_from(left: u64) {
-    let mut input = io::large_buffer();
-    let n = stdin::fill(left, &mut input);
-    show(&input[0..n]);
+pub fn show_from(source: &mut impl Read, sink: &mut impl Write, left: u64) -> io::Result<()> {
+    let mut input = [0u8; 65536];
+    let n = stdin::fill(source, left, &mut input)?;
+    show(sink, &input[0..n])?;
     if n == 65536 {
-        beyond(left - n as u64);
+        beyond(source, sink, left - n as u64)?;
     }
+    Ok(())
 }
 
 // What is left of an input that is longer than any output area.
-fn beyond(left: u64) {
-    if 0 < stdin::skip(left) {
+fn beyond(source: &mut impl Read, sink: &mut impl Write, left: u64) -> io::Result<()> {
+    if 0 < stdin::skip(source, left)? {
         text(
+            sink,
             b"stopped at byte 65536: no output area is longer, and the bytes from there on are not shown\n",
-        );
+        )?;
     }
+    Ok(())
 }
 
-fn show(input: &[u8]) {
+fn show(sink: &mut impl Write, input: &[u8]) -> io::Result<()> {
     if input.len() == 0 {
-        text(b"no records\n");
-        return;
+        return text(sink, b"no records\n");
     }
     if input.len() == 8 {
-        refusal(area::load(input, 0));
-        return;
+        return refusal(sink, area::load(input, 0));
     }
-    records(input);
+    records(sink, input)
 }
 
-fn refusal(number: u64) {
-    text(b"refused: ");
-    decimal(number);
-    text(b", ");
-    words::refusal(number);
-    text(b"\n");
+fn refusal(sink: &mut impl Write, number: u64) -> io::Result<()> {
+    text(sink, b"refused: ")?;
+    decimal(sink, number)?;
+    text(sink, b", ")?;
+    words::refusal(sink, number)?;
+    text(sink, b"\n")
 }
 
 // Record by record, up to the first fault.
-fn records(input: &[u8]) {
+fn records(sink: &mut impl Write, input: &[u8]) -> io::Result<()> {
     let mut place: u64 = 1;
     let mut at: usize = 0;
     while at < input.len() {
         let p = parts::parts_at(input, at);
         if p.fault != 0 {
-            damaged(place, p.fault, p.from);
-            return;
+            return damaged(sink, place, p.fault, p.from);
         }
-        record(place, input, at, p);
+        record(sink, place, input, at, p)?;
         at = p.end;
         place += 1;
     }
+    Ok(())
 }
 
 // A record that is whole.
-fn record(place: u64, input: &[u8], at: usize, p: Parts)
+fn record(sink: &mut impl Write, place: u64, input: &[u8], at: usize, p: Parts) -> io::Result<()>
     requires { Whole at (length input.now) p }
 {
     let hashes = p.hashes;
@@ -76,24 +79,25 @@ fn record(place: u64, input: &[u8], at: usize, p: Parts)
     let output = p.output;
     let end = p.end;
     lines::record_line(
+        sink,
         place,
         &input[at..hashes],
         &input[hashes..middle],
         &input[output..end],
-    );
+    )
 }
 
 // Where the input stops making sense, and why.
-fn damaged(place: u64, fault: u64, from: usize) {
-    decimal(place);
-    text(b": makes no sense from byte ");
-    decimal(from as u64);
-    text(b" on: ");
+fn damaged(sink: &mut impl Write, place: u64, fault: u64, from: usize) -> io::Result<()> {
+    decimal(sink, place)?;
+    text(sink, b": makes no sense from byte ")?;
+    decimal(sink, from as u64)?;
+    text(sink, b" on: ")?;
     match fault {
-        1 => text(b"the record is cut off"),
-        2 => text(b"its count of hashes passes the end"),
-        3 => text(b"it is cut off before its output"),
-        _ => text(b"its count of output bytes passes the end"),
+        1 => text(sink, b"the record is cut off")?,
+        2 => text(sink, b"its count of hashes passes the end")?,
+        3 => text(sink, b"it is cut off before its output")?,
+        _ => text(sink, b"its count of output bytes passes the end")?,
     }
-    text(b"\n");
+    text(sink, b"\n")
 }

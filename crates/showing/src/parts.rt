@@ -8,7 +8,7 @@ const AHEAD: usize = 64;
 // A record's hashes stand from `hashes` to `middle`, its output from `output` to `end`. A fault says what is missing (1: the bytes ahead of
 // the hashes; 2: hashes; 3: the output's count; 4: output), and `from` where that begins.
 #[rattlefmt::skip]
-#[derive(Drop)]
+#[derive(Clone, Copy)]
 pub struct Parts {
     pub fault: u64, pub from: usize,
     pub hashes: usize, pub middle: usize, pub output: usize, pub end: usize,

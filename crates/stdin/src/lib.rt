@@ -1,43 +1,61 @@
 // Standard input as one input that may use at most `left` bytes of it: a program that is given one input lends all that there is, and one
-// whose standard input holds many inputs lends each its own length.
+// whose standard input holds many inputs lends each its own length. It is read from the reader that the caller hands in. A read that fails
+// ends the call with its error: bytes that came ahead of it stand in the area, and how many is not told.
 #![tactic(auto)]
 
-ghost use Rattle.std.specs.Prelude.{◌≤◌, ◌<◌, length};
+ghost use Rattle.std.specs.Prelude.{◌≤◌, ◌<◌, length, IfOk};
 
-use libc::STDIN_FILENO;
+use std::io;
+use std::io::Read;
 
-// Reads at most `left` bytes into an area, until it is full or the input ends. It answers how many came.
-pub fn fill(left: u64, area: &mut [u8]) -> usize
-    ensures { (result ≤ left) × (result ≤ length area.old) }
+// Reads into an area until it is full or the input ends. It answers how many bytes came.
+pub fn full<R: Read>(source: &mut R, area: &mut [u8]) -> io::Result<usize>
+    ensures { IfOk result (λ n. n ≤ length area.old) }
 {
-    if (area.len() as u64) <= left {
-        return io::read_full(STDIN_FILENO, area);
-    }
-    let n = left as usize;
-    io::read_full(STDIN_FILENO, &mut area[0..n])
-}
-
-// Reads at most n bytes and drops them. It answers how many came.
-fn skip_some(n: u64) -> u64
-    ensures { result ≤ n }
-{
-    let mut space = io::large_buffer();
-    fill(n, &mut space) as u64
-}
-
-// Reads n bytes and drops them. It answers how many came: fewer where the input ends.
-pub fn skip(n: u64) -> u64
-    ensures { result ≤ n }
-{
-    let mut done: u64 = 0;
-    while done < n {
-        let got = skip_some(n - done);
+    let mut done: usize = 0;
+    while done < area.len() {
+        let got = source.read(&mut area[done..])?;
         if got == 0 {
-            return done;
+            return Ok(done);
         }
         done += got;
     }
-    done
+    Ok(done)
+}
+
+// Reads at most `left` bytes into an area, until it is full or the input ends. It answers how many came.
+pub fn fill<R: Read>(source: &mut R, left: u64, area: &mut [u8]) -> io::Result<usize>
+    ensures { IfOk result (λ n. (n ≤ left) × (n ≤ length area.old)) }
+{
+    if (area.len() as u64) <= left {
+        return full(source, area);
+    }
+    let n = left as usize;
+    full(source, &mut area[0..n])
+}
+
+// Reads at most n bytes and drops them. It answers how many came.
+fn skip_some<R: Read>(source: &mut R, n: u64) -> io::Result<u64>
+    ensures { IfOk result (λ k. k ≤ n) }
+{
+    let mut space = [0u8; 65536];
+    let got = fill(source, n, &mut space)?;
+    Ok(got as u64)
+}
+
+// Reads n bytes and drops them. It answers how many came: fewer where the input ends.
+pub fn skip<R: Read>(source: &mut R, n: u64) -> io::Result<u64>
+    ensures { IfOk result (λ k. k ≤ n) }
+{
+    let mut done: u64 = 0;
+    while done < n {
+        let got = skip_some(source, n - done)?;
+        if got == 0 {
+            return Ok(done);
+        }
+        done += got;
+    }
+    Ok(done)
 }
 
 // The turns that are left of a loop over what is read: it ends at the first thing that is not whole.

@@ -1,25 +1,45 @@
-// Standard output: words, numbers, and bytes in hexadecimal.
+// Standard output: words, numbers, and bytes in hexadecimal, to the writer that the caller hands in. A write that fails ends the call with
+// its error; bytes ahead of those that failed may be out then.
 #![tactic(auto)]
 
-use libc::STDOUT_FILENO;
+ghost use Rattle.std.specs.Prelude.{◌<◌};
 
-pub fn text(words: &[u8]) {
-    io::write_all(STDOUT_FILENO, words);
+use std::io;
+use std::io::Write;
+
+pub fn text<W: Write>(out: &mut W, words: &[u8]) -> io::Result<()> {
+    out.write_all(words)
 }
 
-pub fn decimal(n: u64) {
-    io::print_decimal(STDOUT_FILENO, n);
+pub fn decimal<W: Write>(out: &mut W, n: u64) -> io::Result<()> {
+    write!(out, "{n}")
 }
 
 // Each byte as two digits.
-pub fn hex(bytes: &[u8]) {
+pub fn hex<W: Write>(out: &mut W, bytes: &[u8]) -> io::Result<()> {
+    let mut digits = [0u8; 128];
+    let mut held: usize = 0;
     let mut i: usize = 0;
     while i < bytes.len() {
-        io::print_hex(STDOUT_FILENO, wide(bytes[i]), 2);
+        if 126 < held {
+            out.write_all(&digits[..held])?;
+            held = 0;
+        }
+        let x = bytes[i];
+        digits[held] = digit(x / 16);
+        digits[held + 1] = digit(x % 16);
+        held += 2;
         i += 1;
     }
+    out.write_all(&digits[..held])
 }
 
-fn wide(x: u8) -> u64 {
-    x as u64
+// A digit below 16, as a letter from ten on.
+fn digit(x: u8) -> u8
+    requires { x < 16 }
+{
+    if x < 10 {
+        return b'0' + x;
+    }
+    b'a' + (x - 10)
 }

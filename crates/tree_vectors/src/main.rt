@@ -5,7 +5,8 @@
 
 ghost use Rattle.std.specs.Prelude.{◌+◌, ◌≤◌, length};
 
-use libc::STDIN_FILENO;
+use std::io;
+use std::io::{Read, Write};
 use stdout::{decimal, hex, text};
 
 // The counts of segments whose roots and proofs are written.
@@ -19,52 +20,53 @@ fn fill(bytes: &mut [u8]) {
     }
 }
 
-fn word(name: &[u8]) {
-    text(name);
-    text(b" ");
+fn word(sink: &mut impl Write, name: &[u8]) -> io::Result<()> {
+    text(sink, name)?;
+    text(sink, b" ")
 }
 
-fn number(n: usize) {
-    decimal(n as u64);
-    text(b" ");
+fn number(sink: &mut impl Write, n: usize) -> io::Result<()> {
+    decimal(sink, n as u64)?;
+    text(sink, b" ")
 }
 
-fn end_line() {
-    text(b"\n");
+fn end_line(sink: &mut impl Write) -> io::Result<()> {
+    text(sink, b"\n")
 }
 
-fn hex_line(bytes: &[u8]) {
-    hex(bytes);
-    end_line();
+fn hex_line(sink: &mut impl Write, bytes: &[u8]) -> io::Result<()> {
+    hex(sink, bytes)?;
+    end_line(sink)
 }
 
-fn hash_line(hash: &[u8; 32]) {
-    hex_line(hash);
+fn hash_line(sink: &mut impl Write, hash: &[u8; 32]) -> io::Result<()> {
+    hex_line(sink, hash)
 }
 
-fn hash_word(hash: &[u8; 32]) {
-    hex(hash);
-    text(b" ");
+fn hash_word(sink: &mut impl Write, hash: &[u8; 32]) -> io::Result<()> {
+    hex(sink, hash)?;
+    text(sink, b" ")
 }
 
-fn root_line(bytes: &[u8], n: usize) {
+fn root_line(sink: &mut impl Write, bytes: &[u8], n: usize) -> io::Result<()> {
     if n <= bytes.len() / 64 {
         let all = 64 * n;
         let rooted = tree::root(&bytes[0..all]);
         let root = rooted.root;
-        word(b"root");
-        number(n);
-        hash_line(&root);
+        word(sink, b"root")?;
+        number(sink, n)?;
+        hash_line(sink, &root)?;
     }
+    Ok(())
 }
 
-fn verdict(yes: bool) {
+fn verdict(sink: &mut impl Write, yes: bool) -> io::Result<()> {
     if yes {
-        text(b"yes");
+        text(sink, b"yes")?;
     } else {
-        text(b"no");
+        text(sink, b"no")?;
     }
-    end_line();
+    end_line(sink)
 }
 
 // The segments of the range, and the hashes in the first bytes of `out`, against the root.
@@ -89,71 +91,93 @@ fn accepted(root: &[u8; 32], n: usize, first: usize, end: usize, bytes: &[u8], h
     tree::check(root, n, first, end, bytes, hashes)
 }
 
-fn label(name: &[u8], a: usize, b: usize, c: usize, d: usize) {
-    word(name);
-    number(a);
-    number(b);
-    number(c);
-    number(d);
+fn label(
+    sink: &mut impl Write,
+    name: &[u8],
+    a: usize,
+    b: usize,
+    c: usize,
+    d: usize,
+) -> io::Result<()> {
+    word(sink, name)?;
+    number(sink, a)?;
+    number(sink, b)?;
+    number(sink, c)?;
+    number(sink, d)
 }
 
 // The hashes, and what the checker says to them.
-fn shown(bytes: &[u8], n: usize, first: usize, end: usize, hashes: &[u8]) {
-    hex(hashes);
-    text(b" ");
-    verdict(checked(bytes, n, first, end, hashes));
+fn shown(
+    sink: &mut impl Write,
+    bytes: &[u8],
+    n: usize,
+    first: usize,
+    end: usize,
+    hashes: &[u8],
+) -> io::Result<()> {
+    hex(sink, hashes)?;
+    text(sink, b" ")?;
+    verdict(sink, checked(bytes, n, first, end, hashes))
 }
 
-fn range_line(bytes: &[u8], n: usize, first: usize, end: usize, out: &mut [u8]) {
+fn range_line(
+    sink: &mut impl Write,
+    bytes: &[u8],
+    n: usize,
+    first: usize,
+    end: usize,
+    out: &mut [u8],
+) -> io::Result<()> {
     if bytes.len() / 64 < n {
-        return;
+        return Ok(());
     }
     let all = 64 * n;
     let proved = tree::prove(&bytes[0..all], first, end, out);
     let count = proved.count;
     if out.len() / 32 < count {
-        return;
+        return Ok(());
     }
     let used = 32 * count;
-    label(b"range", n, first, end, count);
-    shown(bytes, n, first, end, &out[0..used]);
+    label(sink, b"range", n, first, end, count)?;
+    shown(sink, bytes, n, first, end, &out[0..used])
 }
 
 // Ranges at both ends, whole and half, and at the edges of parts of 64.
-fn ranges(bytes: &[u8], n: usize, out: &mut [u8]) {
+fn ranges(sink: &mut impl Write, bytes: &[u8], n: usize, out: &mut [u8]) -> io::Result<()> {
     if n < 1 {
-        return;
+        return Ok(());
     }
-    range_line(bytes, n, 0, 1, out);
-    range_line(bytes, n, n - 1, n, out);
-    spans(bytes, n, out);
+    range_line(sink, bytes, n, 0, 1, out)?;
+    range_line(sink, bytes, n, n - 1, n, out)?;
+    spans(sink, bytes, n, out)
 }
 
-fn spans(bytes: &[u8], n: usize, out: &mut [u8]) {
-    range_line(bytes, n, 0, n, out);
-    range_line(bytes, n, n / 2, n, out);
-    edges(bytes, n, out);
+fn spans(sink: &mut impl Write, bytes: &[u8], n: usize, out: &mut [u8]) -> io::Result<()> {
+    range_line(sink, bytes, n, 0, n, out)?;
+    range_line(sink, bytes, n, n / 2, n, out)?;
+    edges(sink, bytes, n, out)
 }
 
-fn edges(bytes: &[u8], n: usize, out: &mut [u8]) {
+fn edges(sink: &mut impl Write, bytes: &[u8], n: usize, out: &mut [u8]) -> io::Result<()> {
     if n < 65 {
-        return;
+        return Ok(());
     }
-    range_line(bytes, n, 63, 65, out);
+    range_line(sink, bytes, n, 63, 65, out)?;
     if n < 129 {
-        return;
+        return Ok(());
     }
-    range_line(bytes, n, 128, 129, out);
-    range_line(bytes, n, 64, 128, out);
+    range_line(sink, bytes, n, 128, 129, out)?;
+    range_line(sink, bytes, n, 64, 128, out)
 }
 
-fn counts(bytes: &[u8], out: &mut [u8]) {
+fn counts(sink: &mut impl Write, bytes: &[u8], out: &mut [u8]) -> io::Result<()> {
     let mut i = 0;
     while i < 12 {
-        root_line(bytes, COUNTS[i]);
-        ranges(bytes, COUNTS[i], out);
+        root_line(sink, bytes, COUNTS[i])?;
+        ranges(sink, bytes, COUNTS[i], out)?;
         i += 1;
     }
+    Ok(())
 }
 
 // The root of part i of 64 segments, among the parts' roots.
@@ -186,55 +210,78 @@ fn part_roots(bytes: &[u8], parts: usize, roots: &mut [u8]) {
 }
 
 #[rattlefmt::skip]
-fn within_line(bytes: &[u8], parts: usize, at: usize, first: usize, end: usize, roots: &mut [u8], out: &mut [u8]) {
+fn within_line(sink: &mut impl Write, bytes: &[u8], parts: usize, at: usize, first: usize, end: usize, roots: &mut [u8], out: &mut [u8]) -> io::Result<()> {
     part_roots(bytes, parts, roots);
-    label(b"within", parts, at, first, end);
+    label(sink, b"within", parts, at, first, end)?;
     if roots.len() / 32 < parts {
-        return;
+        return Ok(());
     }
-    within_roots(bytes, &roots[0..32 * parts], at, first, end, out);
+    within_roots(sink, bytes, &roots[0..32 * parts], at, first, end, out)
 }
 
-fn within_roots(bytes: &[u8], roots: &[u8], at: usize, first: usize, end: usize, out: &mut [u8]) {
+fn within_roots(
+    sink: &mut impl Write,
+    bytes: &[u8],
+    roots: &[u8],
+    at: usize,
+    first: usize,
+    end: usize,
+    out: &mut [u8],
+) -> io::Result<()> {
     if bytes.len() / 4096 <= at {
-        return;
+        return Ok(());
     }
     let from = 4096 * at;
     let proved = tree::prove_in(roots, at, &bytes[from..from + 4096], first, end, out);
-    join_word(roots);
-    front_line(out, proved.count);
+    join_word(sink, roots)?;
+    front_line(sink, out, proved.count)
 }
 
-fn join_word(roots: &[u8]) {
+fn join_word(sink: &mut impl Write, roots: &[u8]) -> io::Result<()> {
     let joined = tree::join(roots);
     let root = joined.root;
-    hash_word(&root);
+    hash_word(sink, &root)
 }
 
 // The first n hashes that stand in an area.
-fn front_line(out: &[u8], n: usize) {
+fn front_line(sink: &mut impl Write, out: &[u8], n: usize) -> io::Result<()> {
     if out.len() / 32 < n {
-        return;
+        return Ok(());
     }
-    hex_line(&out[0..32 * n]);
+    hex_line(sink, &out[0..32 * n])
 }
 
 // Parts of 64 segments: how many, which one, and a range within it.
-fn withins(bytes: &[u8], roots: &mut [u8], out: &mut [u8]) {
-    within_line(bytes, 1, 0, 0, 1, roots, out);
-    within_line(bytes, 2, 1, 0, 64, roots, out);
-    more_withins(bytes, roots, out);
+fn withins(
+    sink: &mut impl Write,
+    bytes: &[u8],
+    roots: &mut [u8],
+    out: &mut [u8],
+) -> io::Result<()> {
+    within_line(sink, bytes, 1, 0, 0, 1, roots, out)?;
+    within_line(sink, bytes, 2, 1, 0, 64, roots, out)?;
+    more_withins(sink, bytes, roots, out)
 }
 
-fn more_withins(bytes: &[u8], roots: &mut [u8], out: &mut [u8]) {
-    within_line(bytes, 3, 2, 0, 1, roots, out);
-    within_line(bytes, 3, 0, 63, 64, roots, out);
-    most_withins(bytes, roots, out);
+fn more_withins(
+    sink: &mut impl Write,
+    bytes: &[u8],
+    roots: &mut [u8],
+    out: &mut [u8],
+) -> io::Result<()> {
+    within_line(sink, bytes, 3, 2, 0, 1, roots, out)?;
+    within_line(sink, bytes, 3, 0, 63, 64, roots, out)?;
+    most_withins(sink, bytes, roots, out)
 }
 
-fn most_withins(bytes: &[u8], roots: &mut [u8], out: &mut [u8]) {
-    within_line(bytes, 5, 3, 10, 20, roots, out);
-    within_line(bytes, 5, 4, 0, 64, roots, out);
+fn most_withins(
+    sink: &mut impl Write,
+    bytes: &[u8],
+    roots: &mut [u8],
+    out: &mut [u8],
+) -> io::Result<()> {
+    within_line(sink, bytes, 5, 3, 10, 20, roots, out)?;
+    within_line(sink, bytes, 5, 4, 0, 64, roots, out)
 }
 
 // What the checker says to what stands in `all` (0 no, 1 yes; 2: it does not stand there): so many bytes of a root from byte 0 on, of two
@@ -290,110 +337,169 @@ fn flipped(all: &mut [u8], total: usize, hashes: usize) -> usize {
     times
 }
 
-fn told(words: &[u8], n: usize) {
-    text(words);
-    decimal(n as u64);
+fn told(sink: &mut impl Write, words: &[u8], n: usize) -> io::Result<()> {
+    text(sink, words)?;
+    decimal(sink, n as u64)
 }
 
-fn said(taken: u64) {
+fn said(sink: &mut impl Write, taken: u64) -> io::Result<()> {
     match taken {
-        0 => text(b": no\n"),
-        1 => text(b": yes\n"),
-        _ => text(b": not laid\n"),
-    };
+        0 => text(sink, b": no\n"),
+        1 => text(sink, b": yes\n"),
+        _ => text(sink, b": not laid\n"),
+    }
 }
 
 // What is given to the checker, and what it says.
 #[rattlefmt::skip]
-fn given_line(words: &[u8], all: &[u8], root: usize, n: usize, first: usize, end: usize, given: usize, hashes: usize) {
-    text(words);
-    told(b": count ", n);
-    told(b", range ", first);
-    told(b" ", end);
-    told(b", root bytes ", root);
-    told(b", segment bytes ", given);
-    told(b", hashes ", hashes / 32);
-    told(b", hash bytes ", hashes);
-    said(taken(all, root, n, first, end, given, hashes));
+fn given_line(sink: &mut impl Write, words: &[u8], all: &[u8], root: usize, n: usize, first: usize, end: usize, given: usize, hashes: usize) -> io::Result<()> {
+    text(sink, words)?;
+    told(sink, b": count ", n)?;
+    told(sink, b", range ", first)?;
+    told(sink, b" ", end)?;
+    told(sink, b", root bytes ", root)?;
+    told(sink, b", segment bytes ", given)?;
+    told(sink, b", hashes ", hashes / 32)?;
+    told(sink, b", hash bytes ", hashes)?;
+    said(sink, taken(all, root, n, first, end, given, hashes))
 }
 
 // A proof of the segments from 63 up to 65 of 200 with one length changed at a time.
-fn lengths(all: &[u8], hashes: usize) {
+fn lengths(sink: &mut impl Write, all: &[u8], hashes: usize) -> io::Result<()> {
     if hashes < 32 {
-        return;
+        return Ok(());
     }
     if 1024 < hashes {
-        return;
+        return Ok(());
     }
-    given_line(b"one hash more", all, 32, 200, 63, 65, 128, hashes + 32);
-    given_line(b"one hash fewer", all, 32, 200, 63, 65, 128, hashes - 32);
-    given_line(b"a hash of 31 bytes", all, 32, 200, 63, 65, 128, hashes - 1);
-    given_line(b"a root of 31 bytes", all, 31, 200, 63, 65, 128, hashes);
-    given_line(b"one segment fewer", all, 32, 200, 63, 65, 64, hashes);
+    given_line(
+        sink,
+        b"one hash more",
+        all,
+        32,
+        200,
+        63,
+        65,
+        128,
+        hashes + 32,
+    )?;
+    given_line(
+        sink,
+        b"one hash fewer",
+        all,
+        32,
+        200,
+        63,
+        65,
+        128,
+        hashes - 32,
+    )?;
+    given_line(
+        sink,
+        b"a hash of 31 bytes",
+        all,
+        32,
+        200,
+        63,
+        65,
+        128,
+        hashes - 1,
+    )?;
+    given_line(
+        sink,
+        b"a root of 31 bytes",
+        all,
+        31,
+        200,
+        63,
+        65,
+        128,
+        hashes,
+    )?;
+    given_line(sink, b"one segment fewer", all, 32, 200, 63, 65, 64, hashes)
 }
 
-fn damaged(bytes: &[u8], all: &mut [u8]) {
+fn damaged(sink: &mut impl Write, bytes: &[u8], all: &mut [u8]) -> io::Result<()> {
     let hashes = lay(bytes, 200, 63, 65, all);
-    given_line(b"whole", all, 32, 200, 63, 65, 128, hashes);
+    given_line(sink, b"whole", all, 32, 200, 63, 65, 128, hashes)?;
     told(
+        sink,
         b"a bit flipped in each byte in turn: not refused ",
         flipped(all, 160 + hashes, hashes),
-    );
-    end_line();
-    lengths(all, hashes);
+    )?;
+    end_line(sink)?;
+    lengths(sink, all, hashes)
 }
 
 // The range ends one past the count: the walk comes to the one segment of it that there is, and rebuilds the root.
-fn passed(bytes: &[u8], all: &mut [u8]) {
+fn passed(sink: &mut impl Write, bytes: &[u8], all: &mut [u8]) -> io::Result<()> {
     let hashes = lay(bytes, 200, 199, 200, all);
-    given_line(b"whole", all, 32, 200, 199, 200, 64, hashes);
-    given_line(b"range past the count", all, 32, 200, 199, 201, 128, hashes);
+    given_line(sink, b"whole", all, 32, 200, 199, 200, 64, hashes)?;
+    given_line(
+        sink,
+        b"range past the count",
+        all,
+        32,
+        200,
+        199,
+        201,
+        128,
+        hashes,
+    )
 }
 
 // A full tree, and one segment more, each with the root and the proof of that many segments.
-fn wholes(bytes: &[u8], all: &mut [u8]) {
+fn wholes(sink: &mut impl Write, bytes: &[u8], all: &mut [u8]) -> io::Result<()> {
     let most = lay(bytes, 4096, 4094, 4096, all);
-    given_line(b"count 4096", all, 32, 4096, 4094, 4096, 128, most);
+    given_line(sink, b"count 4096", all, 32, 4096, 4094, 4096, 128, most)?;
     let over = lay(bytes, 4097, 4095, 4097, all);
-    given_line(b"count 4097", all, 32, 4097, 4095, 4097, 128, over);
+    given_line(sink, b"count 4097", all, 32, 4097, 4095, 4097, 128, over)
 }
 
 // The area takes from standard input a root, a segment, and a proof of so many bytes. Whether all of it came.
-fn comes(all: &mut [u8], hashes: usize) -> bool {
+fn comes(source: &mut impl Read, all: &mut [u8], hashes: usize) -> io::Result<bool> {
     if all.len() < 160 {
-        return false;
+        return Ok(false);
     }
     if all.len() - 160 < hashes {
-        return false;
+        return Ok(false);
     }
     let total = 160 + hashes;
-    let front = io::read_full(STDIN_FILENO, &mut all[0..96]);
-    let proof = io::read_full(STDIN_FILENO, &mut all[160..total]);
+    let front = stdin::full(source, &mut all[0..96])?;
+    let proof = stdin::full(source, &mut all[160..total])?;
     if front != 96 {
-        return false;
+        return Ok(false);
     }
-    proof == hashes
+    Ok(proof == hashes)
 }
 
 // One segment among 4,194,304, the largest count, and among one more, each with the root and the proof of that many segments
 // (make_large.py).
-fn limits(all: &mut [u8]) {
-    limit(b"count 4194304", 4_194_304, 704, all);
-    limit(b"count 4194305", 4_194_305, 736, all);
+fn limits(source: &mut impl Read, sink: &mut impl Write, all: &mut [u8]) -> io::Result<()> {
+    limit(source, sink, b"count 4194304", 4_194_304, 704, all)?;
+    limit(source, sink, b"count 4194305", 4_194_305, 736, all)
 }
 
-fn limit(words: &[u8], n: usize, hashes: usize, all: &mut [u8]) {
-    if comes(all, hashes) {
-        given_line(words, all, 32, n, 2_718_281, 2_718_282, 64, hashes);
+fn limit(
+    source: &mut impl Read,
+    sink: &mut impl Write,
+    words: &[u8],
+    n: usize,
+    hashes: usize,
+    all: &mut [u8],
+) -> io::Result<()> {
+    if comes(source, all, hashes)? {
+        given_line(sink, words, all, 32, n, 2_718_281, 2_718_282, 64, hashes)?;
     }
+    Ok(())
 }
 
 // Where the walk asks for one hash in place of the whole tree, and that hash is the root.
-fn tops(bytes: &[u8], all: &mut [u8]) {
+fn tops(sink: &mut impl Write, bytes: &[u8], all: &mut [u8]) -> io::Result<()> {
     lay_top(bytes, all);
-    given_line(b"empty range", all, 32, 200, 0, 0, 0, 32);
-    given_line(b"range swapped", all, 32, 200, 1, 0, 0, 32);
-    given_line(b"count 0", all, 32, 0, 0, 1, 64, 32);
+    given_line(sink, b"empty range", all, 32, 200, 0, 0, 0, 32)?;
+    given_line(sink, b"range swapped", all, 32, 200, 1, 0, 0, 32)?;
+    given_line(sink, b"count 0", all, 32, 0, 0, 1, 64, 32)
 }
 
 // The area takes the root of the first n segments, the two segments from `first` on, and the proof of `first` up to `end`. Answers how many
@@ -445,16 +551,18 @@ fn lay_root(bytes: &[u8], all: &mut [u8], at: usize)
     put_hash(&root, all, at);
 }
 
-fn main() {
+fn main(rt: HostRuntime) -> io::Result<()> {
+    let mut source = rt.stdin();
+    let mut sink = rt.stdout();
     let mut bytes = [0u8; 262_208];
-    let mut roots = io::buffer();
-    let mut out = io::buffer();
+    let mut roots = [0u8; 4096];
+    let mut out = [0u8; 4096];
     fill(&mut bytes);
-    counts(&bytes, &mut out);
-    withins(&bytes, &mut roots, &mut out);
-    damaged(&bytes, &mut out);
-    passed(&bytes, &mut out);
-    wholes(&bytes, &mut out);
-    limits(&mut out);
-    tops(&bytes, &mut out);
+    counts(&mut sink, &bytes, &mut out)?;
+    withins(&mut sink, &bytes, &mut roots, &mut out)?;
+    damaged(&mut sink, &bytes, &mut out)?;
+    passed(&mut sink, &bytes, &mut out)?;
+    wholes(&mut sink, &bytes, &mut out)?;
+    limits(&mut source, &mut sink, &mut out)?;
+    tops(&mut sink, &bytes, &mut out)
 }

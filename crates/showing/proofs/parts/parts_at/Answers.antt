@@ -4,8 +4,7 @@ use Rattle.lists.proofs.Kit.{◌≡◌, refl, ap, ◌∙◌, List, ℕ, ◌+◌,
 use Rattle.lists.proofs.Laws.Pick.{yes, no}
 use Rattle.showing.specs.Whole.{number_at, lacking, standing, output_at, parts_at}
 use Rattle.showing.specs.declared.parts.Parts.{Parts}
-use Rattle.showing.proofs.parts.parts_at.Statement.{statement}
-use Rattle.showing.proofs.parts.parts_at.Tie as tie
+use Rattle.showing.proofs.parts.parts_at.Goals as goal
 
 module _ (b : List ℕ) (at n : ℕ) (read : n ≡ number_at b (at + 56)) (ahead : 64 ≤ length b - at) {r : Parts} where
   -- the hashes are missing
@@ -40,45 +39,38 @@ lacks : (k from : ℕ) (p : Parts) {C : Type 0} → p ≡ lacking k from → 0 <
 unfolding lacking
 lacks k from p e h z = absurd (omega (arith, ap (λ (q : Parts). q.fault) e))
 
-returns-2 : tie.Need-returns-2
-returns-2 c = (
-  short _ _ _ c.before.before.load.ensures c.before.before.before.if1.false c.before.if2.true c.missing2.ensures,
-  lacks 2 _ _ c.missing2.ensures (search rules),
-)
-
-returns-3 : tie.Need-returns-3
-returns-3 c =
-    let at_load = c.before.before.before in (
-      past _ _ _ at_load.load.ensures at_load.before.if1.false c.before.before.if2.false
-          (uncounted _ _ _ c.before.if3.true c.missing3.ensures),
-      lacks 3 _ _ c.missing3.ensures (search rules),
-    )
-
-returns-4 : tie.Need-returns-4
-returns-4 c =
-    let at-if3 = c.before.before.before in
-    let at_load = at-if3.before.before in (
-      past _ _ _ at_load.load.ensures at_load.before.if1.false at-if3.before.if2.false
-          (cut _ _ _ _ c.before.before.load2.ensures at-if3.if3.false c.before.if4.true c.missing4.ensures),
-      lacks 4 _ _ c.missing4.ensures (search rules),
-    )
-
-returns-5 : tie.Need-returns-5
-unfolding standing
-returns-5 c =
-    let at-if3 = c.before.before in
-    let at_load = at-if3.before.before in (
-      past _ _ _ at_load.load.ensures at_load.before.if1.false at-if3.before.if2.false
-          (all _ _ _ _ c.before.load2.ensures at-if3.if3.false c.if4.false refl),
-      λ e. record { ahead = search rules; proof = search rules; count = search rules; shown = search rules; within = search rules },
-    )
-
-pub parts-at-spec : {M : Type 1} → statement M
+pub returns-then-input-at-lt-AHEAD-clause-value : goal.returns-then-input-at-lt-AHEAD-clause-value
 unfolding parts_at
-parts-at-spec = tie.close (tie.spec
-    (λ c. search rules) (λ c κs. search rules)
-    (λ c. (yes _ _ _ (lt-ltb _ _ c.before.if1.true) c.missing.ensures, lacks 1 _ _ c.missing.ensures (search rules)))
-    (λ c. search rules) (λ c. search rules) (λ c κs. search rules) (λ c. search rules) (λ c. search rules)
-    (λ c κs. search rules) returns-2 (λ c. search rules) (λ c. search rules) (λ c. search rules) (λ c κs. search rules)
-    returns-3 (λ c. search rules) (λ c κs. search rules) (λ c. search rules) (λ c κs. search rules) returns-4
-    (λ c. search rules) returns-5)
+returns-then-input-at-lt-AHEAD-clause-value c = yes _ _ _ (lt-ltb _ _ c.if-input-at-lt-AHEAD.true) c.missing.ensures
+
+pub returns-then-input-at-lt-AHEAD-clause-whole : goal.returns-then-input-at-lt-AHEAD-clause-whole
+returns-then-input-at-lt-AHEAD-clause-whole c = lacks 1 _ _ c.missing.ensures (search rules)
+
+pub returns-then-input-hashes-clause-value : goal.returns-then-input-hashes-clause-value
+returns-then-input-hashes-clause-value c =
+    short _ _ _ c.load-count.ensures c.if-input-at-lt-AHEAD.false c.if-input-hashes.true c.missing-then-input-hashes.ensures
+
+pub returns-then-input-hashes-clause-whole : goal.returns-then-input-hashes-clause-whole
+returns-then-input-hashes-clause-whole c = lacks 2 _ _ c.missing-then-input-hashes.ensures (search rules)
+
+pub returns-then-input-middle-lt8-clause-value : goal.returns-then-input-middle-lt8-clause-value
+returns-then-input-middle-lt8-clause-value c =
+    past _ _ _ c.load-count.ensures c.if-input-at-lt-AHEAD.false c.if-input-hashes.false
+    (uncounted _ _ _ c.if-input-middle-lt8.true c.missing-then-input-middle-lt8.ensures)
+
+pub returns-then-input-middle-lt8-clause-whole : goal.returns-then-input-middle-lt8-clause-whole
+returns-then-input-middle-lt8-clause-whole c = lacks 3 _ _ c.missing-then-input-middle-lt8.ensures (search rules)
+
+pub returns-then-input-output-clause-value : goal.returns-then-input-output-clause-value
+returns-then-input-output-clause-value c =
+    past _ _ _ c.load-count.ensures c.if-input-at-lt-AHEAD.false c.if-input-hashes.false
+    (cut _ _ _ _ c.load-length.ensures c.if-input-middle-lt8.false c.if-input-output.true c.missing-then-input-output.ensures)
+
+pub returns-then-input-output-clause-whole : goal.returns-then-input-output-clause-whole
+returns-then-input-output-clause-whole c = lacks 4 _ _ c.missing-then-input-output.ensures (search rules)
+
+pub returns-clause-value : goal.returns-clause-value
+unfolding standing
+returns-clause-value c =
+    past _ _ _ c.load-count.ensures c.if-input-at-lt-AHEAD.false c.if-input-hashes.false
+    (all _ _ _ _ c.load-length.ensures c.if-input-middle-lt8.false c.if-input-output.false refl)
