@@ -3,7 +3,7 @@
 // ahead of it are lowered, so that an input of any length has its answer. Rests on `bench_program` for what an input means, and on `stdin`.
 #![tactic(auto)]
 
-ghost use Rattle.std.specs.Prelude.{◌≡◌, ◌-◌, ◌<◌, min, [], ◌∷◌, IfOk};
+ghost use Rattle.std.specs.Prelude.{◌≡◌, ◌-◌, ◌<◌, min, length, [], ◌∷◌, IfOk, MatchResult};
 ghost use Rattle.bench_input.specs.Reader as Says;
 ghost use Rattle.bench_input.specs.Reader.{state, fresh, ids_from, head_from, data_from, number_to, fed_byte, in_data};
 ghost use Rattle.bench_input.specs.Gathered.{reads_on, Feeds, Gathered};
@@ -307,7 +307,7 @@ fn read_once(source: &mut impl Read, turn: Turn, all: &mut [u8]) -> io::Result<T
 // stops where nothing more is kept; where another input follows, it reads on to the end of this one. For an area of another length it reads
 // nothing.
 pub fn gather(source: &mut impl Read, left: u64, follows: bool, all: &mut [u8]) -> io::Result<usize>
-    ensures { IfOk result (λ n. Gathered all.new n) }
+    ensures { MatchResult result (λ n. Gathered all.new n) (λ _. length all.new ≡ length all.old) }
 {
     if all.len() != Reader::KEPT {
         return Ok(0);

@@ -3,7 +3,7 @@
 // the kept roots. Numbers are 8 bytes, the lowest first.
 #![tactic(auto)]
 
-ghost use Rattle.std.specs.Prelude.{◌≡◌, ◌≤◌, length, IfOk};
+ghost use Rattle.std.specs.Prelude.{◌≡◌, ◌≤◌, length, MatchResult};
 
 mod items; // items.rt: each kind of item, and its call
 mod reader; // reader.rt: items from standard input
@@ -51,7 +51,8 @@ pub fn play_next(
     source: &mut impl Read, left: u64, item: &mut [u8], host: Host,
     disk: &mut [u8], stage: &mut [u8], input: &mut [u8], output: &mut [u8], report: &mut [u8],
 ) -> io::Result<Played>
-    ensures { IfOk result (λ p. (p.left ≤ left) × (p.written ≤ length report.old)) }
+    ensures { MatchResult result (λ p. (p.left ≤ left) × (p.written ≤ length report.old))
+        (λ _. (disk.new ≡ disk.old) × (stage.new ≡ stage.old) × (input.new ≡ input.old) × (output.new ≡ output.old) × (report.new ≡ report.old)) }
 {
     let came = reader::next_from(source, left, item)?;
     let n = came.length;

@@ -1,5 +1,5 @@
 // The items of a script, read from standard input one by one.
-ghost use Rattle.std.specs.Prelude.{◌+◌, ◌≤◌, length, IfOk};
+ghost use Rattle.std.specs.Prelude.{◌≡◌, ◌+◌, ◌≤◌, length, MatchResult};
 
 use crate::shapes;
 use std::io;
@@ -19,7 +19,7 @@ pub struct Came {
 // Reads n bytes behind the first `at` of the item; a length of 0 says that bytes are missing.
 fn more(source: &mut impl Read, left: u64, item: &mut [u8], at: usize, n: usize) -> io::Result<Came>
     requires { at + n ≤ length item.old }
-    ensures { IfOk result (λ came. (came.length ≤ at + n) × (came.left ≤ left)) }
+    ensures { MatchResult result (λ came. (came.length ≤ at + n) × (came.left ≤ left)) (λ _. length item.new ≡ length item.old) }
 {
     let end = at + n;
     let got = stdin::fill(source, left, &mut item[at..end])?;
@@ -39,7 +39,7 @@ fn more(source: &mut impl Read, left: u64, item: &mut [u8], at: usize, n: usize)
 // Reads the next item of a script that may use `left` bytes more to the front of `item`, which has room for any. Of an item that is not
 // whole, or that begins as none does, what was read is lost.
 pub fn next_from(source: &mut impl Read, left: u64, item: &mut [u8]) -> io::Result<Came>
-    ensures { IfOk result (λ came. (came.length ≤ length item.new) × (came.left ≤ left)) }
+    ensures { MatchResult result (λ came. (came.length ≤ length item.new) × (came.left ≤ left)) (λ _. length item.new ≡ length item.old) }
 {
     if item.len() < ITEM {
         return Ok(Came { length: 0, left });
@@ -83,7 +83,7 @@ fn tail(
     most: u64,
 ) -> io::Result<Came>
     requires { (8 ≤ at) × (at + most ≤ length item.old) }
-    ensures { IfOk result (λ came. (came.length ≤ length item.new) × (came.left ≤ left)) }
+    ensures { MatchResult result (λ came. (came.length ≤ length item.new) × (came.left ≤ left)) (λ _. length item.new ≡ length item.old) }
 {
     let n = area::load(&*item, at - 8);
     let keep = least(n, most);

@@ -1,16 +1,17 @@
 // Standard input as one input that may use at most `left` bytes of it: a program that is given one input lends all that there is, and one
 // whose standard input holds many inputs lends each its own length. It is read from the reader that the caller hands in. A read that fails
-// ends the call with its error: bytes that came ahead of it stand in the area, and how many is not told.
+// ends the call with its error, and that alone: the area is as long as it was, bytes that came ahead of the error stand in it, and how
+// many is not told.
 #![tactic(auto)]
 
-ghost use Rattle.std.specs.Prelude.{◌≤◌, ◌<◌, length, IfOk};
+ghost use Rattle.std.specs.Prelude.{◌≡◌, ◌≤◌, ◌<◌, length, IfOk, MatchResult};
 
 use std::io;
 use std::io::Read;
 
 // Reads into an area until it is full or the input ends. It answers how many bytes came.
 pub fn full<R: Read>(source: &mut R, area: &mut [u8]) -> io::Result<usize>
-    ensures { IfOk result (λ n. n ≤ length area.old) }
+    ensures { MatchResult result (λ n. n ≤ length area.old) (λ _. length area.new ≡ length area.old) }
 {
     let mut done: usize = 0;
     while done < area.len() {
@@ -25,7 +26,7 @@ pub fn full<R: Read>(source: &mut R, area: &mut [u8]) -> io::Result<usize>
 
 // Reads at most `left` bytes into an area, until it is full or the input ends. It answers how many came.
 pub fn fill<R: Read>(source: &mut R, left: u64, area: &mut [u8]) -> io::Result<usize>
-    ensures { IfOk result (λ n. (n ≤ left) × (n ≤ length area.old)) }
+    ensures { MatchResult result (λ n. (n ≤ left) × (n ≤ length area.old)) (λ _. length area.new ≡ length area.old) }
 {
     if (area.len() as u64) <= left {
         return full(source, area);
