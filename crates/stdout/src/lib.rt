@@ -2,7 +2,7 @@
 // its error; bytes ahead of those that failed may be out then.
 #![tactic(auto)]
 
-ghost use Rattle.std.specs.Prelude.{◌<◌};
+ghost use Rattle.std.specs.Prelude.{◌≡◌, ◌<◌};
 
 use std::io;
 use std::io::Write;
@@ -25,7 +25,7 @@ pub fn hex<W: Write>(out: &mut W, bytes: &[u8]) -> io::Result<()> {
             out.write_all(&digits[..held])?;
             held = 0;
         }
-        let x = bytes[i];
+        let x = wide(bytes[i]);
         digits[held] = digit(x / 16);
         digits[held + 1] = digit(x % 16);
         held += 2;
@@ -35,11 +35,17 @@ pub fn hex<W: Write>(out: &mut W, bytes: &[u8]) -> io::Result<()> {
 }
 
 // A digit below 16, as a letter from ten on.
-fn digit(x: u8) -> u8
+fn digit(x: u64) -> u8
     requires { x < 16 }
 {
     if x < 10 {
-        return b'0' + x;
+        return b'0' + x as u8;
     }
-    b'a' + (x - 10)
+    b'a' + (x - 10) as u8
+}
+
+fn wide(x: u8) -> u64
+    ensures { result ≡ x }
+{
+    x as u64
 }
