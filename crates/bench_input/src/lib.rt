@@ -286,10 +286,10 @@ fn feed_piece(reader: Reader, bytes: &[u8], all: &mut [u8]) -> Reader
     reader.feed(bytes, all)
 }
 
-// One read, and what it brought fed. Where it brought nothing, nothing more is to come.
+// One read, and what it brought fed. Where it brought nothing, nothing more is to come. A read that fails leaves the area as it was.
 fn read_once(source: &mut impl Read, turn: Turn, all: &mut [u8]) -> io::Result<Turn>
     requires { 0 < turn.left }
-    ensures feeds { IfOk result (λ t. Feeds (state turn.reader all.old) (state t.reader all.new)) }
+    ensures feeds { MatchResult result (λ t. Feeds (state turn.reader all.old) (state t.reader all.new)) (λ _. all.new ≡ all.old) }
     ensures left_lt_left { IfOk result (λ t. t.left < turn.left) }
 {
     let reader = turn.reader;
@@ -305,7 +305,7 @@ fn read_once(source: &mut impl Read, turn: Turn, all: &mut [u8]) -> io::Result<T
 
 // Reads an input of at most `left` bytes from standard input, keeps it at the front of an area, and answers how many bytes stand there. It
 // stops where nothing more is kept; where another input follows, it reads on to the end of this one. For an area of another length it reads
-// nothing.
+// nothing. A read that fails ends it with the error; what was kept ahead of it stands in the area.
 pub fn gather(source: &mut impl Read, left: u64, follows: bool, all: &mut [u8]) -> io::Result<usize>
     ensures { MatchResult result (λ n. Gathered all.new n) (λ _. length all.new ≡ length all.old) }
 {

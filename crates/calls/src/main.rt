@@ -56,7 +56,8 @@ fn play_all(
     Ok(())
 }
 
-// Reads the next item, plays it, and writes its report.
+// Reads the next item, plays it, and writes its report. Where the read fails nothing was played; where the write fails the item was, and its
+// report may be out in part.
 fn play_next(
     source: &mut impl Read,
     sink: &mut impl Write,

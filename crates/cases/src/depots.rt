@@ -1,5 +1,5 @@
 // An input of `depot`, which has 8 sectors of disk, 4 of stage, and an output of 16,384 bytes.
-ghost use Rattle.std.specs.Prelude.{◌≤◌, length, IfOk};
+ghost use Rattle.std.specs.Prelude.{◌≡◌, ◌≤◌, length, MatchResult};
 
 use bench_input::Reader;
 use host::Host;
@@ -7,8 +7,9 @@ use std::io;
 use std::io::Read;
 
 // Reads an input of so many bytes and plays it; answers how many bytes `depot` writes, which stand at the front of `shown`.
+// A read that fails leaves `shown` as it was.
 pub fn play(source: &mut impl Read, many: u64, shown: &mut [u8]) -> io::Result<usize>
-    ensures { IfOk result (λ n. n ≤ length shown.new) }
+    ensures { MatchResult result (λ n. n ≤ length shown.new) (λ _. shown.new ≡ shown.old) }
 {
     let mut all = [0u8; Reader::KEPT];
     let n = bench_input::gather(source, many, true, &mut all)?;

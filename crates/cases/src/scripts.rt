@@ -1,15 +1,16 @@
 // A script of `calls`, read as `calls` reads it.
-ghost use Rattle.std.specs.Prelude.{◌≤◌, length, IfOk};
+ghost use Rattle.std.specs.Prelude.{◌≡◌, ◌≤◌, length, MatchResult};
 
 use host::Host;
 use std::io;
 use std::io::Read;
 
 // Plays a script of so many bytes of standard input on areas of zeros; answers how many bytes `calls` writes, which stand at the front of
-// `shown`. What is behind a malformed item is read too, so that the next case begins behind it.
+// `shown`. What is behind a malformed item is read too, so that the next case begins behind it. A read
+// that fails ends it with the error; reports that came ahead of it stand in `shown`.
 #[rattlefmt::skip]
 pub fn play(source: &mut impl Read, many: u64, shown: &mut [u8]) -> io::Result<usize>
-    ensures { IfOk result (λ n. n ≤ length shown.new) }
+    ensures { MatchResult result (λ n. n ≤ length shown.new) (λ _. length shown.new ≡ length shown.old) }
 {
     let mut item = [0u8; script::ITEM];
     let mut disk = [0u8; 262_144];
@@ -34,7 +35,7 @@ fn items(
     source: &mut impl Read, many: u64, item: &mut [u8],
     disk: &mut [u8], stage: &mut [u8], input: &mut [u8], output: &mut [u8], shown: &mut [u8],
 ) -> io::Result<usize>
-    ensures { IfOk result (λ n. n ≤ length shown.new) }
+    ensures { MatchResult result (λ n. n ≤ length shown.new) (λ _. length shown.new ≡ length shown.old) }
 {
     let mut host = script::no_host();
     let mut left = many;
@@ -59,7 +60,7 @@ fn next(
     disk: &mut [u8], stage: &mut [u8], input: &mut [u8], output: &mut [u8], shown: &mut [u8],
 ) -> io::Result<Stands>
     requires { end ≤ length shown.old }
-    ensures { IfOk result (λ stands. stands.end ≤ length shown.new) }
+    ensures { MatchResult result (λ stands. stands.end ≤ length shown.new) (λ _. length shown.new ≡ length shown.old) }
 {
     let played = script::play_next(source, left, item, host, disk, stage, input, output, &mut shown[end..])?;
     let after = played.host;
