@@ -12,3 +12,4 @@ pub mod Counts
 pub mod Apart
 pub mod Pigeons
 pub mod Sums
+pub mod Library
