@@ -7,21 +7,35 @@
 ghost use Rattle.std.specs.Prelude.{◌≡◌, ◌≤◌, ◌<◌, length, IfOk, MatchResult};
 
 use std::io;
-use std::io::Read;
+use std::io::{ErrorKind, Read};
 
 // Reads into an area until it is full or the input ends. It answers how many bytes came.
 pub fn full<R: Read>(source: &mut R, area: &mut [u8]) -> io::Result<usize>
     ensures { MatchResult result (λ n. n ≤ length area.old) (λ _. length area.new ≡ length area.old) }
 {
-    let mut done: usize = 0;
+    let mut done = 0;
+    // Kept: no plainer as a `for` or a chain, since what a read gives decides how far a turn goes.
     while done < area.len() {
-        let got = source.read(&mut area[done..])?;
+        let got = some(source, &mut area[done..])?;
         if got == 0 {
-            return Ok(done);
+            break;
         }
         done += got;
     }
     Ok(done)
+}
+
+// One read into an area, made again where a signal interrupts it. It answers how many bytes came.
+fn some<R: Read>(source: &mut R, area: &mut [u8]) -> io::Result<usize>
+    ensures { MatchResult result (λ n. n ≤ length area.old) (λ _. length area.new ≡ length area.old) }
+{
+    for _ in 0..u64::MAX {
+        match source.read(area) {
+            Err(e) if e.kind() == ErrorKind::Interrupted => {}
+            answer => return answer,
+        }
+    }
+    Err(ErrorKind::Interrupted.into())
 }
 
 // Reads at most `left` bytes into an area, until it is full or the input ends. It answers how many came.
@@ -31,41 +45,29 @@ pub fn fill<R: Read>(source: &mut R, left: u64, area: &mut [u8]) -> io::Result<u
     if (area.len() as u64) <= left {
         return full(source, area);
     }
-    let n = left as usize;
-    full(source, &mut area[0..n])
+    full(source, &mut area[..left as usize])
 }
 
 // Reads at most n bytes and drops them. It answers how many came.
 fn skip_some<R: Read>(source: &mut R, n: u64) -> io::Result<u64>
     ensures { IfOk result (λ k. k ≤ n) }
 {
-    let mut space = [0u8; 65536];
-    let got = fill(source, n, &mut space)?;
-    Ok(got as u64)
+    let mut space = [0; 65536];
+    Ok(fill(source, n, &mut space)? as u64)
 }
 
 // Reads n bytes and drops them. It answers how many came: fewer where the input ends.
 pub fn skip<R: Read>(source: &mut R, n: u64) -> io::Result<u64>
     ensures { IfOk result (λ k. k ≤ n) }
 {
-    let mut done: u64 = 0;
+    let mut done = 0;
+    // Kept: as in `full`.
     while done < n {
         let got = skip_some(source, n - done)?;
         if got == 0 {
-            return Ok(done);
+            break;
         }
         done += got;
     }
     Ok(done)
-}
-
-// The turns that are left of a loop over what is read: it ends at the first thing that is not whole.
-pub fn still(whole: bool, turns: u64) -> u64
-    requires { 0 < turns }
-    ensures { result < turns }
-{
-    if whole {
-        return turns - 1;
-    }
-    0
 }

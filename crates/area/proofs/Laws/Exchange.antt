@@ -1,10 +1,13 @@
--- Two spans of an area exchanged: piece by piece where they do not overlap; where they do, what both have is moved and the ends are
+-- Two spans of an area exchanged: at once where they do not overlap; where they do, what both have is moved and the ends are
 -- exchanged. Assumes nothing.
-use Rattle.lists.proofs.Kit.{◌≡◌, sym, ap, ◌∙◌, List, [], ◌∷◌, ℕ, ◌+◌, ◌≤◌, ◌<◌, le_antisymm, arith, length, get_or, set}
-use mathlib.Core.Logic.{◌⊎◌, inl, inr, ⊎_elim}
+use Rattle.lists.proofs.Kit.{◌≡◌, refl, sym, ap, ◌∙◌, List, ◌++◌, ℕ, ◌+◌, ◌-◌, ◌≤◌, arith, length, take, drop, take-append-drop}
+use Rattle.lists.proofs.Kit.{length-drop, length-take-le}
+use mathlib.Core.Logic.{◌⊎◌, ⊎_elim}
+use borrow.Rule.Slice.PartMut.{post_of, put_mid}
 use Rattle.area.specs.Area.{part, put, exchanged}
-use Rattle.area.proofs.Laws.Parts.{length_part, part_none, part-one, part-add}
-use Rattle.area.proofs.Laws.Puts.{put-nil, set-put, put-append, put-apart, put-cover, part-before, part-behind}
+use Rattle.area.proofs.Laws.Parts.{length_part, part-add, part-is, part-part}
+use Rattle.area.proofs.Laws.Puts.{put-append, put-apart, put-cover, part-before, part-behind, put_front, put_back, put_is}
+use Rattle.area.proofs.Laws.Lent.{lent_part}
 
 -- one of two spans ends where the other begins, or before
 abbrev Apart : ℕ → ℕ → ℕ → ℕ → Type 0
@@ -26,52 +29,37 @@ pub put-away : (a : List ℕ) (at : ℕ) (bs : List ℕ) (to : ℕ) (cs : List �
     → put (put a at bs) to cs ≡ put (put a to cs) at bs
 put-away a at bs to cs s = ⊎_elim (λ w. put-apart a at bs to cs w) (λ w. sym (put-apart a to cs at bs w)) s
 
--- ---- spans that do not overlap: the first i bytes of both are exchanged
+-- ---- spans that do not overlap: one in front of `high`, one from there on, exchanged by std
 
-pub none-swapped : (d : List ℕ) (one two : ℕ) → d ≡ exchanged d one two 0
+pub met-apart : {f b x y : List ℕ} (d : List ℕ) (low high n : ℕ) → low + n ≤ high → high + n ≤ length d → f ≡ take high d → b ≡ drop high d
+    → x ≡ take n b → y ≡ take (low + n - low) (drop low f)
+    → take low f ++ (x ++ post_of low (low + n - low) f) ++ (y ++ drop n b) ≡ exchanged d low high n
+unfolding part exchanged
+met-apart {f} {b} {x} {y} d low high n apart h ef eb ex ey =
+    let lf : length f ≡ high = ap length ef ∙ length-take-le high d (omega arith) in
+    let lb : length b ≡ length d - high = ap length eb ∙ length-drop high d in
+    let rest : drop high d ≡ b = sym eb in
+    let q : x ≡ part d high n = ex ∙ ap (take n) eb in
+    let p : y ≡ part d low n =
+    ey ∙ part-is f low n (low + n) refl ∙ ap (λ (l : List ℕ). part l low n) ef ∙ part-part d 0 high low n apart
+    ∙ ap (λ (k : ℕ). part d k n) (let z : 0 + low ≡ low = omega arith in z) in
+    let lq : length (part d high n) ≡ n = length_part d high n h in
+    let lp : length (part d low n) ≡ n = length_part d low n (omega arith) in
+    let front : put_mid low (low + n - low) f x ≡ put f low (part d high n) = lent_part f low n (omega arith) lq q in
+    let back : y ++ drop n b ≡ put b 0 (part d low n) =
+    ap (λ (l : List ℕ). l ++ drop n b) p ∙ sym (put_is b 0 (part d low n) n (omega arith) (omega arith)) in
+    let whole : d ≡ f ++ b = sym (take-append-drop high d) ∙ (λ i. sym ef i ++ sym eb i) in
+    (λ i. front i ++ back i)
+    ∙ sym (put_front f (put b 0 (part d low n)) low (part d high n) (omega arith))
+    ∙ ap (λ (l : List ℕ). put l low (part d high n)) (sym (put_back f b high (part d low n) (sym lf)))
+    ∙ ap (λ (l : List ℕ). put (put l high (part d low n)) low (part d high n)) (sym whole)
+
+-- the two spans may be named in either order where they do not overlap
+pub turned-apart : (d : List ℕ) (low high n : ℕ) → low + n ≤ high → high + n ≤ length d → exchanged d low high n ≡ exchanged d high low n
 unfolding exchanged
-none-swapped d one two =
-    sym ((λ x. put (put d two (part_none d one x)) one (part_none d two x)) ∙ put-nil (put d two []) one ∙ put-nil d two)
-
-more-swapped : (d : List ℕ) (one two i m : ℕ) → Apart one (i + m) two (i + m) → one + (i + m) ≤ length d → two + (i + m) ≤ length d
-    → exchanged (exchanged d one two i) (one + i) (two + i) m ≡ exchanged d one two (i + m)
-unfolding exchanged
-more-swapped d one two i m s g h =
-    let p : List ℕ = part d one i in
-    let q : List ℕ = part d two i in
-    let r : List ℕ = part d (one + i) m in
-    let lp : length p ≡ i = length_part d one i (omega arith) in
-    let lq : length q ≡ i = length_part d two i (omega arith) in
-    let lr : length r ≡ m = length_part d (one + i) m (omega arith) in
-    let e : List ℕ = put d two p in
-    let first : part (put e one q) (one + i) m ≡ r =
-    part-behind e one q (one + i) m (omega arith)
-    ∙ part-away d two p (one + i) m (⊎_elim (λ w. inl (omega arith)) (λ w. inr (omega arith)) s) in
-    let second : part (put e one q) (two + i) m ≡ part d (two + i) m =
-    part-away e one q (two + i) m (⊎_elim (λ w. inr (omega arith)) (λ w. inl (omega arith)) s)
-    ∙ part-behind d two p (two + i) m (omega arith) in
-    let turned : put (put e one q) (two + i) r ≡ put (put e (two + i) r) one q =
-    put-away e one q (two + i) r (⊎_elim (λ w. inl (omega arith)) (λ w. inr (omega arith)) s) in
-    (λ x. put (put (put e one q) (two + i) (first x)) (one + i) (second x))
-    ∙ ap (λ (l : List ℕ). put l (one + i) (part d (two + i) m)) (turned ∙ ap (λ (l : List ℕ). put l one q) (joined d two d one i m (omega arith)))
-    ∙ joined (put d two (part d one (i + m))) one d two i m (omega arith)
-
--- the loop's turn: one byte of each
-pub one-swapped : {l : List ℕ} (d : List ℕ) (one two i n : ℕ) → Apart one n two n → one + n ≤ length d → two + n ≤ length d → i < n
-    → length l ≡ length d → l ≡ exchanged d one two i
-    → set (set l (two + i) (get_or l (one + i) 0)) (one + i) (get_or l (two + i) 0) ≡ exchanged d one two (i + 1)
-unfolding exchanged
-one-swapped {l} d one two i n s g h k len e =
-    let x = get_or l (one + i) 0 in
-    let y = get_or l (two + i) 0 in
-    set-put (set l (two + i) x) (one + i) y
-    ∙ ap (λ (v : List ℕ). put v (one + i) (y ∷ [])) (set-put l (two + i) x)
-    ∙ sym (λ v. put (put l (two + i) (part-one l (one + i) (omega arith) v)) (one + i) (part-one l (two + i) (omega arith) v))
-    ∙ ap (λ (v : List ℕ). exchanged v (one + i) (two + i) 1) e
-    ∙ more-swapped d one two i 1 (⊎_elim (λ w. inl (omega arith)) (λ w. inr (omega arith)) s) (omega arith) (omega arith)
-
-pub all-swapped : {l : List ℕ} (d : List ℕ) (one two i n : ℕ) → i ≤ n → n ≤ i → l ≡ exchanged d one two i → l ≡ exchanged d one two n
-all-swapped d one two i n g h e = e ∙ ap (exchanged d one two) (le_antisymm g h)
+turned-apart d low high n apart h =
+    let lp : length (part d low n) ≡ n = length_part d low n (omega arith) in
+    sym (put-apart d low (part d high n) high (part d low n) (omega (arith, length_part d high n h)))
 
 -- ---- spans that overlap, k apart: m bytes are moved, k bytes at the ends exchanged
 
@@ -123,8 +111,8 @@ met-below d one two n m k apart whole h e f =
     ∙ swapped-below d one two m k apart (omega arith) ∙ ap (exchanged d one two) (sym whole)
 
 pub met-above : {a b : List ℕ} (d : List ℕ) (one two n m k : ℕ) → one ≡ two + k → n ≡ m + k → one + n ≤ length d
-    → a ≡ put d (one + k) (part d one m) → b ≡ exchanged a one two k → b ≡ exchanged d one two n
-met-above d one two n m k apart whole h e f =
+    → a ≡ put d (one + k) (part d one m) → b ≡ exchanged a two one k → length a ≡ length d → b ≡ exchanged d one two n
+met-above {a} d one two n m k apart whole h e f l =
     let t : k + m ≡ n = omega arith in
-    f ∙ ap (λ (l : List ℕ). exchanged l one two k) e
+    f ∙ turned-apart a two one k (omega arith) (omega arith) ∙ ap (λ (l : List ℕ). exchanged l one two k) e
     ∙ swapped-above d one two m k apart (omega arith) ∙ ap (exchanged d one two) t

@@ -1,10 +1,11 @@
 -- Numbers in bytes: both round trips, and bytes that are read or written in two parts. Assumes nothing.
-use Rattle.lists.proofs.Kit.{◌≡◌, refl, sym, ap, ◌∙◌, List, [], ◌∷◌, ◌++◌, ℕ, zero, suc, ◌+◌, ◌-◌, ◌*◌, ◌/◌, ◌%◌, ◌^◌, ◌≤◌, ◌<◌, pow-succ', mul_assoc}
-use Rattle.lists.proofs.Kit.{mul_comm, arith, length, take, drop, get_or, drop-cons}
+use Rattle.lists.proofs.Kit.{◌≡◌, refl, sym, ap, ◌∙◌, List, [], ◌∷◌, ◌++◌, ℕ, zero, suc, ◌+◌, ◌-◌, ◌*◌, ◌/◌, ◌%◌, ◌^◌, ◌<◌, pow-succ', mul_assoc}
+use Rattle.lists.proofs.Kit.{arith, length, take, drop, get_or, drop-cons}
 use native.Mathlib.Numerals.{add-one}
+use Rattle.std.specs.Int.{w64, from_le_bytes}
 use Rattle.area.specs.Area.{part}
 use Rattle.area.specs.Little.{value_of, bytes_of, Bytes}
-use Rattle.area.proofs.Laws.Parts.{part-add, part-one, length_part}
+use Rattle.area.proofs.Laws.Parts.{part-one}
 
 pub length-bytes : (k n : ℕ) → length (bytes_of k n) ≡ k
 unfolding bytes_of
@@ -66,15 +67,19 @@ value-append (x ∷ xs) ys =
     let m : 256 * 256 ^ length xs * value_of ys ≡ 256 * (256 ^ length xs * value_of ys) = mul_assoc 256 (256 ^ length xs) (value_of ys) in
     rw (value-append xs ys, pow-succ') (omega arith)
 
--- the lower and the upper half of what is read
-pub halves : (b : List ℕ) (at k : ℕ) (lo hi : ℕ) → at + (k + k) ≤ length b → lo ≡ value_of (part b at k) → hi ≡ value_of (part b (at + k) k)
-    → lo + hi * 256 ^ k ≡ value_of (part b at (k + k))
-halves b at k lo hi h p q =
-    (λ i. p i + q i * 256 ^ k)
-    ∙ ap (λ (n : ℕ). value_of (part b at k) + n) (mul_comm (value_of (part b (at + k) k)) (256 ^ k))
-    ∙ ap (λ (n : ℕ). value_of (part b at k) + 256 ^ n * value_of (part b (at + k) k)) (sym (length_part b at k (omega arith)))
-    ∙ sym (value-append (part b at k) (part b (at + k) k))
-    ∙ ap value_of (sym (part-add b at k k))
+-- 8 bytes, as std reads them
+pub value_le8 : (xs : List ℕ) → length xs ≡ 8 → from_le_bytes w64 xs ≡ value_of xs
+unfolding value_of
+value_le8 (a ∷ b ∷ c ∷ d ∷ e ∷ f ∷ g ∷ h ∷ []) l = omega arith
+value_le8 [] l = absurd (omega arith)
+value_le8 (a ∷ []) l = absurd (omega arith)
+value_le8 (a ∷ b ∷ []) l = absurd (omega arith)
+value_le8 (a ∷ b ∷ c ∷ []) l = absurd (omega arith)
+value_le8 (a ∷ b ∷ c ∷ d ∷ []) l = absurd (omega arith)
+value_le8 (a ∷ b ∷ c ∷ d ∷ e ∷ []) l = absurd (omega arith)
+value_le8 (a ∷ b ∷ c ∷ d ∷ e ∷ f ∷ []) l = absurd (omega arith)
+value_le8 (a ∷ b ∷ c ∷ d ∷ e ∷ f ∷ g ∷ []) l = absurd (omega arith)
+value_le8 (a ∷ b ∷ c ∷ d ∷ e ∷ f ∷ g ∷ h ∷ x ∷ xs) l = absurd (omega arith)
 
 -- one byte
 pub value-one : (b : List ℕ) (at : ℕ) → at < length b → get_or b at 0 ≡ value_of (part b at 1)

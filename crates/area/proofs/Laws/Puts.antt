@@ -1,6 +1,8 @@
 -- Bytes laid over areas: each law goes down the area, byte by byte. Assumes nothing.
 use Rattle.lists.proofs.Kit.{◌≡◌, refl, sym, ap, ◌∙◌, List, [], ◌∷◌, ◌++◌, append_assoc, append-nil, ℕ, zero, suc, ◌+◌, ◌≤◌, ◌<◌, arith, length, take}
-use Rattle.lists.proofs.Kit.{drop, get_or, set, length-append, drop_of_length-le, take_at, length-take-le}
+use Rattle.lists.proofs.Kit.{add-sub_cancel_left, ◌-◌, drop, get_or, set, length-append, drop_of_length-le, take_at, length-take-le}
+use Rattle.std.specs.List.{copy_within}
+use lib.Seq.{paste}
 use Rattle.area.specs.Area.{part, put}
 use Rattle.area.proofs.Laws.Parts.{length_part}
 
@@ -89,6 +91,23 @@ take_put a at bs k e h =
     let n : length (take at a ++ bs) ≡ k = omega (arith, length-append (take at a) bs, length-take-le at a (omega arith)) in
     ap (take k) (put_is a at bs k e h ∙ sym (append_assoc (take at a) bs (drop k a))) ∙ take_at (take at a ++ bs) (drop k a) k n
 
+-- a piece laid over the front of two areas, or over the rest behind the front
+pub put_front : (f b : List ℕ) (at : ℕ) (bs : List ℕ) → at + length bs ≤ length f → put (f ++ b) at bs ≡ put f at bs ++ b
+unfolding put
+put_front [] b zero [] h = put-nil b zero
+put_front [] b zero (c ∷ cs) h = absurd (omega arith)
+put_front [] b (suc at) bs h = absurd (omega arith)
+put_front (x ∷ f) b (suc at) bs h = cons x (put_front f b at bs (omega arith))
+put_front (x ∷ f) b zero [] h = refl
+put_front (x ∷ f) b zero (c ∷ cs) h = cons c (put_front f b zero cs (omega arith))
+
+pub put_back : (f b : List ℕ) (at : ℕ) (bs : List ℕ) → at ≡ length f → put (f ++ b) at bs ≡ f ++ put b 0 bs
+unfolding put
+put_back [] b zero bs e = refl
+put_back [] b (suc at) bs e = absurd (omega arith)
+put_back (x ∷ f) b zero bs e = absurd (omega arith)
+put_back (x ∷ f) b (suc at) bs e = cons x (put_back f b at bs (omega arith))
+
 -- a piece as long as the area
 pub put_all : (a bs : List ℕ) → length bs ≡ length a → put a 0 bs ≡ bs
 put_all a bs e =
@@ -150,3 +169,13 @@ get_or-behind (x ∷ xs) (suc at) bs (suc k) h = get_or-behind xs at bs k (omega
 get_or-behind (x ∷ xs) zero [] k h = refl
 get_or-behind (x ∷ xs) zero (b ∷ bs) zero h = absurd (omega arith)
 get_or-behind (x ∷ xs) zero (b ∷ bs) (suc k) h = get_or-behind xs zero bs k (omega arith)
+
+-- bytes of an area moved within it, as std says it
+pub pasted : (d : List ℕ) (from to n : ℕ) → from + n ≤ length d → to + n ≤ length d → copy_within d from (from + n) to ≡ put d to (part d from n)
+unfolding part
+pasted d from to n g h =
+    let k : from + n - from ≡ n = add-sub_cancel_left from n in
+    let l : length (part d from n) ≡ n = length_part d from n g in
+    ap (λ (m : ℕ). paste d to (drop from d) m) k
+    ∙ append_assoc (take to d) (part d from n) (drop (to + n) d)
+    ∙ sym (put_is d to (part d from n) (to + n) (omega (arith, l)) h)

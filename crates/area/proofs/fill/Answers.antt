@@ -1,17 +1,10 @@
--- `area::fill` meets its contract. The loop's invariant: the first i of the n bytes are laid. A turn lays one more. Assumes nothing.
-use Rattle.lists.proofs.Kit.{refl, sym, arith, rules, length-replicate, get_or-replicate}
-use Rattle.area.proofs.Laws.Puts.{put-nil}
-use Rattle.area.proofs.Laws.Loops.{one_more, all_laid}
+-- What is lent of the area is left as n times the byte. Assumes nothing.
+use Rattle.lists.proofs.Kit.{ap, ◌∙◌, ℕ, replicate, length-replicate}
+use Rattle.area.proofs.Laws.Lent.{lent_part, length_lent}
 use Rattle.area.proofs.fill.Goals as goal
 
-pub loop-i-preserved : goal.loop-i-preserved
-loop-i-preserved c =
-    let l = c.before.loop-i in
-    let n = c.before.before.args.n in
-    (omega arith, search rules, one_more _ _ _ _ (length-replicate n _) (omega arith) (sym (get_or-replicate n l.i _ 0 (omega arith))) l.invariant.2)
-
-pub loop-i-init : goal.loop-i-init
-loop-i-init c = (omega arith, refl, sym (put-nil _ _))
-
 pub returns : goal.returns
-returns c = all_laid _ _ _ _ (length-replicate _ _) c.loop-i-test.false c.before.loop-i.invariant.2
+returns c =
+    let a = c.args in
+    lent_part _ _ _ c.requires (length-replicate a.n a.b)
+    (c.fill.ensures.after (λ y e. e) ∙ ap (λ (k : ℕ). replicate k a.b) (length_lent a.a.now a.at a.n c.requires))

@@ -1,9 +1,6 @@
--- `stdout::hex` is safe and ends. Assumes nothing.
-use Rattle.std.proofs.Common.{◌≡◌, ◌-◌, ◌≤◌, length}
+-- `stdout::hex` is safe: the digits held are pairs, and no more than the array takes. Assumes nothing.
+use Rattle.std.proofs.Common.{◌≡◌, ◌%◌, ◌≤◌}
 use Rattle.stdout.proofs.hex.Given as goal
 
-abbrev pub invariant-loop-i : goal.invariant-loop-i
-invariant-loop-i g l = (l.i ≤ length l.bytes) × (l.held ≤ 128) × (length l.digits ≡ 128)
-
-abbrev pub decreases-loop-i : goal.decreases-loop-i
-decreases-loop-i g l = length l.bytes - l.i
+abbrev pub invariant-loop-byte : goal.invariant-loop-byte
+invariant-loop-byte g l = record { held : l.held ≤ 128; pairs : l.held % 2 ≡ 0 }
