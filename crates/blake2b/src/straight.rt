@@ -1,31 +1,19 @@
 // The straight path of what the tree hashes, a leaf or a node: a message of 65 bytes, without a key, to a digest of 32. It is one block,
-// so its words are read where they stand, F is taken once, and four words of the state are the digest.
+// so its words are read where they stand and F is taken once.
 ghost use Rattle.std.specs.Prelude.{◌≡◌, length, take, ◌==◌};
 ghost use Rattle.lists.specs.Pick.{both};
 ghost use Rattle.blake2b.specs.Compression.{words};
 ghost use Rattle.blake2b.specs.Blake2b as RFC;
 
 use crate::compression::{folded, local};
-use crate::data::start;
-use crate::rounds_again::rounds_again;
+use crate::data::{start, write};
+use crate::rounds::rounds;
 
 // Whether a digest of nn bytes, under a key of kk, of a message of ll goes this way.
 pub fn applies(nn: usize, kk: usize, ll: usize) -> bool
     ensures { result ≡ both (nn == 32) (both (kk == 0) (ll == 65)) }
 {
-    if nn != 32 {
-        return false;
-    }
-    if kk != 0 {
-        return false;
-    }
-    ll == 65
-}
-
-fn wide(x: u8) -> u64
-    ensures { result ≡ x }
-{
-    x as u64
+    nn == 32 && kk == 0 && ll == 65
 }
 
 // The words of the message's block: eight that it fills, one that its last byte begins, seven of zeros.
@@ -37,7 +25,7 @@ fn block(message: &[u8]) -> [u64; 16]
     [
         area::load(message, 0), area::load(message, 8), area::load(message, 16), area::load(message, 24),
         area::load(message, 32), area::load(message, 40), area::load(message, 48), area::load(message, 56),
-        wide(message[64]), 0, 0, 0,
+        u64::from(message[64]), 0, 0, 0,
         0, 0, 0, 0,
     ]
 }
@@ -48,7 +36,9 @@ fn state(message: &[u8]) -> [u64; 8]
     ensures { result ≡ RFC.finished message.now (RFC.start 32 0) }
 {
     let h = start(32, 0);
-    folded(h, rounds_again(block(message), local(h, 65, true)))
+    let mut v = local(&h, 65, true);
+    rounds::<true>(&block(message), &mut v);
+    folded(&h, &v)
 }
 
 // The digest, over all of the area.
@@ -57,9 +47,5 @@ pub fn digest(message: &[u8], out: &mut [u8])
     requires out_len { length out.old ≡ 32 }
     ensures { out.new ≡ take 32 (RFC.bytes (RFC.finished message.now (RFC.start 32 0))) }
 {
-    let h = state(message);
-    area::store(out, 0, 8, h[0]);
-    area::store(out, 8, 8, h[1]);
-    area::store(out, 16, 8, h[2]);
-    area::store(out, 24, 8, h[3]);
+    write(&state(message), out);
 }

@@ -6,18 +6,18 @@ mod self_test;
 
 use std::io;
 use std::io::Write;
-use stdout::{decimal, hex, text};
+use stdout::hex;
 
 fn main(rt: HostRuntime) -> io::Result<()> {
     let mut source = rt.stdin();
     let mut sink = rt.stdout();
-    let passed = self_test::passes();
-    if passed {
-        text(&mut sink, b"RFC 7693 Appendix E self-test: passed\n")?;
+    let verdict = if self_test::passes() {
+        "passed"
     } else {
-        text(&mut sink, b"RFC 7693 Appendix E self-test: FAILED\n")?;
-    }
-    let mut input = [0u8; 65536];
+        "FAILED"
+    };
+    writeln!(sink, "RFC 7693 Appendix E self-test: {verdict}")?;
+    let mut input = [0; 65536];
     let n = stdin::full(&mut source, &mut input)?;
     show_all(&mut sink, &input[..n])
 }
@@ -25,15 +25,13 @@ fn main(rt: HostRuntime) -> io::Result<()> {
 // Each item of the input; bytes behind the last whole one are left.
 fn show_all(sink: &mut impl Write, input: &[u8]) -> io::Result<()> {
     if input.len() < 1066 {
-        return text(sink, b"no keys and messages\n");
+        return writeln!(sink, "no keys and messages");
     }
-    let mut at: usize = 1066;
-    while 24 <= input.len() - at {
-        let nn = area::load(input, at);
-        let kk = area::load(input, at + 8);
-        let ll = area::load(input, at + 16);
+    for item in input[1066..].chunks_exact(24) {
+        let nn = area::load(item, 0);
+        let kk = area::load(item, 8);
+        let ll = area::load(item, 16);
         show(sink, &input[..66], &input[66..1066], nn, kk, ll)?;
-        at += 24;
     }
     Ok(())
 }
@@ -47,44 +45,15 @@ fn show(
     kk: u64,
     ll: u64,
 ) -> io::Result<()> {
-    text(sink, b"digest ")?;
-    decimal(sink, nn)?;
-    text(sink, b", key ")?;
-    decimal(sink, kk)?;
-    text(sink, b", message ")?;
-    decimal(sink, ll)?;
-    text(sink, b": ")?;
-    if nn > 66 {
-        return missing(sink);
+    write!(sink, "digest {nn}, key {kk}, message {ll}: ")?;
+    if nn > 66 || kk > keys.len() as u64 || ll > messages.len() as u64 {
+        return writeln!(sink, "not in the input");
     }
-    if kk > keys.len() as u64 {
-        return missing(sink);
+    let mut space = [0; 66];
+    let out = &mut space[..nn as usize];
+    match blake2b::digest(&keys[..kk as usize], &messages[..ll as usize], out) {
+        Ok(()) => hex(sink, out)?,
+        Err(_) => write!(sink, "refused, 2")?,
     }
-    if ll > messages.len() as u64 {
-        return missing(sink);
-    }
-    let k = kk as usize;
-    let l = ll as usize;
-    show_digest(sink, &keys[..k], &messages[..l], nn as usize)
-}
-
-fn missing(sink: &mut impl Write) -> io::Result<()> {
-    text(sink, b"not in the input\n")
-}
-
-fn show_digest(sink: &mut impl Write, key: &[u8], message: &[u8], nn: usize) -> io::Result<()> {
-    let mut space = [0u8; 66];
-    if nn <= 66 {
-        show_in(sink, key, message, &mut space[..nn])?;
-    }
-    Ok(())
-}
-
-fn show_in(sink: &mut impl Write, key: &[u8], message: &[u8], out: &mut [u8]) -> io::Result<()> {
-    let a = blake2b::digest(key, message, out);
-    match a {
-        blake2b::Answer::Done => hex(sink, out)?,
-        blake2b::Answer::Refused => text(sink, b"refused, 2")?,
-    }
-    text(sink, b"\n")
+    writeln!(sink)
 }

@@ -1,5 +1,7 @@
 // RFC 7693, Appendix E: the digest of the digests of 24 messages, each hashed without and with a key.
-ghost use Rattle.std.specs.Prelude.{◌≤◌, length};
+ghost use Rattle.std.specs.Prelude.{◌≤◌, length, IfOk};
+
+use blake2b::LengthError;
 
 // blake2b_res of the RFC.
 #[rattlefmt::skip]
@@ -9,75 +11,60 @@ const GRAND: [u8; 32] = [
 ];
 
 pub fn passes() -> bool {
-    let mut all = [0u8; 1968];
-    let grand = GRAND;
-    grand_digest(&mut all, &grand)
+    let mut all = [0; 1968];
+    grand_digest(&mut all) == Ok(GRAND)
 }
 
-// Whether the digests of all lengths, put one behind the other, have this digest.
-fn grand_digest(all: &mut [u8], grand: &[u8]) -> bool {
-    let a = of_length(all, 0, 20);
-    let b = of_length(all, a, 32);
-    let c = of_length(all, b, 48);
-    let d = of_length(all, c, 64);
-    let mut out = [0u8; 32];
-    blake2b::digest(b"", &all[..d], &mut out);
-    area::same(&out, grand)
+// The digest of the digests of all lengths, put one behind the other.
+fn grand_digest(all: &mut [u8]) -> Result<[u8; 32], LengthError> {
+    let mut at = 0;
+    for nn in [20, 32, 48, 64] {
+        at = of_length(all, at, nn)?;
+    }
+    let mut out = [0; 32];
+    blake2b::digest(b"", &all[..at], &mut out)?;
+    Ok(out)
 }
 
 // The digests of nn bytes, put behind the first `at` of all; answers where they end.
-fn of_length(all: &mut [u8], at: usize, nn: usize) -> usize
+fn of_length(all: &mut [u8], at: usize, nn: usize) -> Result<usize, LengthError>
     requires { (at ≤ length all.old) × (nn ≤ 64) }
-    ensures { result ≤ length all.new }
+    ensures { IfOk result (λ end. end ≤ length all.new) }
 {
-    let a = pair(all, at, nn, 0);
-    let b = pair(all, a, nn, 3);
-    let c = pair(all, b, nn, 128);
-    let d = pair(all, c, nn, 129);
-    let e = pair(all, d, nn, 255);
-    pair(all, e, nn, 1024)
-}
-
-// The digest of the message of ll bytes, without and with a key.
-fn pair(all: &mut [u8], at: usize, nn: usize, ll: usize) -> usize
-    requires { (at ≤ length all.old) × (nn ≤ 64) × (ll ≤ 1024) }
-    ensures { result ≤ length all.new }
-{
-    let mut key = [0u8; 64];
-    let mut message = [0u8; 1024];
-    both_ways(all, at, &mut key[..nn], &mut message[..ll])
-}
-
-fn both_ways(all: &mut [u8], at: usize, key: &mut [u8], message: &mut [u8]) -> usize
-    requires { (at ≤ length all.old) × (length key.old ≤ 64) × (length message.old ≤ 1024) }
-    ensures { result ≤ length all.new }
-{
-    let nn = key.len();
-    if all.len() - at < 2 * nn {
-        return at;
+    let mut end = at;
+    for ll in [0, 3, 128, 129, 255, 1024] {
+        end = pair(all, end, nn, ll)?;
     }
-    let ll = message.len();
-    sequence(message, ll as u64);
-    sequence(key, nn as u64);
+    Ok(end)
+}
+
+// The digest of the message of ll bytes, without and with a key; answers as `of_length`.
+fn pair(all: &mut [u8], at: usize, nn: usize, ll: usize) -> Result<usize, LengthError>
+    requires { (at ≤ length all.old) × (nn ≤ 64) × (ll ≤ 1024) }
+    ensures { IfOk result (λ end. end ≤ length all.new) }
+{
+    if all.len() - at < 2 * nn {
+        return Ok(at);
+    }
+    let mut key = [0; 64];
+    let mut message = [0; 1024];
+    sequence(&mut message[..ll], ll as u32);
+    sequence(&mut key[..nn], nn as u32);
     let mid = at + nn;
     let end = mid + nn;
-    blake2b::digest(b"", message, &mut all[at..mid]);
-    blake2b::digest(key, message, &mut all[mid..end]);
-    end
+    blake2b::digest(b"", &message[..ll], &mut all[at..mid])?;
+    blake2b::digest(&key[..nn], &message[..ll], &mut all[mid..end])?;
+    Ok(end)
 }
 
 // The RFC's deterministic sequence: Fibonacci numbers of 32 bits, the upper byte of each.
-fn sequence(out: &mut [u8], seed: u64)
-    requires { seed ≤ 1024 }
-{
-    let mut a: u64 = 0xDEAD4BAD * seed % 0x1_0000_0000;
-    let mut b: u64 = 1;
-    let mut i: usize = 0;
-    while i < out.len() {
-        let t = (a + b) % 0x1_0000_0000;
+fn sequence(out: &mut [u8], seed: u32) {
+    let mut a = 0xDEAD4BADu32.wrapping_mul(seed);
+    let mut b = 1u32;
+    for byte in out.iter_mut() {
+        let t = a.wrapping_add(b);
         a = b;
         b = t;
-        out[i] = (t / 0x100_0000 % 256) as u8;
-        i += 1;
+        *byte = (t >> 24) as u8;
     }
 }

@@ -3,7 +3,29 @@ use Rattle.lists.proofs.Kit.{◌≡◌, refl, sym, ap, ◌∙◌, Bool, List, []
 use Rattle.lists.proofs.Kit.{get_or, set, take_all, drop-cons, set-get_or}
 use lib.Bits.{xor_zero_r}
 use Rattle.blake2b.specs.Schedule.{chosen}
-use Rattle.blake2b.specs.Compression.{IV, G, round, rounds, xor_at, local, folded, F}
+use Rattle.std.specs.Prelude.{bit_xor}
+use Rattle.blake2b.specs.Compression.{IV, rotr, sum3, sum2, turn, G, round, rounds, xor_at, local, folded, F}
+
+-- ---- G, from what each of its eight steps sets
+
+pub sum3-is : {r : ℕ} (v : List ℕ) (a b x : ℕ) → r ≡ (get_or v a 0 + get_or v b 0 + x) % 2 ^ 64 → set v a r ≡ sum3 v a b x
+unfolding sum3
+sum3-is v a b x e = ap (set v a) e
+
+pub sum2-is : (v : List ℕ) (c d : ℕ) → set v c ((get_or v c 0 + get_or v d 0) % 2 ^ 64) ≡ sum2 v c d
+unfolding sum2
+sum2-is v c d = refl
+
+pub turn-is : {r : ℕ} (v : List ℕ) (d a n : ℕ) → r ≡ rotr n (bit_xor (get_or v d 0) (get_or v a 0)) → set v d r ≡ turn v d a n
+unfolding turn
+turn-is v d a n e = ap (set v d) e
+
+pub mixed : {v1 v2 v3 v4 v5 v6 v7 v8 : List ℕ} (v : List ℕ) (a b c d x y : ℕ) → v1 ≡ sum3 v a b x → v2 ≡ turn v1 d a 32 → v3 ≡ sum2 v2 c d
+    → v4 ≡ turn v3 b c 24 → v5 ≡ sum3 v4 a b y → v6 ≡ turn v5 d a 16 → v7 ≡ sum2 v6 c d → v8 ≡ turn v7 b c 63 → v8 ≡ G v a b c d x y
+unfolding G
+mixed v a b c d x y e1 e2 e3 e4 e5 e6 e7 e8 = cc
+
+-- ---- one round after another
 
 -- the two halves of a round that takes the words x
 abbrev columns : List ℕ → List ℕ → List ℕ

@@ -1,15 +1,14 @@
 -- A message of 65 bytes: which way it goes, the words of its one block, and the digest of 32 bytes. Assumes nothing.
-use Rattle.lists.proofs.Kit.{◌≡◌, refl, sym, ap, ◌∙◌, true, List, [], ◌∷◌, ◌++◌, ℕ, ◌+◌, ◌≤◌, arith, length, get_or, take, length-take-le, eqb, eqb-true}
+use Rattle.lists.proofs.Kit.{◌≡◌, refl, sym, ap, ◌∙◌, true, List, [], ◌∷◌, ◌++◌, ℕ, ◌+◌, ◌≤◌, arith, length, get_or, take, eqb, eqb-true}
 use Rattle.lists.specs.Pick.{both}
 use Rattle.lists.specs.Tab.{tab}
 use Rattle.lists.proofs.Laws.Pick.{both_left, both_right}
-use Rattle.area.specs.Area.{part, put, zeros}
-use Rattle.area.specs.Little.{value_of, bytes_of}
+use Rattle.area.specs.Area.{part, zeros}
+use Rattle.area.specs.Little.{value_of}
 use Rattle.area.proofs.Laws.Parts.{part-one, part-add}
-use Rattle.area.proofs.Laws.Puts.{put-nil, put_all}
 use Rattle.blake2b.specs.Compression.{words}
 use Rattle.blake2b.specs.Blake2b.{bytes, padded, finished, start, blake2b}
-use Rattle.blake2b.proofs.Laws.Data.{padded-inside, padded-behind, unkeyed, bytes-more, bytes-front, length-state, by_blocks}
+use Rattle.blake2b.proofs.Laws.Data.{padded-inside, padded-behind, unkeyed, by_blocks}
 
 -- ---- which way it goes
 
@@ -60,18 +59,6 @@ module _ (bs : List ℕ) (e : length bs ≡ 65) where
       ∷ none 104 (omega arith) refl x ∷ none 112 (omega arith) refl x ∷ none 120 (omega arith) refl x ∷ []
 
 -- ---- the digest
-
--- four words stored
-pub four-words : {a b c d : List ℕ} (out h : List ℕ) → length out ≡ 32 → length h ≡ 8 → a ≡ put out 0 (bytes_of 8 (get_or h 0 0))
-    → b ≡ put a 8 (bytes_of 8 (get_or h 1 0)) → c ≡ put b 16 (bytes_of 8 (get_or h 2 0)) → d ≡ put c 24 (bytes_of 8 (get_or h 3 0)) → d ≡ take 32 (bytes h)
-unfolding bytes
-four-words out h e n pa pb pc pd =
-    let one = bytes-more out h 0 n (omega arith) (sym (put-nil out 0)) pa in
-    let two = bytes-more out h 1 n (omega arith) one pb in
-    let three = bytes-more out h 2 n (omega arith) two pc in
-    bytes-more out h 3 n (omega arith) three pd
-    ∙ put_all out (bytes (take 4 h)) (omega (arith, length-state (take 4 h), length-take-le 4 h (omega arith)))
-    ∙ sym (bytes-front 4 h (omega arith))
 
 -- what it is the digest of
 pub straight-is : {r : List ℕ} (nn : ℕ) (key message : List ℕ) → Straight nn (length key) (length message)

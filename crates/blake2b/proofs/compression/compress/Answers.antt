@@ -3,4 +3,4 @@ use Rattle.blake2b.proofs.Laws.Steps.{whole}
 use Rattle.blake2b.proofs.compression.compress.Goals as goal
 
 pub returns : goal.returns
-returns c = whole _ _ _ _ c.before.before.local.ensures c.before.rounds.ensures c.folded.ensures
+returns c = whole _ _ _ _ c.local-v.ensures c.rounds.ensures c.folded.ensures

@@ -7,8 +7,10 @@ use Rattle.blake2b.proofs.compression.local.Goals as goal
 
 pub returns-then-last : goal.returns-then-last
 unfolding local xor_at
-returns-then-last c = let at = c.before in yes _ _ _ c.if-last.true (ap (λ (v : List ℕ). xor_at v 14 0xFFFF_FFFF_FFFF_FFFF) (vector at.args.h _ at.well_formed.0.1.0.1 at.ranges.t.fits))
+returns-then-last c =
+    let a = c.args in
+    yes _ _ _ c.if-last.true (ap (λ (v : List ℕ). xor_at v 14 0xFFFF_FFFF_FFFF_FFFF) (vector a.h.now _ c.told-h c.ranges.t.fits))
 
 pub returns-else-last : goal.returns-else-last
 unfolding local xor_at
-returns-else-last c = let at = c.before in no _ _ _ c.if-last.false (vector at.args.h _ at.well_formed.0.1.0.1 at.ranges.t.fits)
+returns-else-last c = no _ _ _ c.if-last.false (vector c.args.h.now _ c.told-h c.ranges.t.fits)

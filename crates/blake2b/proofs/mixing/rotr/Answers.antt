@@ -1,8 +1,7 @@
--- `blake2b::mixing::rotr` meets its contract: a rotation is the two shifts joined. Assumes nothing.
-use Rattle.lists.proofs.Kit.{rules}
-use Rattle.blake2b.specs.Compression.{rotr}
+-- Assumes nothing.
+use Rattle.lists.proofs.Kit.{◌∙◌}
+use Rattle.blake2b.proofs.Laws.Rotations.{rotates}
 use Rattle.blake2b.proofs.mixing.rotr.Goals as goal
 
 pub returns : goal.returns
-unfolding rotr
-returns c = search rules
+returns c = c.rotate_right.ensures ∙ rotates _ _ c.requires.0 c.requires.1 c.ranges.x.fits

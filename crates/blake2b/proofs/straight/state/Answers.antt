@@ -7,9 +7,6 @@ use Rattle.blake2b.proofs.straight.state.Goals as goal
 
 pub returns : goal.returns
 returns c =
-    let at_block = c.before.before.before in
-    let at-start = at_block.before in
-    let a = at-start.before.before.args in
-    let parts = whole _ _ _ _ c.before.before.local.ensures c.before.rounds_again.ensures c.folded.ensures in
-    let block = of_words _ _ _ _ at_block.block.ensures parts in
-    one_block _ _ _ (omega arith) (omega arith) block ∙ ap (finished a.message.now) at-start.start-h.ensures
+    let parts = whole _ _ _ _ c.local-v.ensures c.rounds.ensures c.folded.ensures in
+    let block = of_words _ _ _ _ c.block.ensures parts in
+    one_block _ _ _ (omega arith) (omega arith) block ∙ ap (finished c.args.message.now) c.start-h.ensures
