@@ -1,15 +1,14 @@
 -- The root of zeros by doubling: both halves of a power of two of segments are zeros, so the RFC's equation has one root twice. And the
--- loop that doubles: as far as it has come it holds the root of n zeros, n being 64 doubled. Assumes nothing.
-use Rattle.lists.proofs.Kit.{◌≡◌, refl, sym, ap, ap₂, ◌∙◌, false, List, ℕ, zero, suc, ◌-◌, ◌*◌, ◌^◌, ◌≤◌, ◌<◌, two-pow-succ, arith, length-replicate}
+-- loop that doubles: after k turns it holds the root of 2 ^ k segments of zeros. Assumes nothing.
+use Rattle.lists.proofs.Kit.{◌≡◌, refl, sym, ap, ap₂, ◌∙◌, false, List, ℕ, zero, suc, ◌+◌, ◌-◌, ◌*◌, ◌/◌, ◌^◌, ◌≤◌, ◌<◌, two-pow-succ, arith, length-replicate}
 use lib.Pow.{pow_pos, pow_mono}
 use Rattle.area.specs.Area.{zeros}
 use Rattle.area.specs.Slots.{Size}
 use Rattle.area.proofs.Laws.Parts.{part-whole}
-use Rattle.tree.specs.Tree.{leaf, node, leaf_of, root}
+use Rattle.tree.specs.Tree.{leaf, leaf_of, node, root}
 use Rattle.tree.specs.Zeros.{doubled}
 use Rattle.tree.proofs.Laws.Sides.{split}
 use Rattle.tree.proofs.Laws.Zeros.{part-zeros}
-use Rattle.tree.proofs.Laws.Joined.{small}
 use Rattle.tree.proofs.Theorems.{rfc-leaf, rfc-6962}
 
 pub zeros-doubled : (k : ℕ) → k ≤ 64 → root (zeros (64 * 2 ^ k)) ≡ doubled k
@@ -28,43 +27,28 @@ zeros-doubled (suc k) h =
 
 -- ---- the loop
 
--- r is the root of n zeros, `level` nodes up, and n is not above z
-pub record Come (z n : ℕ) (r : List ℕ) : Type 0 where
-  pub level : ℕ
-  pub long : n ≡ 64 * 2 ^ level
-  pub most : n ≤ z
-  pub made : r ≡ doubled level
+pub doubled-leaf : {r : List ℕ} → r ≡ leaf_of false (zeros 64) 0 → r ≡ doubled 0
+unfolding doubled leaf_of
+doubled-leaf e = e ∙ ap leaf (part-whole (zeros 64) 64 refl)
 
-pub come-some : {z n : ℕ} {r : List ℕ} → Come z n r → 0 < n
-come-some c = omega (arith, c.long, pow_pos c.level)
+pub doubled-node : {r x : List ℕ} (k : ℕ) → r ≡ doubled k → x ≡ node r r → x ≡ doubled (k + 1)
+unfolding doubled
+doubled-node k m e =
+    let more : suc k ≡ k + 1 = omega arith in
+    e ∙ ap (λ (l : List ℕ). node l l) m ∙ ap doubled more
 
-module _ (z : ℕ) (s : Size z) where
-  pub come-leaf : {n : ℕ} {r : List ℕ} → n ≡ 64 → r ≡ leaf_of false (zeros 64) 0 → Come z n r
-  unfolding doubled leaf_of
-  come-leaf long e =
-      record { level = 0; long = long; most = omega (arith, long, s.least); made = e ∙ ap leaf (part-whole (zeros 64) 64 refl) }
+module _ (z : ℕ) (s : Size z) (d : ℕ) (low : 2 ^ d ≤ z / 64) (high : z / 64 < 2 * 2 ^ d) where
+  -- the power of two below z's segments is all of them
+  levels : d ≡ s.depth
+  levels =
+      let n : z / 64 ≡ 2 ^ s.depth = omega (arith, s.segments) in
+      split d s.depth
+      (λ le.
+      split s.depth d (λ ge. omega (arith, le, ge))
+      (λ less. absurd (omega (arith, high, n, two-pow-succ d, pow_mono {i = suc d} {j = s.depth} less))))
+      (λ less. absurd (omega (arith, low, n, two-pow-succ s.depth, pow_pos s.depth, pow_mono {i = suc s.depth} {j = d} less)))
 
-  -- below z there is a level more
-  deeper : {n : ℕ} {r : List ℕ} (c : Come z n r) → n < z → c.level < s.depth
-  deeper c lt =
-      split s.depth c.level
-      (λ le. absurd (omega (arith, lt, c.long, s.segments, pow_mono {i = s.depth} {j = c.level} le))) (λ h. h)
-
-  pub come-node : {n m : ℕ} {r x : List ℕ} → Come z n r → n < z → m ≡ 2 * n → x ≡ node r r → Come z m x
-  unfolding doubled
-  come-node c lt twice e =
-      let k : ℕ = c.level in
-      let two = two-pow-succ k in
-      record {
-        level = suc k;
-        long = omega (arith, twice, c.long, two);
-        most = omega (arith, twice, c.long, two, s.segments, pow_mono {i = suc k} {j = s.depth} (deeper c lt));
-        made = e ∙ ap (λ (l : List ℕ). node l l) c.made;
-      }
-
-  pub come-all : {n : ℕ} {r : List ℕ} → Come z n r → z ≤ n → r ≡ root (zeros z)
-  come-all c ge =
-      let k : ℕ = c.level in
-      let all : 64 * 2 ^ k ≡ z = omega (arith, ge, c.long, c.most) in
-      let deep : k ≤ 64 = small k z (omega arith) (omega (arith, s.most)) in
-      c.made ∙ sym (zeros-doubled k deep) ∙ ap (λ (n : ℕ). root (zeros n)) all
+  pub zeros-made : {r : List ℕ} → r ≡ doubled d → r ≡ root (zeros z)
+  zeros-made e =
+      let deep = s.deep in
+      e ∙ ap doubled levels ∙ sym (zeros-doubled s.depth (omega (arith, deep))) ∙ ap (λ (n : ℕ). root (zeros n)) (sym s.segments)

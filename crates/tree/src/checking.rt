@@ -6,9 +6,12 @@ ghost use Rattle.tree.specs.Walk.{hashes};
 ghost use Rattle.tree.specs.Checker.{rebuilt, verdict};
 ghost use Rattle.tree.specs.Asks.{Rebuilt};
 
+use crate::leaves::Leaves;
+use crate::walks::{Below, Range, Subtree};
 use crate::{asked, hashing, walks};
 
 // What the checker takes.
+// Kept: docs/DECISIONS.md and the edit takes_one_segment_more name `Checker::LIMIT`.
 #[derive(Clone, Copy)]
 pub struct Checker {}
 
@@ -24,37 +27,35 @@ struct Built {
     pub next: usize,
 }
 
-// The root over the n leaves from `at` on, from the segments of the range and the hashes from byte p on.
-#[rattlefmt::skip]
-fn rebuild(bytes: &[u8], given: &[u8], at: usize, n: usize, depth: usize, first: usize, end: usize, p: usize) -> Built
-    requires { Rebuilt bytes.now given.now at n depth first end p }
-    ensures { (result.next ≡ p + 32 * hashes depth at n first end)
-        × (result.root ≡ rebuilt depth at n first end (leaf_of false bytes.now) given.now p) }
+// The root over the leaves of a subtree, from the segments of the range and the hashes from byte p on.
+fn rebuild(bytes: &[u8], given: &[u8], sub: Subtree, range: Range, p: usize) -> Built
+    requires { Rebuilt bytes.now given.now sub.at sub.n sub.depth range.first range.end p }
+    ensures { (result.next ≡ p + 32 * hashes sub.depth sub.at sub.n range.first range.end)
+        × (result.root ≡ rebuilt sub.depth sub.at sub.n range.first range.end (leaf_of false bytes.now) given.now p) }
 {
-    if walks::outside(at, n, first, end) {
+    if sub.outside(range) {
         let root = hashing::read(given, p);
-        let next = p + 32;
-        return Built { root, next };
+        return Built { root, next: p + 32 };
     }
-    if walks::inside(at, n, first, end) {
-        let root = walks::over(bytes, false, at - first, n, depth);
+    if sub.inside(range) {
+        let here = Subtree {
+            at: sub.at - range.first,
+            ..sub
+        };
+        let root = walks::over(Leaves::Segments(bytes), here);
         return Built { root, next: p };
     }
-    let half = walks::power(depth - 1);
-    if n <= half {
-        return rebuild(bytes, given, at, n, depth - 1, first, end, p);
-    }
-    let middle = at + half;
-    let rest = n - half;
-    let left = rebuild(bytes, given, at, half, depth - 1, first, end, p);
-    let next = left.next;
-    let right = rebuild(bytes, given, middle, rest, depth - 1, first, end, next);
-    let one = left.root;
-    let two = right.root;
-    let root = hashing::node(&one, &two);
-    Built {
-        root,
-        next: right.next,
+    match sub.below() {
+        Below::One(low) => rebuild(bytes, given, low, range, p),
+        Below::Two(left, right) => {
+            let left = rebuild(bytes, given, left, range, p);
+            let right = rebuild(bytes, given, right, range, left.next);
+            let root = hashing::node(&left.root, &right.root);
+            Built {
+                root,
+                next: right.next,
+            }
+        }
     }
 }
 
@@ -76,17 +77,11 @@ pub fn check(root: &[u8], count: usize, first: usize, end: usize, bytes: &[u8], 
     if bytes.len() != 64 * (end - first) {
         return false;
     }
-    if hashes.len() != 32 * walks::count(count, first, end) {
+    let range = Range { first, end };
+    if hashes.len() != 32 * walks::count(count, range) {
         return false;
     }
-    let built = rebuild(bytes, hashes, 0, count, walks::depth(count), first, end, 0);
-    let rebuilt = built.root;
-    agrees(root, &rebuilt)
-}
-
-// Whether the root given is the one rebuilt, all bytes of both.
-fn agrees(root: &[u8], rebuilt: &[u8]) -> bool
-    ensures { result ≡ same root.now rebuilt.now }
-{
-    area::same(root, rebuilt)
+    let all = Subtree { at: 0, n: count, depth: walks::depth(count) };
+    let built = rebuild(bytes, hashes, all, range, 0);
+    area::same(root, &built.root)
 }

@@ -12,11 +12,9 @@ pub fn zeros_root(z: usize) -> [u8; 32]
     ensures { result ≡ Says.root (zeros z) }
 {
     let segment = [0u8; 64];
-    let mut root = hashing::leaf(&segment, false, 0);
-    let mut n: usize = 64;
-    while n < z {
+    let mut root = hashing::segment(&segment, 0);
+    for _ in 0..(z / 64).ilog2() {
         root = hashing::node(&root, &root);
-        n = 2 * n;
     }
     root
 }

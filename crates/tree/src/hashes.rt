@@ -1,44 +1,48 @@
 // The hashes that prove a range, by a walk down the tree.
 ghost use Rattle.std.specs.Prelude.{◌≡◌, ◌+◌, ◌*◌};
 ghost use Rattle.area.specs.Area.{put};
-ghost use Rattle.tree.specs.Tree.{leaf_of};
+ghost use Rattle.tree.specs.Leaves.{are_roots, bytes_of, leaf_at};
 ghost use Rattle.tree.specs.Walk as Says;
 ghost use Rattle.tree.specs.Walk.{hashes};
 ghost use Rattle.tree.specs.Asks.{Written};
 
+use crate::leaves::Leaves;
 use crate::walks;
+use crate::walks::{Below, Range, Subtree};
 
-// Lays the hashes that prove the range, of the n leaves from `at` on, over out from byte p on, and answers where they end.
-#[rattlefmt::skip]
-fn walk(bytes: &[u8], roots: bool, at: usize, n: usize, depth: usize, first: usize, end: usize, out: &mut [u8], p: usize) -> usize
-    requires { Written roots bytes.now at n depth first end out.old p }
-    ensures { (result ≡ p + 32 * hashes depth at n first end)
-        × (out.new ≡ put out.old p (Says.walk depth at n first end (leaf_of roots bytes.now))) }
+// Lays the hashes that prove the range, of the leaves of a subtree, over out from byte p on, and answers where they end.
+fn walk(leaves: Leaves, sub: Subtree, range: Range, out: &mut [u8], p: usize) -> usize
+    requires { Written (are_roots leaves) (bytes_of leaves) sub.at sub.n sub.depth range.first range.end out.old p }
+    ensures { (result ≡ p + 32 * hashes sub.depth sub.at sub.n range.first range.end)
+        × (out.new ≡ put out.old p (Says.walk sub.depth sub.at sub.n range.first range.end (leaf_at leaves.entry))) }
 {
-    if walks::outside(at, n, first, end) {
-        let root = walks::over(bytes, roots, at, n, depth);
+    if sub.outside(range) {
+        let root = walks::over(leaves, sub);
         area::copy_between(&root, 0, out, p, 32);
         return p + 32;
     }
-    if walks::inside(at, n, first, end) {
+    if sub.inside(range) {
         return p;
     }
-    let half = walks::power(depth - 1);
-    if n <= half {
-        return walk(bytes, roots, at, n, depth - 1, first, end, out, p);
+    match sub.below() {
+        Below::One(low) => walk(leaves, low, range, out, p),
+        Below::Two(left, right) => {
+            let next = walk(leaves, left, range, out, p);
+            walk(leaves, right, range, out, next)
+        }
     }
-    let middle = at + half;
-    let rest = n - half;
-    let next = walk(bytes, roots, at, half, depth - 1, first, end, out, p);
-    walk(bytes, roots, middle, rest, depth - 1, first, end, out, next)
 }
 
 // Lays those that prove the range of all n leaves.
-#[rattlefmt::skip]
-pub fn write(bytes: &[u8], roots: bool, n: usize, first: usize, end: usize, out: &mut [u8], p: usize) -> usize
-    requires { Written roots bytes.now 0 n 64 first end out.old p }
-    ensures { (result ≡ p + 32 * hashes 64 0 n first end)
-        × (out.new ≡ put out.old p (Says.walk 64 0 n first end (leaf_of roots bytes.now))) }
+pub fn write(leaves: Leaves, n: usize, range: Range, out: &mut [u8], p: usize) -> usize
+    requires { Written (are_roots leaves) (bytes_of leaves) 0 n 64 range.first range.end out.old p }
+    ensures { (result ≡ p + 32 * hashes 64 0 n range.first range.end)
+        × (out.new ≡ put out.old p (Says.walk 64 0 n range.first range.end (leaf_at leaves.entry))) }
 {
-    walk(bytes, roots, 0, n, walks::depth(n), first, end, out, p)
+    let all = Subtree {
+        at: 0,
+        n,
+        depth: walks::depth(n),
+    };
+    walk(leaves, all, range, out, p)
 }

@@ -3,123 +3,96 @@
 // and range wants, but for the one thing that its line names.
 #![tactic(auto)]
 
-ghost use Rattle.std.specs.Prelude.{◌+◌, ◌≤◌, length};
+ghost use Rattle.std.specs.Prelude.{◌*◌, ◌<◌, ◌≤◌, length};
 
 use std::io;
 use std::io::{Read, Write};
-use stdout::{decimal, hex, text};
+use stdout::hex;
+
+// The bytes of 4,097 segments.
+const BYTES: usize = 262_208;
+
+// The bytes of the area that takes proofs.
+const AREA: usize = 4096;
 
 // The counts of segments whose roots and proofs are written.
 const COUNTS: [usize; 12] = [1, 2, 3, 5, 7, 64, 65, 128, 192, 200, 320, 4096];
 
-fn fill(bytes: &mut [u8]) {
-    let mut k = 0;
-    while k < bytes.len() {
-        bytes[k] = ((k % 251 + k / 64 % 241) % 256) as u8;
-        k += 1;
+// A range of the segments of one part among several of 64.
+#[derive(Clone, Copy)]
+struct Within {
+    parts: usize,
+    at: usize,
+    first: usize,
+    end: usize,
+}
+
+// Those whose proofs are written.
+#[rattlefmt::skip]
+const WITHINS: [Within; 6] = [
+    Within { parts: 1, at: 0, first: 0, end: 1 },
+    Within { parts: 2, at: 1, first: 0, end: 64 },
+    Within { parts: 3, at: 2, first: 0, end: 1 },
+    Within { parts: 3, at: 0, first: 63, end: 64 },
+    Within { parts: 5, at: 3, first: 10, end: 20 },
+    Within { parts: 5, at: 4, first: 0, end: 64 },
+];
+
+// What is given to the checker: a count, a range of it, and so many bytes of a root, of segments and of hashes.
+#[derive(Clone, Copy)]
+struct Given {
+    count: usize,
+    first: usize,
+    end: usize,
+    root: usize,
+    segments: usize,
+    hashes: usize,
+}
+
+impl Given {
+    // A whole root and two segments of 200, the range from 63 up to 65.
+    #[rattlefmt::skip]
+    fn whole(hashes: usize) -> Given {
+        Given { count: 200, first: 63, end: 65, root: 32, segments: 128, hashes }
     }
 }
 
-fn word(sink: &mut impl Write, name: &[u8]) -> io::Result<()> {
-    text(sink, name)?;
-    text(sink, b" ")
+fn fill(bytes: &mut [u8]) {
+    for (k, byte) in bytes.iter_mut().enumerate() {
+        *byte = ((k % 251 + k / 64 % 241) % 256) as u8;
+    }
 }
 
-fn number(sink: &mut impl Write, n: usize) -> io::Result<()> {
-    decimal(sink, n as u64)?;
-    text(sink, b" ")
-}
-
-fn end_line(sink: &mut impl Write) -> io::Result<()> {
-    text(sink, b"\n")
-}
-
-fn hex_line(sink: &mut impl Write, bytes: &[u8]) -> io::Result<()> {
-    hex(sink, bytes)?;
-    end_line(sink)
-}
-
-fn hash_line(sink: &mut impl Write, hash: &[u8; 32]) -> io::Result<()> {
-    hex_line(sink, hash)
-}
-
-fn hash_word(sink: &mut impl Write, hash: &[u8; 32]) -> io::Result<()> {
-    hex(sink, hash)?;
-    text(sink, b" ")
+// The root of the first n segments.
+fn root(bytes: &[u8], n: usize) -> [u8; 32]
+    requires { 64 * n ≤ length bytes.now }
+{
+    tree::root(&bytes[..64 * n]).unwrap()
 }
 
 fn root_line(sink: &mut impl Write, bytes: &[u8], n: usize) -> io::Result<()> {
-    if n <= bytes.len() / 64 {
-        let all = 64 * n;
-        let rooted = tree::root(&bytes[0..all]);
-        let root = rooted.root;
-        word(sink, b"root")?;
-        number(sink, n)?;
-        hash_line(sink, &root)?;
+    if bytes.len() / 64 < n {
+        return Ok(());
     }
-    Ok(())
+    write!(sink, "root {n} ")?;
+    hex(sink, &root(bytes, n))?;
+    writeln!(sink)
 }
 
-fn verdict(sink: &mut impl Write, yes: bool) -> io::Result<()> {
-    if yes {
-        text(sink, b"yes")?;
-    } else {
-        text(sink, b"no")?;
-    }
-    end_line(sink)
-}
-
-// The segments of the range, and the hashes in the first bytes of `out`, against the root.
+// What the checker says to the segments of the range and to hashes, against the root of n segments.
 fn checked(bytes: &[u8], n: usize, first: usize, end: usize, hashes: &[u8]) -> bool {
-    if n <= bytes.len() / 64 {
-        if end <= n {
-            if first <= end {
-                let all = 64 * n;
-                let from = 64 * first;
-                let to = 64 * end;
-                let rooted = tree::root(&bytes[0..all]);
-                let root = rooted.root;
-                return accepted(&root, n, first, end, &bytes[from..to], hashes);
-            }
-        }
+    if bytes.len() / 64 < n || n < end || end < first {
+        return false;
     }
-    false
+    let range = &bytes[64 * first..64 * end];
+    tree::check(&root(bytes, n), n, first, end, range, hashes)
 }
 
-#[rattlefmt::skip]
-fn accepted(root: &[u8; 32], n: usize, first: usize, end: usize, bytes: &[u8], hashes: &[u8]) -> bool {
-    tree::check(root, n, first, end, bytes, hashes)
+fn verdict(yes: bool) -> &'static str {
+    if yes { "yes" } else { "no" }
 }
 
-fn label(
-    sink: &mut impl Write,
-    name: &[u8],
-    a: usize,
-    b: usize,
-    c: usize,
-    d: usize,
-) -> io::Result<()> {
-    word(sink, name)?;
-    number(sink, a)?;
-    number(sink, b)?;
-    number(sink, c)?;
-    number(sink, d)
-}
-
-// The hashes, and what the checker says to them.
-fn shown(
-    sink: &mut impl Write,
-    bytes: &[u8],
-    n: usize,
-    first: usize,
-    end: usize,
-    hashes: &[u8],
-) -> io::Result<()> {
-    hex(sink, hashes)?;
-    text(sink, b" ")?;
-    verdict(sink, checked(bytes, n, first, end, hashes))
-}
-
+// The proof of a range, and what the checker says to it.
 fn range_line(
     sink: &mut impl Write,
     bytes: &[u8],
@@ -131,34 +104,22 @@ fn range_line(
     if bytes.len() / 64 < n {
         return Ok(());
     }
-    let all = 64 * n;
-    let proved = tree::prove(&bytes[0..all], first, end, out);
-    let count = proved.count;
+    let count = tree::prove(&bytes[..64 * n], first, end, out).unwrap_or(0);
     if out.len() / 32 < count {
         return Ok(());
     }
-    let used = 32 * count;
-    label(sink, b"range", n, first, end, count)?;
-    shown(sink, bytes, n, first, end, &out[0..used])
+    let hashes = &out[..32 * count];
+    write!(sink, "range {n} {first} {end} {count} ")?;
+    hex(sink, hashes)?;
+    let said = verdict(checked(bytes, n, first, end, hashes));
+    writeln!(sink, " {said}")
 }
 
 // Ranges at both ends, whole and half, and at the edges of parts of 64.
 fn ranges(sink: &mut impl Write, bytes: &[u8], n: usize, out: &mut [u8]) -> io::Result<()> {
-    if n < 1 {
-        return Ok(());
+    for (first, end) in [(0, 1), (n.saturating_sub(1), n), (0, n), (n / 2, n)] {
+        range_line(sink, bytes, n, first, end, out)?;
     }
-    range_line(sink, bytes, n, 0, 1, out)?;
-    range_line(sink, bytes, n, n - 1, n, out)?;
-    spans(sink, bytes, n, out)
-}
-
-fn spans(sink: &mut impl Write, bytes: &[u8], n: usize, out: &mut [u8]) -> io::Result<()> {
-    range_line(sink, bytes, n, 0, n, out)?;
-    range_line(sink, bytes, n, n / 2, n, out)?;
-    edges(sink, bytes, n, out)
-}
-
-fn edges(sink: &mut impl Write, bytes: &[u8], n: usize, out: &mut [u8]) -> io::Result<()> {
     if n < 65 {
         return Ok(());
     }
@@ -170,360 +131,186 @@ fn edges(sink: &mut impl Write, bytes: &[u8], n: usize, out: &mut [u8]) -> io::R
     range_line(sink, bytes, n, 64, 128, out)
 }
 
-fn counts(sink: &mut impl Write, bytes: &[u8], out: &mut [u8]) -> io::Result<()> {
-    let mut i = 0;
-    while i < 12 {
-        root_line(sink, bytes, COUNTS[i])?;
-        ranges(sink, bytes, COUNTS[i], out)?;
-        i += 1;
-    }
-    Ok(())
-}
-
-// The root of part i of 64 segments, among the parts' roots.
-fn put_root(bytes: &[u8], i: usize, roots: &mut [u8]) {
-    if bytes.len() / 4096 <= i {
-        return;
-    }
-    if roots.len() / 32 <= i {
-        return;
-    }
-    let from = 4096 * i;
-    let to = from + 4096;
-    let rooted = tree::root(&bytes[from..to]);
-    let root = rooted.root;
-    put_hash(&root, roots, 32 * i);
-}
-
-fn put_hash(hash: &[u8; 32], out: &mut [u8], at: usize)
-    requires { at + 32 ≤ length out.old }
-{
-    area::copy_between(hash, 0, out, at, 32);
-}
-
-fn part_roots(bytes: &[u8], parts: usize, roots: &mut [u8]) {
-    let mut i = 0;
-    while i < parts {
-        put_root(bytes, i, roots);
-        i += 1;
+// The roots of the parts of 64 segments, as many as there is room for.
+fn part_roots(bytes: &[u8], roots: &mut [u8]) {
+    for (part, root) in bytes.chunks_exact(4096).zip(roots.chunks_exact_mut(32)) {
+        if let Ok(known) = tree::root(part) {
+            root.copy_from_slice(&known);
+        }
     }
 }
 
-#[rattlefmt::skip]
-fn within_line(sink: &mut impl Write, bytes: &[u8], parts: usize, at: usize, first: usize, end: usize, roots: &mut [u8], out: &mut [u8]) -> io::Result<()> {
-    part_roots(bytes, parts, roots);
-    label(sink, b"within", parts, at, first, end)?;
-    if roots.len() / 32 < parts {
-        return Ok(());
-    }
-    within_roots(sink, bytes, &roots[0..32 * parts], at, first, end, out)
-}
-
-fn within_roots(
+// The root over the parts, and the proof of a range of one of them.
+fn within_line(
     sink: &mut impl Write,
     bytes: &[u8],
     roots: &[u8],
-    at: usize,
-    first: usize,
-    end: usize,
+    within: Within,
     out: &mut [u8],
 ) -> io::Result<()> {
-    if bytes.len() / 4096 <= at {
+    let Within {
+        parts,
+        at,
+        first,
+        end,
+    } = within;
+    if roots.len() / 32 < parts || bytes.len() / 4096 <= at {
         return Ok(());
     }
-    let from = 4096 * at;
-    let proved = tree::prove_in(roots, at, &bytes[from..from + 4096], first, end, out);
-    join_word(sink, roots)?;
-    front_line(sink, out, proved.count)
-}
-
-fn join_word(sink: &mut impl Write, roots: &[u8]) -> io::Result<()> {
-    let joined = tree::join(roots);
-    let root = joined.root;
-    hash_word(sink, &root)
-}
-
-// The first n hashes that stand in an area.
-fn front_line(sink: &mut impl Write, out: &[u8], n: usize) -> io::Result<()> {
-    if out.len() / 32 < n {
+    let roots = &roots[..32 * parts];
+    let part = &bytes[4096 * at..4096 * (at + 1)];
+    let count = tree::prove_in(roots, at, part, first, end, out).unwrap_or(0);
+    if out.len() / 32 < count {
         return Ok(());
     }
-    hex_line(sink, &out[0..32 * n])
+    write!(sink, "within {parts} {at} {first} {end} ")?;
+    hex(sink, &tree::join(roots).unwrap())?;
+    write!(sink, " ")?;
+    hex(sink, &out[..32 * count])?;
+    writeln!(sink)
 }
 
-// Parts of 64 segments: how many, which one, and a range within it.
-fn withins(
-    sink: &mut impl Write,
-    bytes: &[u8],
-    roots: &mut [u8],
-    out: &mut [u8],
-) -> io::Result<()> {
-    within_line(sink, bytes, 1, 0, 0, 1, roots, out)?;
-    within_line(sink, bytes, 2, 1, 0, 64, roots, out)?;
-    more_withins(sink, bytes, roots, out)
+// What the checker says to what stands in `all`: of a root from byte 0 on, of two segments from byte 32 on, and of hashes from byte 160 on;
+// None where so many bytes do not stand there.
+fn taken(all: &[u8], given: Given) -> Option<bool> {
+    let (front, hashes) = all.split_at_checked(160)?;
+    let (root, segments) = front.split_at(32);
+    let root = root.get(..given.root)?;
+    let segments = segments.get(..given.segments)?;
+    let hashes = hashes.get(..given.hashes)?;
+    Some(tree::check(root, given.count, given.first, given.end, segments, hashes))
 }
 
-fn more_withins(
-    sink: &mut impl Write,
-    bytes: &[u8],
-    roots: &mut [u8],
-    out: &mut [u8],
-) -> io::Result<()> {
-    within_line(sink, bytes, 3, 2, 0, 1, roots, out)?;
-    within_line(sink, bytes, 3, 0, 63, 64, roots, out)?;
-    most_withins(sink, bytes, roots, out)
-}
-
-fn most_withins(
-    sink: &mut impl Write,
-    bytes: &[u8],
-    roots: &mut [u8],
-    out: &mut [u8],
-) -> io::Result<()> {
-    within_line(sink, bytes, 5, 3, 10, 20, roots, out)?;
-    within_line(sink, bytes, 5, 4, 0, 64, roots, out)
-}
-
-// What the checker says to what stands in `all` (0 no, 1 yes; 2: it does not stand there): so many bytes of a root from byte 0 on, of two
-// segments from byte 32 on, and of hashes from byte 160 on.
-#[rattlefmt::skip]
-fn taken(all: &[u8], root: usize, n: usize, first: usize, end: usize, given: usize, hashes: usize) -> u64 {
-    if 32 < root {
-        return 2;
-    }
-    if 128 < given {
-        return 2;
-    }
-    if all.len() < 160 {
-        return 2;
-    }
-    if all.len() - 160 < hashes {
-        return 2;
-    }
-    let to = 32 + given;
-    let total = 160 + hashes;
-    let yes = tree::check(&all[0..root], n, first, end, &all[32..to], &all[160..total]);
-    if yes {
-        return 1;
-    }
-    0
-}
-
-// 0 if the checker says no with a bit of byte k flipped, which is set back; else 1.
-fn flip(all: &mut [u8], k: usize, hashes: usize) -> usize
-    ensures { result ≤ 1 }
+// Whether the checker says no with a bit of byte k flipped, which is set back.
+fn refuses_flipped(all: &mut [u8], k: usize, given: Given) -> bool
+    requires { k < length all.old }
 {
-    if all.len() <= k {
-        return 1;
-    }
-    let kept = all[k];
-    all[k] = kept ^ 1;
-    let said = taken(all, 32, 200, 63, 65, 128, hashes);
-    all[k] = kept;
-    if said == 0 {
-        return 0;
-    }
-    1
+    all[k] ^= 1;
+    let said = taken(all, given);
+    all[k] ^= 1;
+    said == Some(false)
 }
 
-// With a bit flipped in each of the bytes in turn: how often the checker does not say no.
-fn flipped(all: &mut [u8], total: usize, hashes: usize) -> usize {
+// With a bit flipped in each of the first bytes in turn: how often the checker does not say no.
+fn flipped(all: &mut [u8], total: usize, given: Given) -> usize
+    requires { total ≤ length all.old }
+{
     let mut times = 0;
-    let mut k = 0;
-    while k < total {
-        times += flip(all, k, hashes);
-        k += 1;
+    for k in 0..total {
+        if !refuses_flipped(all, k, given) {
+            times += 1;
+        }
     }
     times
 }
 
-fn told(sink: &mut impl Write, words: &[u8], n: usize) -> io::Result<()> {
-    text(sink, words)?;
-    decimal(sink, n as u64)
-}
-
-fn said(sink: &mut impl Write, taken: u64) -> io::Result<()> {
-    match taken {
-        0 => text(sink, b": no\n"),
-        1 => text(sink, b": yes\n"),
-        _ => text(sink, b": not laid\n"),
+// What is given to the checker, and what it says.
+fn given_line(sink: &mut impl Write, words: &str, all: &[u8], given: Given) -> io::Result<()> {
+    let Given {
+        count,
+        first,
+        end,
+        root,
+        segments,
+        hashes,
+    } = given;
+    let whole = hashes / 32;
+    write!(
+        sink,
+        "{words}: count {count}, range {first} {end}, root bytes {root}, segment bytes {segments}, "
+    )?;
+    write!(sink, "hashes {whole}, hash bytes {hashes}: ")?;
+    match taken(all, given) {
+        None => writeln!(sink, "not laid"),
+        Some(yes) => writeln!(sink, "{}", verdict(yes)),
     }
 }
 
-// What is given to the checker, and what it says.
+// A proof of the segments from 63 up to 65 of 200, and with one thing changed at a time.
 #[rattlefmt::skip]
-fn given_line(sink: &mut impl Write, words: &[u8], all: &[u8], root: usize, n: usize, first: usize, end: usize, given: usize, hashes: usize) -> io::Result<()> {
-    text(sink, words)?;
-    told(sink, b": count ", n)?;
-    told(sink, b", range ", first)?;
-    told(sink, b" ", end)?;
-    told(sink, b", root bytes ", root)?;
-    told(sink, b", segment bytes ", given)?;
-    told(sink, b", hashes ", hashes / 32)?;
-    told(sink, b", hash bytes ", hashes)?;
-    said(sink, taken(all, root, n, first, end, given, hashes))
-}
-
-// A proof of the segments from 63 up to 65 of 200 with one length changed at a time.
-fn lengths(sink: &mut impl Write, all: &[u8], hashes: usize) -> io::Result<()> {
+fn damaged(sink: &mut impl Write, bytes: &[u8; BYTES], all: &mut [u8; AREA]) -> io::Result<()> {
+    let hashes = lay(bytes, 200, 63, 65, all);
+    let whole = Given::whole(hashes);
+    given_line(sink, "whole", all, whole)?;
+    let times = flipped(all, 160 + hashes, whole);
+    writeln!(sink, "a bit flipped in each byte in turn: not refused {times}")?;
     if hashes < 32 {
         return Ok(());
     }
-    if 1024 < hashes {
-        return Ok(());
-    }
-    given_line(
-        sink,
-        b"one hash more",
-        all,
-        32,
-        200,
-        63,
-        65,
-        128,
-        hashes + 32,
-    )?;
-    given_line(
-        sink,
-        b"one hash fewer",
-        all,
-        32,
-        200,
-        63,
-        65,
-        128,
-        hashes - 32,
-    )?;
-    given_line(
-        sink,
-        b"a hash of 31 bytes",
-        all,
-        32,
-        200,
-        63,
-        65,
-        128,
-        hashes - 1,
-    )?;
-    given_line(
-        sink,
-        b"a root of 31 bytes",
-        all,
-        31,
-        200,
-        63,
-        65,
-        128,
-        hashes,
-    )?;
-    given_line(sink, b"one segment fewer", all, 32, 200, 63, 65, 64, hashes)
-}
-
-fn damaged(sink: &mut impl Write, bytes: &[u8], all: &mut [u8]) -> io::Result<()> {
-    let hashes = lay(bytes, 200, 63, 65, all);
-    given_line(sink, b"whole", all, 32, 200, 63, 65, 128, hashes)?;
-    told(
-        sink,
-        b"a bit flipped in each byte in turn: not refused ",
-        flipped(all, 160 + hashes, hashes),
-    )?;
-    end_line(sink)?;
-    lengths(sink, all, hashes)
+    given_line(sink, "one hash more", all, Given { hashes: hashes + 32, ..whole })?;
+    given_line(sink, "one hash fewer", all, Given { hashes: hashes - 32, ..whole })?;
+    given_line(sink, "a hash of 31 bytes", all, Given { hashes: hashes - 1, ..whole })?;
+    given_line(sink, "a root of 31 bytes", all, Given { root: 31, ..whole })?;
+    given_line(sink, "one segment fewer", all, Given { segments: 64, ..whole })
 }
 
 // The range ends one past the count: the walk comes to the one segment of it that there is, and rebuilds the root.
-fn passed(sink: &mut impl Write, bytes: &[u8], all: &mut [u8]) -> io::Result<()> {
+#[rattlefmt::skip]
+fn passed(sink: &mut impl Write, bytes: &[u8; BYTES], all: &mut [u8; AREA]) -> io::Result<()> {
     let hashes = lay(bytes, 200, 199, 200, all);
-    given_line(sink, b"whole", all, 32, 200, 199, 200, 64, hashes)?;
-    given_line(
-        sink,
-        b"range past the count",
-        all,
-        32,
-        200,
-        199,
-        201,
-        128,
-        hashes,
-    )
+    let last = Given { count: 200, first: 199, end: 200, root: 32, segments: 64, hashes };
+    given_line(sink, "whole", all, last)?;
+    given_line(sink, "range past the count", all, Given { end: 201, segments: 128, ..last })
 }
 
 // A full tree, and one segment more, each with the root and the proof of that many segments.
-fn wholes(sink: &mut impl Write, bytes: &[u8], all: &mut [u8]) -> io::Result<()> {
-    let most = lay(bytes, 4096, 4094, 4096, all);
-    given_line(sink, b"count 4096", all, 32, 4096, 4094, 4096, 128, most)?;
-    let over = lay(bytes, 4097, 4095, 4097, all);
-    given_line(sink, b"count 4097", all, 32, 4097, 4095, 4097, 128, over)
+#[rattlefmt::skip]
+fn wholes(sink: &mut impl Write, bytes: &[u8; BYTES], all: &mut [u8; AREA]) -> io::Result<()> {
+    let hashes = lay(bytes, 4096, 4094, 4096, all);
+    let most = Given { count: 4096, first: 4094, end: 4096, root: 32, segments: 128, hashes };
+    given_line(sink, "count 4096", all, most)?;
+    let hashes = lay(bytes, 4097, 4095, 4097, all);
+    let over = Given { count: 4097, first: 4095, end: 4097, root: 32, segments: 128, hashes };
+    given_line(sink, "count 4097", all, over)
 }
 
 // The area takes from standard input a root, a segment, and a proof of so many bytes. Whether all of it came.
 fn comes(source: &mut impl Read, all: &mut [u8], hashes: usize) -> io::Result<bool> {
-    if all.len() < 160 {
+    if all.len() < 160 || all.len() - 160 < hashes {
         return Ok(false);
     }
-    if all.len() - 160 < hashes {
-        return Ok(false);
-    }
-    let total = 160 + hashes;
     let front = stdin::full(source, &mut all[0..96])?;
+    let total = 160 + hashes;
     let proof = stdin::full(source, &mut all[160..total])?;
-    if front != 96 {
-        return Ok(false);
-    }
-    Ok(proof == hashes)
+    Ok(front == 96 && proof == hashes)
 }
 
 // One segment among 4,194,304, the largest count, and among one more, each with the root and the proof of that many segments
 // (make_large.py).
-fn limits(source: &mut impl Read, sink: &mut impl Write, all: &mut [u8]) -> io::Result<()> {
-    limit(source, sink, b"count 4194304", 4_194_304, 704, all)?;
-    limit(source, sink, b"count 4194305", 4_194_305, 736, all)
-}
-
-fn limit(
-    source: &mut impl Read,
-    sink: &mut impl Write,
-    words: &[u8],
-    n: usize,
-    hashes: usize,
-    all: &mut [u8],
-) -> io::Result<()> {
-    if comes(source, all, hashes)? {
-        given_line(sink, words, all, 32, n, 2_718_281, 2_718_282, 64, hashes)?;
+#[rattlefmt::skip]
+fn limits(source: &mut impl Read, sink: &mut impl Write, all: &mut [u8; AREA]) -> io::Result<()> {
+    for (words, count, hashes) in [
+        ("count 4194304", 4_194_304, 704),
+        ("count 4194305", 4_194_305, 736),
+    ] {
+        if comes(source, all, hashes)? {
+            let given = Given { count, first: 2_718_281, end: 2_718_282, root: 32, segments: 64, hashes };
+            given_line(sink, words, all, given)?;
+        }
     }
     Ok(())
 }
 
 // Where the walk asks for one hash in place of the whole tree, and that hash is the root.
-fn tops(sink: &mut impl Write, bytes: &[u8], all: &mut [u8]) -> io::Result<()> {
+#[rattlefmt::skip]
+fn tops(sink: &mut impl Write, bytes: &[u8; BYTES], all: &mut [u8; AREA]) -> io::Result<()> {
     lay_top(bytes, all);
-    given_line(sink, b"empty range", all, 32, 200, 0, 0, 0, 32)?;
-    given_line(sink, b"range swapped", all, 32, 200, 1, 0, 0, 32)?;
-    given_line(sink, b"count 0", all, 32, 0, 0, 1, 64, 32)
+    let empty = Given { count: 200, first: 0, end: 0, root: 32, segments: 0, hashes: 32 };
+    given_line(sink, "empty range", all, empty)?;
+    given_line(sink, "range swapped", all, Given { first: 1, ..empty })?;
+    given_line(sink, "count 0", all, Given { count: 0, end: 1, segments: 64, ..empty })
 }
 
 // The area takes the root of the first n segments, the two segments from `first` on, and the proof of `first` up to `end`. Answers how many
 // bytes the proof has.
-fn lay(bytes: &[u8], n: usize, first: usize, end: usize, all: &mut [u8]) -> usize
+fn lay(bytes: &[u8; BYTES], n: usize, first: usize, end: usize, all: &mut [u8; AREA]) -> usize
+    requires all { n ≤ 4097 }
+    requires two { first ≤ 4095 }
     ensures { result ≤ 1024 }
 {
-    if bytes.len() / 64 < n {
-        return 0;
-    }
-    if bytes.len() < 128 {
-        return 0;
-    }
-    if (bytes.len() - 128) / 64 < first {
-        return 0;
-    }
-    if all.len() < 160 {
-        return 0;
-    }
-    let whole = 64 * n;
-    lay_root(&bytes[0..whole], all, 0);
-    area::copy_between(bytes, 64 * first, all, 32, 128);
-    let proved = tree::prove(&bytes[0..whole], first, end, &mut all[160..]);
-    let count = proved.count;
+    all[..32].copy_from_slice(&root(bytes, n));
+    all[32..160].copy_from_slice(&bytes[64 * first..64 * first + 128]);
+    let count = tree::prove(&bytes[..64 * n], first, end, &mut all[160..]).unwrap_or(0);
     if 32 < count {
         return 0;
     }
@@ -531,35 +318,28 @@ fn lay(bytes: &[u8], n: usize, first: usize, end: usize, all: &mut [u8]) -> usiz
 }
 
 // The area takes the root of 200 segments, the first two of them, and the root again for a hash.
-fn lay_top(bytes: &[u8], all: &mut [u8]) {
-    if bytes.len() < 12800 {
-        return;
-    }
-    if all.len() < 192 {
-        return;
-    }
-    lay_root(&bytes[0..12800], all, 0);
-    area::copy_between(bytes, 0, all, 32, 128);
-    lay_root(&bytes[0..12800], all, 160);
-}
-
-fn lay_root(bytes: &[u8], all: &mut [u8], at: usize)
-    requires { at + 32 ≤ length all.old }
-{
-    let rooted = tree::root(bytes);
-    let root = rooted.root;
-    put_hash(&root, all, at);
+fn lay_top(bytes: &[u8; BYTES], all: &mut [u8; AREA]) {
+    let root = root(bytes, 200);
+    all[..32].copy_from_slice(&root);
+    all[32..160].copy_from_slice(&bytes[..128]);
+    all[160..192].copy_from_slice(&root);
 }
 
 fn main(rt: HostRuntime) -> io::Result<()> {
     let mut source = rt.stdin();
     let mut sink = rt.stdout();
-    let mut bytes = [0u8; 262_208];
-    let mut roots = [0u8; 4096];
-    let mut out = [0u8; 4096];
+    let mut bytes = [0; BYTES];
+    let mut roots = [0; 2048];
+    let mut out = [0; AREA];
     fill(&mut bytes);
-    counts(&mut sink, &bytes, &mut out)?;
-    withins(&mut sink, &bytes, &mut roots, &mut out)?;
+    for n in COUNTS {
+        root_line(&mut sink, &bytes, n)?;
+        ranges(&mut sink, &bytes, n, &mut out)?;
+    }
+    part_roots(&bytes, &mut roots);
+    for within in WITHINS {
+        within_line(&mut sink, &bytes, &roots, within, &mut out)?;
+    }
     damaged(&mut sink, &bytes, &mut out)?;
     passed(&mut sink, &bytes, &mut out)?;
     wholes(&mut sink, &bytes, &mut out)?;

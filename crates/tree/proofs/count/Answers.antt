@@ -1,19 +1,19 @@
 -- `count` meets its contract: a range or a refusal. Assumes nothing.
-use Rattle.lists.proofs.Kit.{sym, ap, ◌∙◌, ℕ, arith}
+use Rattle.lists.proofs.Kit.{refl, sym, ap, ◌∙◌, ℕ, arith}
 use Rattle.lists.proofs.Laws.Pick.{yes, no}
-use Rattle.tree.specs.Answers.{count_given, counted}
-use Rattle.tree.specs.declared.Counted.{Counted}
+use Rattle.tree.specs.Answers.{counted}
 use Rattle.tree.proofs.Laws.Answered.{ranged-tells}
 use Rattle.tree.proofs.count.Goals as goal
 
-pub count-count-requires : goal.count-count-requires
+pub returns-then-not-ranged-clause-answer : goal.returns-then-not-ranged-clause-answer
 unfolding counted
-count-count-requires c = let r = ranged-tells _ _ _ (sym c.before.ranged.ensures ∙ c.if-ranged.true) in omega arith
+returns-then-not-ranged-clause-answer c = no _ _ _ (sym c.ranged.ensures ∙ c.if-not-ranged.true) refl
 
-pub returns-then-ranged : goal.returns-then-ranged
-unfolding counted
-returns-then-ranged c = yes _ _ _ (sym c.before.before.ranged.ensures ∙ c.before.if-ranged.true) (ap (λ (n : ℕ). record { number = 0; count = n }) c.count-count.ensures)
+pub count-requires : goal.count-requires
+count-requires c = let r = ranged-tells _ _ _ (sym c.ranged.ensures ∙ c.if-not-ranged.false) in omega arith
 
-pub returns : goal.returns
+pub returns-clause-answer : goal.returns-clause-answer
 unfolding counted
-returns c = no _ _ _ (sym c.before.before.ranged.ensures ∙ c.before.if-ranged.false) (ap (λ (r : Counted). count_given r) c.refused.ensures)
+returns-clause-answer c =
+    yes _ _ _ (sym c.ranged.ensures ∙ c.if-not-ranged.false)
+    (ap (λ (n : ℕ). record { number = 0; count = n }) c.count.ensures)

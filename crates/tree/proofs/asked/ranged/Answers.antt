@@ -4,10 +4,10 @@ use Rattle.lists.proofs.Laws.Pick.{yes, no}
 use Rattle.tree.specs.Checker.{ranged}
 use Rattle.tree.proofs.asked.ranged.Goals as goal
 
-pub returns-then-end-first : goal.returns-then-end-first
+pub returns-then-first-end : goal.returns-then-first-end
 unfolding ranged
-returns-then-end-first c = no _ _ _ (le-ltb _ _ c.if-end-first.true) refl
+returns-then-first-end c = yes _ _ _ (lt-ltb _ _ c.if-first-end.true) refl
 
-pub returns : goal.returns
+pub returns-else-first-end : goal.returns-else-first-end
 unfolding ranged
-returns c = yes _ _ _ (lt-ltb _ _ c.if-end-first.false) refl
+returns-else-first-end c = no _ _ _ (le-ltb _ _ c.if-first-end.false) (le-ltb _ _ c.if-first-end.false)

@@ -3,4 +3,4 @@
 use Rattle.tree.proofs.checking.+rebuild.Given as goal
 
 abbrev pub decreases-rebuild : goal.decreases-rebuild
-decreases-rebuild l = l.depth
+decreases-rebuild l = l.sub.depth

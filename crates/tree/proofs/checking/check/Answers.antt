@@ -15,17 +15,47 @@ use Rattle.tree.proofs.checking.check.Goals as goal
 limited : (n : ℕ) → 1 ≤ n → n ≤ limit → both (leb 1 n) (leb n limit) ≡ true
 limited n a b = both-join _ _ (le-leb 1 n a) (le-leb n limit b)
 
+pub returns-then-count-lt1 : goal.returns-then-count-lt1
+unfolding verdict
+returns-then-count-lt1 c = no _ _ _ (both-not-left _ _ (lt-leb _ _ c.if-count-lt1.true)) refl
+
+pub returns-then-count-gt-LIMIT : goal.returns-then-count-gt-LIMIT
+unfolding verdict
+returns-then-count-gt-LIMIT c = no _ _ _ (both-not-right _ _ (lt-leb _ _ c.if-count-gt-LIMIT.true)) refl
+
+pub returns-then-not-ranged : goal.returns-then-not-ranged
+unfolding verdict
+returns-then-not-ranged c =
+    yes _ _ _ (limited _ c.if-count-lt1.false c.if-count-gt-LIMIT.false)
+    (no _ _ _ (sym c.ranged.ensures ∙ c.if-not-ranged.true) refl)
+
+pub overflow_sub-end : goal.overflow_sub-end
+overflow_sub-end c = let r = ranged-tells _ _ _ (sym c.ranged.ensures ∙ c.if-not-ranged.false) in omega arith
+
+pub overflow_mul-end : goal.overflow_mul-end
+overflow_mul-end c = let r = ranged-tells _ _ _ (sym c.ranged.ensures ∙ c.if-not-ranged.false) in omega arith
+
+pub returns-then-bytes-end : goal.returns-then-bytes-end
+unfolding verdict
+returns-then-bytes-end c =
+    yes _ _ _ (limited _ c.if-count-lt1.false c.if-count-gt-LIMIT.false)
+    (yes _ _ _ (sym c.ranged.ensures ∙ c.if-not-ranged.false) (no _ _ _ (ne_eqb _ _ c.if-bytes-end.true) refl))
+
+pub overflow_mul-count : goal.overflow_mul-count
+unfolding count
+overflow_mul-count c =
+    let a = c.args in
+    omega (arith, c.count.ensures, hashes-few 64 0 a.count a.first a.end (omega arith) (omega arith))
+
 pub returns-then-hashes-count : goal.returns-then-hashes-count
 unfolding verdict count
 returns-then-hashes-count c =
-    let else3 = c.before.before.before in let at-ranged = else3.before in let else2 = at-ranged.before in let else1 = else2.before in
-    let at-shared-slice-known = else1.before.before.before in let start = at-shared-slice-known.before in
-    let a = start.args in
+    let a = c.args in
     let other : length a.hashes.now ≡ 32 * hashes 64 0 a.count a.first a.end → ⊥ =
-    λ e. omega (arith, e, c.if-hashes-count.true, c.before.count.ensures) in
-    yes _ _ _ (limited _ else1.if-count-lt1.false else2.if-count-gt-LIMIT.false)
-    (yes _ _ _ (sym at-ranged.ranged.ensures ∙ else3.if-not-ranged.false)
-    (yes _ _ _ (eq-eqb _ _ c.before.before.if-bytes-end.false) (no _ _ _ (ne_eqb _ _ other) refl)))
+    λ e. omega (arith, e, c.if-hashes-count.true, c.count.ensures) in
+    yes _ _ _ (limited _ c.if-count-lt1.false c.if-count-gt-LIMIT.false)
+    (yes _ _ _ (sym c.ranged.ensures ∙ c.if-not-ranged.false)
+    (yes _ _ _ (eq-eqb _ _ c.if-bytes-end.false) (no _ _ _ (ne_eqb _ _ other) refl)))
 
 pub rebuild-built-requires : goal.rebuild-built-requires
 unfolding count
@@ -33,50 +63,18 @@ rebuild-built-requires c =
     let holds = c.depth.ensures in
     record {
       walked = walked-deep (from-top _ (omega arith) (omega arith)) holds;
-      given = omega (arith, c.before.before.before.if-bytes-end.false);
-      enough = room-deep _ _ _ _ _ _ _ holds (omega (arith, c.before.if-hashes-count.false, c.before.before.count.ensures));
+      given = omega (arith, c.if-bytes-end.false);
+      enough = room-deep _ _ _ _ _ _ _ holds (omega (arith, c.if-hashes-count.false, c.count.ensures));
     }
 
 pub returns : goal.returns
 unfolding verdict count rebuild
 returns c =
-    let at-rebuild = c.before.before.before in let deep = at-rebuild.before in let same_count = deep.before.before in
-    let else3 = same_count.before.before in let else2 = else3.before.before in let else1 = else2.before in
-    let at-shared-slice-known = else1.before.before.before in let start = at-shared-slice-known.before in
-    let a = start.args in
+    let a = c.args in
     let used : length a.hashes.now ≡ 32 * hashes 64 0 a.count a.first a.end =
-    omega (arith, deep.before.if-hashes-count.false, same_count.count.ensures) in
-    let built = built-deep _ _ _ _ _ _ _ _ deep.depth.ensures at-rebuild.rebuild-built.ensures in
-    yes _ _ _ (limited _ else1.if-count-lt1.false else2.if-count-gt-LIMIT.false)
-    (yes _ _ _ (sym else3.before.ranged.ensures ∙ else3.if-not-ranged.false)
-    (yes _ _ _ (eq-eqb _ _ same_count.before.if-bytes-end.false)
-    (yes _ _ _ (eq-eqb _ _ used)
-    (c.agrees.ensures ∙ ap (λ (l : List ℕ). same a.root.now l) built.1))))
-
-pub returns-then-count-lt1 : goal.returns-then-count-lt1
-unfolding count verdict
-returns-then-count-lt1 c = no _ _ _ (both-not-left _ _ (lt-leb _ _ c.if-count-lt1.true)) refl
-
-pub returns-then-count-gt-LIMIT : goal.returns-then-count-gt-LIMIT
-unfolding count verdict
-returns-then-count-gt-LIMIT c = no _ _ _ (both-not-right _ _ (lt-leb _ _ c.if-count-gt-LIMIT.true)) refl
-
-pub returns-then-not-ranged : goal.returns-then-not-ranged
-unfolding count verdict
-returns-then-not-ranged c = yes _ _ _ (limited _ c.before.before.before.if-count-lt1.false c.before.before.if-count-gt-LIMIT.false) (no _ _ _ (sym c.before.ranged.ensures ∙ c.if-not-ranged.true) refl)
-
-pub overflow_sub-end : goal.overflow_sub-end
-unfolding count verdict
-overflow_sub-end c = let r = ranged-tells _ _ _ (sym c.before.ranged.ensures ∙ c.if-not-ranged.false) in omega arith
-
-pub overflow_mul-end : goal.overflow_mul-end
-unfolding count verdict
-overflow_mul-end c = let r = ranged-tells _ _ _ (sym c.before.ranged.ensures ∙ c.if-not-ranged.false) in omega arith
-
-pub returns-then-bytes-end : goal.returns-then-bytes-end
-unfolding count verdict
-returns-then-bytes-end c = let back-3 = c.before.before.before in let back-4 = back-3.before in yes _ _ _ (limited _ back-4.if-count-lt1.false c.before.before.before.if-count-gt-LIMIT.false) (yes _ _ _ (sym c.before.before.ranged.ensures ∙ c.before.if-not-ranged.false) (no _ _ _ (ne_eqb _ _ c.if-bytes-end.true) refl))
-
-pub overflow_mul-count : goal.overflow_mul-count
-unfolding count verdict
-overflow_mul-count c = let back-3 = c.before.before.before in let back-6 = back-3.before.before.before in let back-9 = back-6.before.before.before in let a = back-9.args in omega (arith, c.count.ensures, hashes-few 64 0 a.count a.first a.end (omega arith) (omega arith))
+    omega (arith, c.if-hashes-count.false, c.count.ensures) in
+    let built = built-deep _ _ _ _ _ _ _ _ c.depth.ensures c.rebuild-built.ensures in
+    yes _ _ _ (limited _ c.if-count-lt1.false c.if-count-gt-LIMIT.false)
+    (yes _ _ _ (sym c.ranged.ensures ∙ c.if-not-ranged.false)
+    (yes _ _ _ (eq-eqb _ _ c.if-bytes-end.false)
+    (yes _ _ _ (eq-eqb _ _ used) (c.same.ensures ∙ ap (λ (l : List ℕ). same a.root.now l) built.1))))

@@ -1,11 +1,7 @@
--- `doubling::zeros_root` meets its contract. The loop's invariant: `root` is the root of n zeros, n being 64 doubled and not above z. The
--- measure is what is left of z. Assumes nothing.
-use Rattle.lists.proofs.Kit.{◌-◌}
-use Rattle.tree.proofs.Doubled.{Come}
+-- The loop's invariant: as many levels up as there were turns, `root` is the root of that many doublings. Assumes nothing.
+use Rattle.lists.proofs.Kit.{◌≡◌}
+use Rattle.tree.specs.Zeros.{doubled}
 use Rattle.tree.proofs.doubling.zeros_root.Given as goal
 
-abbrev pub invariant-loop-n : goal.invariant-loop-n
-invariant-loop-n l = Come l.z l.n l.root
-
-abbrev pub decreases-loop-n : goal.decreases-loop-n
-decreases-loop-n l = l.z - l.n
+abbrev pub invariant-loop : goal.invariant-loop
+invariant-loop l = l.root ≡ doubled l.counter

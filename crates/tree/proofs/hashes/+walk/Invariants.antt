@@ -3,4 +3,4 @@
 use Rattle.tree.proofs.hashes.+walk.Given as goal
 
 abbrev pub decreases-walk : goal.decreases-walk
-decreases-walk l = l.depth
+decreases-walk l = l.sub.depth

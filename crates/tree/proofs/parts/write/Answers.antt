@@ -8,42 +8,42 @@ use Rattle.tree.proofs.parts.write.Goals as goal
 
 pub write-own-requires : goal.write-own-requires
 write-own-requires c =
-    let at-shared-slice-known = c.before.before.before in let s = at-shared-slice-known.before in
-    let a = s.args in
-    let long = in-long a.roots.now a.at a.part.now a.first a.end s.requires.within (omega arith) (omega arith) in
-    record { walked = from-top _ (omega arith) (omega arith); all = roots-cover _ _ (omega arith); room = omega (arith, long, s.requires.end_in_bounds) }
+    let a = c.args in
+    let long = in-long a.roots.now a.at a.part.now a.range.first a.range.end c.requires.within (omega arith) (omega arith) in
+    record {
+      walked = from-top _ (omega arith) (omega arith);
+      all = roots-cover _ _ (omega arith);
+      room = omega (arith, long, c.requires.end_in_bounds);
+    }
 
 pub write-right-requires : goal.write-right-requires
 write-right-requires c =
-    let at-write = c.before.before.before in let at-shared-slice-known2 = at-write.before.before.before in
-    let s = at-shared-slice-known2.before.before in
-    let a = s.args in
-    let one = at-write.write-own.ensures in
-    let long = in-long a.roots.now a.at a.part.now a.first a.end s.requires.within (omega arith) (omega arith) in
+    let a = c.args in
+    let one = c.write-own.ensures in
+    let long = in-long a.roots.now a.at a.part.now a.range.first a.range.end c.requires.within (omega arith) (omega arith) in
     let kept = laid_kept _ _ _ _ _ _ _ _ _ one in
-    record { walked = from-top _ (omega arith) (omega arith); all = segments-cover _ _ (omega arith); room = omega (arith, long, s.requires.end_in_bounds, one.0, kept) }
+    record {
+      walked = from-top _ (omega arith) (omega arith);
+      all = segments-cover _ _ (omega arith);
+      room = omega (arith, long, c.requires.end_in_bounds, one.0, kept);
+    }
 
 pub write-requires : goal.write-requires
 write-requires c =
-    let at-write2 = c.before.before.before in let at_out = at-write2.before.before.before in let at-write = at_out.before in
-    let at-shared-slice-known2 = at-write.before.before.before in let s = at-shared-slice-known2.before.before in
-    let a = s.args in
-    let one = at-write.write-own.ensures in
-    let two = at-write2.write-right.ensures in
-    let long = in-long a.roots.now a.at a.part.now a.first a.end s.requires.within (omega arith) (omega arith) in
+    let a = c.args in
+    let one = c.write-own.ensures in
+    let two = c.write-right.ensures in
+    let long = in-long a.roots.now a.at a.part.now a.range.first a.range.end c.requires.within (omega arith) (omega arith) in
     let kept = laid_kept _ _ _ _ _ _ _ _ _ one in
     let kept-2 = laid_kept _ _ _ _ _ _ _ _ _ two in
     record {
       walked = from-top _ (omega arith) (omega arith);
       all = roots-cover _ _ (omega arith);
-      room = omega (arith, long, s.requires.end_in_bounds, one.0, two.0, kept, kept-2);
+      room = omega (arith, long, c.requires.end_in_bounds, one.0, two.0, kept, kept-2);
     }
 
 pub returns : goal.returns
 returns c =
-    let at-write3 = c.before.before in let at-out2 = at-write3.before.before.before in let at-write2 = at-out2.before in
-    let at_out = at-write2.before.before.before in let at-write = at_out.before in
-    let at-shared-slice-known2 = at-write.before.before.before in let s = at-shared-slice-known2.before.before in
-    let one = at-write.write-own.ensures in
-    let two = at-write2.write-right.ensures in
-    in-laid _ _ _ _ _ s.requires.within (omega arith) (omega arith) _ one.0 one.1 two.0 two.1 at-write3.write.ensures.1
+    let one = c.write-own.ensures in
+    let two = c.write-right.ensures in
+    in-laid _ _ _ _ _ c.requires.within (omega arith) (omega arith) _ one.0 one.1 two.0 two.1 c.write.ensures.1

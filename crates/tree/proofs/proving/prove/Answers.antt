@@ -1,50 +1,49 @@
 -- `prove` meets its contract: refused where the bytes, the range or the area are not as stated, else the walk is laid from byte 0 on.
 -- Assumes nothing.
-use Rattle.lists.proofs.Kit.{sym, ◌∙◌, arith}
-use Rattle.tree.specs.Walk.{count}
+use Rattle.lists.proofs.Kit.{◌≡◌, sym, ◌∙◌, ◌*◌, arith, length}
+use Rattle.tree.specs.Walk.{count, proof}
 use Rattle.tree.specs.Answers.{proved}
 use Rattle.tree.proofs.Laws.Leaves.{segments-cover}
-use Rattle.tree.proofs.Laws.Answered.{provable-tells, from-top, proof-long, proof-put, not-asked, no_room, all_laid}
+use Rattle.tree.proofs.Laws.Answered.{Provable, provable-tells, from-top, proof-long, proof-put, not-asked, no_room, all_laid}
 use Rattle.tree.proofs.proving.prove.Goals as goal
+use Rattle.tree.proofs.proving.prove.Goals.{After-count-count}
 
-pub returns-then-out-count : goal.returns-then-out-count
-unfolding proved count
-returns-then-out-count c =
-    let else1 = c.before.before.before in let at-provable = else1.before in let start = at-provable.before.before.before in
-    let p = provable-tells _ _ _ (sym at-provable.provable.ensures ∙ else1.if-not-provable.false) in
-    let a = start.args in
-    let long = proof-long a.bytes.now a.first a.end (omega arith) (omega arith) in
-    no_room _ _ _ (omega (arith, long, c.before.before.count-count.ensures, c.before.if-out-count.true)) c.refused-then-out-count.ensures
+tells : (c : After-count-count) → Provable c.args.bytes.now c.args.first c.args.end
+tells c = provable-tells _ _ _ (sym c.provable.ensures ∙ c.if-not-provable.false)
+
+-- the count counts the proof
+long : (c : After-count-count) → length (proof c.args.bytes.now c.args.first c.args.end) ≡ 32 * c.count-count.result
+unfolding count
+long c =
+    let p = tells c in
+    let a = c.args in
+    omega (arith, c.count-count.ensures, proof-long a.bytes.now a.first a.end (omega arith) (omega arith))
+
+pub returns-then-not-provable-clause-answer : goal.returns-then-not-provable-clause-answer
+unfolding proved
+returns-then-not-provable-clause-answer c = not-asked _ _ _ (sym c.provable.ensures ∙ c.if-not-provable.true)
+
+pub count-count-requires : goal.count-count-requires
+count-count-requires c = let p = provable-tells _ _ _ (sym c.provable.ensures ∙ c.if-not-provable.false) in omega arith
+
+pub returns-then-out-count-clause-answer : goal.returns-then-out-count-clause-answer
+unfolding proved
+returns-then-out-count-clause-answer c =
+    no_room _ _ _ (omega (arith, long (goal.at.returns-then-out-count-clause-answer c).After-count-count, c.if-out-count.true))
 
 pub write-requires : goal.write-requires
 unfolding count
 write-requires c =
-    let else1 = c.before.before.before in let at-provable = else1.before in
-    let p = provable-tells _ _ _ (sym at-provable.provable.ensures ∙ else1.if-not-provable.false) in
+    let p = tells (goal.at.write-requires c).After-count-count in
     record {
       walked = from-top _ (omega arith) (omega arith);
       all = segments-cover _ _ (omega arith);
-      room = omega (arith, c.before.before.count-count.ensures, c.before.if-out-count.false);
+      room = omega (arith, c.count-count.ensures, c.if-out-count.false);
     }
 
-pub returns : goal.returns
-unfolding proved count
-returns c =
-    let at-write = c.before.before in let else2 = at-write.before.before in let at_count = else2.before in let else1 = at_count.before in
-    let at-provable = else1.before in let start = at-provable.before.before.before in
-    let a = start.args in
-    let t = sym at-provable.provable.ensures
-    ∙ else1.if-not-provable.false in
-    let p = provable-tells _ _ _ t in
-    let long = proof-long a.bytes.now a.first a.end (omega arith) (omega arith) in
-    all_laid _ _ _ t (omega (arith, long, at_count.count-count.ensures))
-    (omega (arith, long, at_count.count-count.ensures, else2.if-out-count.false))
-    (proof-put _ _ _ _ at-write.write.ensures.1)
-
-pub returns-then-not-provable : goal.returns-then-not-provable
+pub returns-clause-answer : goal.returns-clause-answer
 unfolding proved
-returns-then-not-provable c = not-asked _ _ _ (sym c.before.before.provable.ensures ∙ c.before.if-not-provable.true) c.refused.ensures
-
-pub count-count-requires : goal.count-count-requires
-unfolding proved
-count-count-requires c = let p = provable-tells _ _ _ (sym c.before.provable.ensures ∙ c.if-not-provable.false) in omega arith
+returns-clause-answer c =
+    let l = long (goal.at.returns-clause-answer c).After-count-count in
+    all_laid _ _ _ (sym c.provable.ensures ∙ c.if-not-provable.false) l (omega (arith, l, c.if-out-count.false))
+    (proof-put _ _ _ _ c.write.ensures.1)

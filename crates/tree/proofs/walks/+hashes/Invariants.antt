@@ -3,4 +3,4 @@
 use Rattle.tree.proofs.walks.+hashes.Given as goal
 
 abbrev pub decreases-hashes : goal.decreases-hashes
-decreases-hashes l = l.depth
+decreases-hashes l = l.sub.depth

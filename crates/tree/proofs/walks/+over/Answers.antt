@@ -1,49 +1,47 @@
--- `walks::over` meets its contract, by the depth, which is the measure: at 0 it is the leaf; else the half is 2 ^ (depth - 1), and the
--- calls below give the roots over one part or two. Assumes nothing.
-use Rattle.lists.proofs.Kit.{sym, ◌∙◌, ◌-◌, arith}
+-- `walks::over` meets its contract, by the depth, which is the measure: at 0 it is the leaf, else the calls below give the roots over one
+-- part or two. Assumes nothing.
+use Rattle.lists.proofs.Kit.{refl, sym, ap, subst, ◌∙◌, ◌-◌, arith}
 use lib.Pow.{pow_pos}
-use Rattle.tree.proofs.Laws.Leaves.{covers_less, covers-fits}
+use Rattle.tree.specs.Asks.{Over}
+use Rattle.tree.specs.Leaves.{are_roots, bytes_of, leaf_at}
+use Rattle.tree.specs.Tree.{tree}
+use Rattle.tree.specs.declared.walks.Subtree.{Subtree}
+use Rattle.tree.proofs.Laws.Leaves.{covers_less}
+use Rattle.tree.proofs.Laws.Levels.{below-one, below-two}
 use Rattle.tree.proofs.Laws.Trees.{tree-leaf, tree-less, tree-more}
 use Rattle.tree.proofs.walks.+over.Goals as goal
 
 pub leaf-requires : goal.leaf-requires
-leaf-requires t c = covers_less _ _ _ _ (omega arith) c.before.before.requires.all
+leaf-requires t c = covers_less _ _ _ _ (omega arith) c.requires.all
 
-pub returns-then-depth-eq0 : goal.returns-then-depth-eq0
-returns-then-depth-eq0 t c = c.leaf.ensures ∙ sym (tree-leaf _ _ _ _ c.before.if-depth-eq0.true)
-
-pub overflow_sub-depth : goal.overflow_sub-depth
-overflow_sub-depth t c = omega (arith, c.if-depth-eq0.false)
-
-pub power-largest-requires : goal.power-largest-requires
-power-largest-requires t c = omega (arith, c.if-depth-eq0.false)
-
-pub overflow_sub-depth-then-n-largest : goal.overflow_sub-depth-then-n-largest
-overflow_sub-depth-then-n-largest t c = omega (arith, c.before.before.if-depth-eq0.false)
-
-pub over-requires : goal.over-requires
-over-requires t c = let deep = c.before.before in let w = deep.before.before.requires in
-    (omega (arith, deep.if-depth-eq0.false), record { some = w.some; deep = omega arith; all = w.all })
-
-pub returns-then-n-largest : goal.returns-then-n-largest
-returns-then-n-largest t c = let half = c.before.before in tree-less _ _ _ _ _ (omega (arith, half.before.if-depth-eq0.false)) half.power-largest.ensures c.before.if-n-largest.true c.over.ensures
-
-pub overflow_add-middle : goal.overflow_add-middle
-overflow_add-middle t c = let back-3 = c.before.before.before in let back-4 = back-3.before in omega (arith, covers-fits _ _ _ back-4.requires.all)
-
-pub overflow_sub-depth-2 : goal.overflow_sub-depth-2
-overflow_sub-depth-2 t c = omega (arith, c.before.before.if-depth-eq0.false)
+pub returns-then-sub-eq0 : goal.returns-then-sub-eq0
+returns-then-sub-eq0 t c = c.leaf.ensures ∙ sym (tree-leaf _ _ _ _ c.if-sub-eq0.true)
 
 pub over-left-requires : goal.over-left-requires
-over-left-requires t c = let deep = c.before.before in let start = deep.before.before in let some = pow_pos (start.args.depth - 1) in
-    (omega (arith, deep.if-depth-eq0.false), record { some = omega arith; deep = omega arith; all = covers_less _ _ _ _ (omega arith) start.requires.all })
+over-left-requires t c =
+    let q = below-two _ c.below.ensures c.in-Two.is in
+    let w = c.requires in
+    let a = c.args in
+    let p = pow_pos (a.sub.depth - 1) in (
+      omega (arith, c.if-sub-eq0.false, ap (λ (k : Subtree). k.depth) q.1),
+      subst (λ (k : Subtree). Over (are_roots a.leaves) (bytes_of a.leaves) k.at k.n k.depth) (sym q.1)
+          (record {
+            some = omega (arith, p);
+            deep = omega (arith, w.deep);
+            top = omega (arith, w.top, q.0);
+            all = covers_less _ _ _ _ (omega (arith, q.0)) w.all;
+          }),
+    )
 
-pub overflow_sub-depth-3 : goal.overflow_sub-depth-3
-overflow_sub-depth-3 t c = omega (arith, c.before.before.before.if-depth-eq0.false)
+pub returns-in-One : goal.returns-in-One
+returns-in-One t c =
+    let q = below-one _ c.below.ensures c.in-One.is in
+    tree-less _ _ _ _ _ (omega (arith, c.if-sub-eq0.false)) refl q.0
+    (c.over.ensures ∙ ap (λ (k : Subtree). tree k.depth k.at k.n (leaf_at c.args.leaves)) q.1)
 
-pub over-right-requires : goal.over-right-requires
-over-right-requires t c = let deep = c.before.before.before in let start = deep.before.before in
-    (omega (arith, deep.if-depth-eq0.false), record { some = omega arith; deep = omega arith; all = covers_less _ _ _ _ (omega arith) start.requires.all })
-
-pub returns : goal.returns
-returns t c = let two = c.before.before.before in let one = two.before in let half = one.before.before in tree-more _ _ _ _ _ (omega (arith, half.before.if-depth-eq0.false)) half.power-largest.ensures one.before.if-n-largest.false one.over-left.ensures two.over-right.ensures c.node.ensures
+pub returns-in-Two : goal.returns-in-Two
+returns-in-Two t c =
+    let q = below-two _ c.below.ensures c.in-Two.is in
+    tree-more _ _ _ _ _ (omega (arith, c.if-sub-eq0.false)) refl q.0
+    (c.over-left.ensures ∙ ap (λ (k : Subtree). tree k.depth k.at k.n (leaf_at c.args.leaves)) q.1)
+    (c.over-right.ensures ∙ ap (λ (k : Subtree). tree k.depth k.at k.n (leaf_at c.args.leaves)) q.2) c.node.ensures

@@ -3,4 +3,4 @@
 use Rattle.tree.proofs.walks.+over.Given as goal
 
 abbrev pub decreases-over : goal.decreases-over
-decreases-over l = l.depth
+decreases-over l = l.sub.depth

@@ -1,25 +1,21 @@
--- `walks::depth` meets its contract. The loop's invariant: d is at most 64, and no depth below it holds the n leaves. The measure is what
--- is left to 64. Assumes nothing.
-use Rattle.lists.proofs.Kit.{ℕ, ◌+◌, ◌^◌, ◌<◌, arith}
-use lib.Pow.{pow_mono}
-use Rattle.tree.proofs.Laws.Sides.{split}
-use Rattle.tree.proofs.walks.depth.Invariants.{Above}
+-- `walks::depth` meets its contract: the digits of n - 1 are the least depth that holds n leaves. Assumes nothing.
+use Rattle.lists.proofs.Kit.{◌≡◌, sym, subst, ℕ, suc, ◌-◌, ◌^◌, ◌<◌, two-pow-succ, arith, rules}
+use lib.Count.{count_leading_zeros}
+use lib.Pow.{pow_mono, pow_pos}
+use Rattle.std.proofs.lemmas.Nat.{leading_length}
+use Rattle.tree.specs.Asks.{Holds}
 use Rattle.tree.proofs.walks.depth.Goals as goal
 
-nor-here : (n d : ℕ) → Above n d → 2 ^ d < n → Above n (d + 1)
-nor-here n d above lt k h = split d k (λ le. omega (arith, lt, pow_mono {i = k} {j = d} (omega arith))) (λ less. above k less)
-
-pub loop-d-init : goal.loop-d-init
-loop-d-init c = (omega arith, λ k h. absurd (omega arith))
-
-pub returns-then-n-power : goal.returns-then-n-power
-returns-then-n-power c = let loop = c.before.before.before.loop-d in
-    record { deep = omega arith; holds = omega (arith, c.if-n-power.true, c.before.power.ensures); least = loop.invariant.1 }
-
-pub loop-d-preserved : goal.loop-d-preserved
-loop-d-preserved c = (omega arith, nor-here _ _ c.before.before.before.loop-d.invariant.1 (omega (arith, c.if-n-power.false, c.before.power.ensures)))
+least : (n a : ℕ) → n < 2 ^ 64 → a ≡ n - 1 → Holds n (64 - count_leading_zeros 64 a)
+least n a few e =
+    let l = leading_length 64 a (omega (arith, few, e)) in
+    let m : ℕ = l.0 in
+    let same : 64 - count_leading_zeros 64 a ≡ m = omega (arith, l.1) in
+    subst (Holds n) (sym same) (record {
+      deep = omega (arith, l.1);
+      holds = omega (arith, l.2, e);
+      least = λ k h. omega (arith, l.3, e, pow_pos k, two-pow-succ k, pow_mono {i = suc k} {j = m} h);
+    })
 
 pub returns : goal.returns
-returns c = let loop = c.before.loop-d in
-    let most = pow_mono {i = 64} {j = loop.d} (omega (arith, c.loop-d-test.false)) in
-    record { deep = loop.invariant.0; holds = omega (arith, most); least = loop.invariant.1 }
+returns c = least _ _ (search rules) c.saturating_sub.ensures

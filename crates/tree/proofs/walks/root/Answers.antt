@@ -7,13 +7,14 @@ use Rattle.tree.proofs.walks.root.Goals as goal
 pub over-requires : goal.over-requires
 over-requires c =
     record {
-      some = omega (arith, c.before.if-n-eq0.false);
+      some = omega (arith, c.if-n-eq0.false);
       deep = c.depth.ensures.deep;
-      all = covers_less _ _ _ _ (omega arith) c.before.before.before.requires;
+      top = omega arith;
+      all = covers_less _ _ _ _ (omega arith) c.requires;
     }
 
 pub returns-then-n-eq0 : goal.returns-then-n-eq0
 returns-then-n-eq0 c = sym (root_none _ _ c.if-n-eq0.true)
 
 pub returns : goal.returns
-returns c = root-deep _ _ _ (omega (arith, c.before.before.if-n-eq0.false)) c.before.depth.ensures c.over.ensures
+returns c = root-deep _ _ _ (omega (arith, c.if-n-eq0.false)) c.depth.ensures c.over.ensures
