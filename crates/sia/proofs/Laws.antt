@@ -1,6 +1,4 @@
 -- The laws, a file for each subject.
-pub mod Reading
-pub mod Entries
 pub mod Inverse
 pub mod Known
 pub mod Joined

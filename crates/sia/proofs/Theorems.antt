@@ -12,7 +12,7 @@ use Rattle.sia.specs.declared.Op.{Op}
 use Rattle.sia.specs.declared.Op.TheVariants.{Read, ReadSector, Write, Copy, Swap, Truncate, Unknown}
 use Rattle.sia.specs.declared.Instruction.{Instruction}
 use Rattle.sia.specs.declared.Head.{Head}
-use Rattle.sia.specs.declared.Told.{Told}
+use Rattle.sia.specs.Decode.{Told}
 use Rattle.sia.specs.Number.{Decoded, decoded, number}
 use Rattle.sia.specs.Names.{name_of, op_of}
 use Rattle.sia.specs.Empty.{no_head, filled}

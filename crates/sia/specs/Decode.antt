@@ -1,13 +1,12 @@
 -- Reading a head: "Reading goes left to right and stops at the first fault: bytes missing, a flag above 1 or bytes left over give
 -- 9; a count or the declared length above its limit gives 10." Assumes nothing.
-use Rattle.std.specs.Prelude.{◌≡◌, Bool, List, [], ◌∷◌, ℕ, zero, suc, ◌≤◌, length, take, drop, ltb, eqb}
+use Rattle.std.specs.Prelude.{Bool, List, [], ◌∷◌, ℕ, zero, suc, length, take, drop, ltb, eqb}
 use Rattle.lists.specs.Pick.{pick}
 use Rattle.area.specs.Little.{value_of}
 use Rattle.sia.specs.Empty.{no_operand, no_instruction, no_head, filled}
 use Rattle.sia.specs.declared.Operand.{Operand}
 use Rattle.sia.specs.declared.Instruction.{Instruction}
 use Rattle.sia.specs.declared.Head.{Head}
-use Rattle.sia.specs.declared.Told.{Told}
 
 -- what reading a section comes to: its value and the bytes behind it, or the number of a fault
 pub data Reading (A : Type 0) : Type 0 where
@@ -68,6 +67,11 @@ head bs =
     after (bytes 32 bs) (λ id r. after (limited 32 r) (λ n s. after (instructions n s) (λ is t. after (limited 65536 t) (λ d end.
     value (record { contract = id; count = n; instructions = is; length = d }) end))))
 
+-- the reader's answer: 0, 9 or 10, and the head, which is empty on a fault
+pub record Told : Type 0 where
+  pub number : ℕ
+  pub head : Head
+
 abbrev pub told : ℕ → Head → Told
 told n h = record { number = n; head = h }
 
@@ -80,14 +84,3 @@ answer (fault n) = told n no_head
 -- what the reader answers for bytes
 unfoldable pub decode : List ℕ → Told
 decode bs = answer (head bs)
-
--- ---- what the readers of sections answer
-
--- a reading given by its number, which is 0 where there is no fault, its value and the bytes behind it
-unfoldable pub reading : {A : Type 0} → ℕ → A → List ℕ → Reading A
-reading n x rest = pick (eqb n 0) (value x rest) (fault n)
-
--- a reader that stopped at `next` with this number and value read what the definition reads
-pub record Reads {A : Type 0} (r : Reading A) (bs : List ℕ) (number next : ℕ) (x : A) : Type 0 where
-  pub stays : next ≤ length bs
-  pub says : reading number x (drop next bs) ≡ r

@@ -9,7 +9,6 @@ use Rattle.area.specs.Little.{le8}
 use Rattle.sia.specs.declared.Operand.{Operand}
 use Rattle.sia.specs.declared.Instruction.{Instruction}
 use Rattle.sia.specs.declared.Head.{Head}
-use Rattle.sia.specs.declared.Written.{Written}
 
 -- the bytes of each, one behind the other
 unfoldable pub joined : {A : Type 0} → (A → List ℕ) → List A → List ℕ
@@ -50,6 +49,11 @@ unfoldable pub within : Head → Bool
 within h = both (leb h.count 32) (both (leb h.length 65536) (every few_operands (instructions_in h)))
 
 -- ---- the writer
+
+-- the writer's answer: 0, 2 or 10, and the length of what it wrote
+pub record Written : Type 0 where
+  pub number : ℕ
+  pub length : ℕ
 
 -- what a call of the writer leaves: its answer, and the area
 pub record Left : Type 0 where

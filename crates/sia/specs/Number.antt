@@ -1,9 +1,7 @@
 -- "Numbers are 8 bytes, little-endian." Assumes nothing.
-use Rattle.std.specs.Prelude.{List, ℕ, length, eqb}
+use Rattle.std.specs.Prelude.{Option, None, Some, List, ℕ, length, eqb}
 use Rattle.lists.specs.Pick.{pick}
 use Rattle.area.specs.Little.{value_of}
-use Rattle.sia.specs.declared.Number.{Number}
-use Rattle.sia.specs.declared.Number.TheVariants.{Is, Refused}
 
 -- what a decoder answers: document 01's number, and the value, which is 0 on a refusal
 pub record Decoded : Type 0 where
@@ -13,10 +11,10 @@ pub record Decoded : Type 0 where
 abbrev pub decoded : ℕ → ℕ → Decoded
 decoded n v = record { number = n; value = v }
 
--- the cases of the enum: 0 and the number; 23, "a number not 8 bytes"
-abbrev pub number_given : Number → Decoded
-number_given (Is n) = decoded 0 n
-number_given Refused = decoded 23 0
+-- 0 and the number; 23, "a number not 8 bytes", where there is none
+abbrev pub number_given : Option ℕ → Decoded
+number_given (Some n) = decoded 0 n
+number_given None = decoded 23 0
 
 -- the number that bytes are, or 23
 unfoldable pub number : List ℕ → Decoded

@@ -14,14 +14,15 @@ mod limits; // limits.rt: the limits of a head
 pub use limits::within;
 
 // A part of the input that an instruction names.
-#[derive(Clone, Copy)]
+#[derive(Clone, Copy, Debug, PartialEq, Eq)]
 pub struct Operand {
     pub offset: u64,
     pub len: u64,
 }
 
 // Of the operands, the first `count`.
-#[derive(Clone, Copy)]
+// Kept: no heap. A head is fixed memory, so its lists are arrays with a count.
+#[derive(Clone, Copy, Debug, PartialEq, Eq)]
 pub struct Instruction {
     pub name: [u8; 16],
     pub count: u64,
@@ -30,7 +31,7 @@ pub struct Instruction {
 }
 
 // Of the instructions, the first `count`; `length` is the declared length of the data.
-#[derive(Clone, Copy)]
+#[derive(Clone, Copy, Debug, PartialEq, Eq)]
 pub struct Head {
     pub contract: [u8; 32],
     pub count: u64,
@@ -38,28 +39,8 @@ pub struct Head {
     pub length: u64,
 }
 
-// The reader's answer: 0, 9 or 10, and the head, which is empty on a fault.
-#[derive(Clone, Copy)]
-pub struct Told {
-    pub number: u64,
-    pub head: Head,
-}
-
-// The writer's answer: 0, 2 or 10, and the length of what it wrote.
-#[derive(Clone, Copy)]
-pub struct Written {
-    pub number: u64,
-    pub length: usize,
-}
-
-// What 8 bytes are; other lengths are refused.
-#[derive(Clone, Copy)]
-pub enum Number {
-    Is(u64),
-    Refused,
-}
-
-#[derive(Clone, Copy)]
+// The kinds of instructions: the six that have a name, and one for every other name.
+#[derive(Clone, Copy, Debug, PartialEq, Eq)]
 pub enum Op {
     Read,
     ReadSector,
@@ -70,6 +51,7 @@ pub enum Op {
     Unknown,
 }
 
+// Kept: no plainer. A derived `Default` promises its value field by field, and callers of `empty` use one equation.
 impl Operand {
     pub fn empty() -> Operand
         ensures { result ≡ no_operand }
@@ -82,14 +64,15 @@ impl Instruction {
     // The largest operand count.
     pub const OPERANDS: u64 = 4;
 
-    #[rattlefmt::skip]
     pub fn empty() -> Instruction
         ensures { result ≡ no_instruction }
     {
-        let name = [0u8; 16];
-        let none = Operand::empty();
-        let operands = [none; 4];
-        Instruction { name, count: 0, operands, proof: false }
+        Instruction {
+            name: [0; 16],
+            count: 0,
+            operands: [Operand::empty(); 4],
+            proof: false,
+        }
     }
 }
 
@@ -100,14 +83,15 @@ impl Head {
 
     pub const READ_ONLY: [u8; 32] = *b"ReadOnly\0\0\0\0\0\0\0\0\0\0\0\0\0\0\0\0\0\0\0\0\0\0\0\0";
 
-    #[rattlefmt::skip]
     pub fn empty() -> Head
         ensures { result ≡ no_head }
     {
-        let contract = [0u8; 32];
-        let none = Instruction::empty();
-        let instructions = [none; 32];
-        Head { contract, count: 0, instructions, length: 0 }
+        Head {
+            contract: [0; 32],
+            count: 0,
+            instructions: [Instruction::empty(); 32],
+            length: 0,
+        }
     }
 }
 
@@ -125,7 +109,17 @@ impl Op {
 
     pub const TRUNCATE: [u8; 16] = *b"Truncate\0\0\0\0\0\0\0\0";
 
-    pub const UNKNOWN: [u8; 16] = [0u8; 16];
+    pub const UNKNOWN: [u8; 16] = [0; 16];
+
+    // Those that have a name.
+    const NAMED: [Op; 6] = [
+        Op::Read,
+        Op::ReadSector,
+        Op::Write,
+        Op::Copy,
+        Op::Swap,
+        Op::Truncate,
+    ];
 
     // The name that a head has for an instruction.
     pub fn name(self) -> [u8; 16]
@@ -141,63 +135,48 @@ impl Op {
             Op::Unknown => Op::UNKNOWN,
         }
     }
-}
 
-// Whether two names are the same, all 16 bytes.
-fn is(name: [u8; 16], word: [u8; 16]) -> bool
-    ensures { result ≡ same name word }
-{
-    area::same(&name, &word)
+    // Whether a name is this instruction's, all 16 bytes.
+    fn has_name(self, name: [u8; 16]) -> bool
+        ensures { result ≡ same name (name_of self) }
+    {
+        name == self.name()
+    }
 }
 
 // Which instruction a name is. An unknown name is no fault of a head.
 pub fn op_of(name: [u8; 16]) -> Op
     ensures { result ≡ op_of name }
 {
-    if is(name, Op::READ) {
-        return Op::Read;
-    }
-    if is(name, Op::READ_SECTOR) {
-        return Op::ReadSector;
-    }
-    if is(name, Op::WRITE) {
-        return Op::Write;
-    }
-    if is(name, Op::COPY) {
-        return Op::Copy;
-    }
-    if is(name, Op::SWAP) {
-        return Op::Swap;
-    }
-    if is(name, Op::TRUNCATE) {
-        return Op::Truncate;
-    }
-    Op::Unknown
+    Op::NAMED
+        .iter()
+        .find(|op| op.has_name(name))
+        .copied()
+        .unwrap_or(Op::Unknown)
 }
 
 // The name as a head holds it: one of the six is its fixed byte string, compared in all 16 bytes; an unknown name is taken as it stands.
 pub fn fixed_name(name: [u8; 16]) -> [u8; 16]
     ensures { result ≡ name }
 {
-    let op = op_of(name);
-    if let Op::Unknown = op {
-        return name;
+    match op_of(name) {
+        Op::Unknown => name,
+        op => op.name(),
     }
-    op.name()
 }
 
 // Whether two ids are the same, all 32 bytes.
 pub fn same_id(one: [u8; 32], two: [u8; 32]) -> bool
     ensures { result ≡ same one two }
 {
-    area::same(&one, &two)
+    one == two
 }
 
 // Whether an id is the ReadOnly word.
 pub fn is_read_only(id: [u8; 32]) -> bool
     ensures { result ≡ same id read_only }
 {
-    same_id(id, Head::READ_ONLY)
+    id == Head::READ_ONLY
 }
 
 // The id as a head holds it: the ReadOnly word is its fixed byte string, compared in all 32 bytes; any other id is taken as it stands.
@@ -210,12 +189,12 @@ pub fn fixed_id(id: [u8; 32]) -> [u8; 32]
     id
 }
 
-// The number that a part of an input is; 23 where it is not 8 bytes.
-pub fn number_of(part: &[u8]) -> Number
+// The number that a part of an input is; none, which document 01 calls 23, where it is not 8 bytes.
+pub fn number_of(part: &[u8]) -> Option<u64>
     ensures { number_given result ≡ number part.now }
 {
-    if part.len() != 8 {
-        return Number::Refused;
-    }
-    Number::Is(area::load(part, 0))
+    let Ok(bytes) = <[u8; 8]>::try_from(part) else {
+        return None;
+    };
+    Some(u64::from_le_bytes(bytes))
 }

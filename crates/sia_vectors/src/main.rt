@@ -3,10 +3,13 @@
 // area that is longer, over one that is a byte too short, and of the same head with a count or the length above its limit.
 #![tactic(auto)]
 
-use sia::{Head, Instruction, Number, Op, Operand};
+ghost use Rattle.std.specs.Prelude.{◌≤◌, length};
+
+use sia::{Head, Instruction, Op};
+use sia_write::Refusal;
 use std::io;
 use std::io::{Read, Write};
-use stdout::{decimal, hex, text};
+use stdout::hex;
 
 // What an area holds before the writer is called.
 const BEFORE: u8 = 0xaa;
@@ -14,139 +17,64 @@ const BEFORE: u8 = 0xaa;
 fn main(rt: HostRuntime) -> io::Result<()> {
     let mut source = rt.stdin();
     let mut sink = rt.stdout();
-    let mut left: u64 = 1_000_000;
-    while 0 < left {
+    for _ in 0..1_000_000 {
         if !one_case(&mut source, &mut sink)? {
-            return Ok(());
+            break;
         }
-        left -= 1;
     }
     Ok(())
 }
 
 // Takes the next case. It answers false where there is none.
 fn one_case(source: &mut impl Read, sink: &mut impl Write) -> io::Result<bool> {
-    let mut prefix = [0u8; 8];
-    let got = stdin::full(source, &mut prefix)?;
-    if got != 8 {
+    let mut prefix = [0; 8];
+    if stdin::full(source, &mut prefix)? != prefix.len() {
         return Ok(false);
     }
-    let Number::Is(length) = sia::number_of(&prefix) else {
-        return Ok(false);
-    };
-    let mut bytes = [0u8; 4096];
-    let mut out = [0u8; 4096];
-    let mut fresh = [0u8; 4096];
-    case_of(
-        source,
-        sink,
-        &mut bytes,
-        length as usize,
-        &mut out,
-        &mut fresh,
-    )
-}
-
-// A case of n bytes, read into the front of `bytes`; `fresh` is filled with what an area holds before.
-fn case_of(
-    source: &mut impl Read,
-    sink: &mut impl Write,
-    bytes: &mut [u8],
-    n: usize,
-    out: &mut [u8],
-    fresh: &mut [u8],
-) -> io::Result<bool> {
-    if bytes.len() < n {
+    let n = u64::from_le_bytes(prefix) as usize;
+    let mut bytes = [0; 4096];
+    if bytes.len() < n || stdin::full(source, &mut bytes[..n])? != n {
         return Ok(false);
     }
-    let came = stdin::full(source, &mut bytes[0..n])?;
-    if came != n {
-        return Ok(false);
-    }
-    area::fill(fresh, 0, fresh.len(), BEFORE);
-    show(sink, &bytes[0..n], out, &*fresh)?;
+    show(sink, &bytes[..n])?;
     Ok(true)
 }
 
-// 1 for yes, 0 for no.
-fn answer(sink: &mut impl Write, yes: bool) -> io::Result<()> {
-    if yes {
-        text(sink, b"1")
-    } else {
-        text(sink, b"0")
-    }
-}
-
-// A line for one case. `out` and `fresh` are as long as each other.
-fn show(sink: &mut impl Write, bytes: &[u8], out: &mut [u8], fresh: &[u8]) -> io::Result<()> {
-    let told = sia_read::read_head(bytes);
-    let head = told.head;
-    decimal(sink, told.number)?;
-    if told.number != 0 {
-        text(sink, b" ")?;
-        answer(sink, is_empty(head))?;
-        return text(sink, b"\n");
-    }
-    show_head(sink, head)?;
-    written(sink, head, bytes, out, fresh)?;
-    too_short(sink, head, bytes.len(), out, fresh)?;
-    above(sink, head, out, fresh)?;
-    text(sink, b"\n")
-}
-
-// Whether a head is zeros: its id, count and length, and its first entry.
-fn is_empty(head: Head) -> bool {
-    let zeros = [0u8; 32];
-    let id = head.contract;
-    if !sia::same_id(id, zeros) {
-        return false;
-    }
-    if head.count != 0 {
-        return false;
-    }
-    if head.length != 0 {
-        return false;
-    }
-    let first = head.instructions[0];
-    is_blank(first)
-}
-
-fn is_blank(x: Instruction) -> bool {
-    let name = x.name;
-    if !area::same(&name, &Op::UNKNOWN) {
-        return false;
-    }
-    if x.proof {
-        return false;
-    }
-    x.count == 0
-}
-
-fn show_head(sink: &mut impl Write, head: Head) -> io::Result<()> {
-    let id = head.contract;
-    text(sink, b" ")?;
-    hex(sink, &id)?;
-    text(sink, b" read-only ")?;
-    answer(sink, sia::is_read_only(id))?;
-    text(sink, b" count ")?;
-    decimal(sink, head.count)?;
-    let list = head.instructions;
-    show_instructions(sink, list, head.count)?;
-    text(sink, b" length ")?;
-    decimal(sink, head.length)
-}
-
-// Those within the count, and one past it.
-fn show_instructions(sink: &mut impl Write, list: [Instruction; 32], count: u64) -> io::Result<()> {
-    let mut i: usize = 0;
-    while i < 32 {
-        if i as u64 <= count {
-            let x = list[i];
-            show_instruction(sink, x)?;
+// A line for one case. A fault comes with no head, which is the 1 behind its number.
+fn show(sink: &mut impl Write, bytes: &[u8]) -> io::Result<()> {
+    match sia_read::read_head(bytes) {
+        Err(fault) => writeln!(sink, "{} 1", fault.number()),
+        Ok(head) => {
+            write!(sink, "0")?;
+            show_head(sink, &head)?;
+            let mut out = [BEFORE; 4096];
+            written(sink, &head, bytes, &mut out)?;
+            too_short(sink, &head, bytes.len(), &mut out)?;
+            above(sink, &head, &mut out)?;
+            writeln!(sink)
         }
-        i += 1;
     }
-    Ok(())
+}
+
+fn show_head(sink: &mut impl Write, head: &Head) -> io::Result<()> {
+    write!(sink, " ")?;
+    hex(sink, &head.contract)?;
+    let read_only = sia::is_read_only(head.contract);
+    write!(
+        sink,
+        " read-only {} count {}",
+        u8::from(read_only),
+        head.count
+    )?;
+    // Those within the count, and one past it.
+    for x in head
+        .instructions
+        .iter()
+        .take(head.count.saturating_add(1) as usize)
+    {
+        show_instruction(sink, x)?;
+    }
+    write!(sink, " length {}", head.length)
 }
 
 fn op_number(op: Op) -> u64 {
@@ -161,110 +89,73 @@ fn op_number(op: Op) -> u64 {
     }
 }
 
-fn show_instruction(sink: &mut impl Write, x: Instruction) -> io::Result<()> {
-    let name = x.name;
-    let list = x.operands;
-    text(sink, b" [")?;
-    decimal(sink, op_number(sia::op_of(name)))?;
-    text(sink, b" ")?;
-    hex(sink, &name)?;
-    text(sink, b" ")?;
-    decimal(sink, x.count)?;
-    show_operand(sink, list[0])?;
-    show_operand(sink, list[1])?;
-    show_operand(sink, list[2])?;
-    show_operand(sink, list[3])?;
-    text(sink, b" ")?;
-    answer(sink, x.proof)?;
-    text(sink, b"]")
+fn show_instruction(sink: &mut impl Write, x: &Instruction) -> io::Result<()> {
+    write!(sink, " [{} ", op_number(sia::op_of(x.name)))?;
+    hex(sink, &x.name)?;
+    write!(sink, " {}", x.count)?;
+    for o in &x.operands {
+        write!(sink, " {},{}", o.offset, o.len)?;
+    }
+    write!(sink, " {}]", u8::from(x.proof))
 }
 
-fn show_operand(sink: &mut impl Write, o: Operand) -> io::Result<()> {
-    text(sink, b" ")?;
-    decimal(sink, o.offset)?;
-    text(sink, b",")?;
-    decimal(sink, o.len)
+// The writer's number, and the length of what it wrote.
+fn show_answer(sink: &mut impl Write, answered: Result<usize, Refusal>) -> io::Result<()> {
+    match answered {
+        Ok(n) => write!(sink, " 0 {n} "),
+        Err(refusal) => write!(sink, " {} 0 ", refusal.number()),
+    }
 }
 
+// 1 where an area is as it was before, 0 where it is not.
+fn show_before(sink: &mut impl Write, area: &[u8]) -> io::Result<()> {
+    write!(sink, "{}", u8::from(area.iter().all(|&b| b == BEFORE)))
+}
+
+// Kept: no plainer. A struct of sink, head and area would be made for three calls, and each would take it apart again.
 // The head over the area: number and length, whether the bytes are those that were read, whether the rest stays.
-fn written(
-    sink: &mut impl Write,
-    head: Head,
-    bytes: &[u8],
-    out: &mut [u8],
-    fresh: &[u8],
-) -> io::Result<()> {
-    area::fill(out, 0, out.len(), BEFORE);
-    let answered = sia_write::write_head(head, out);
-    let n = answered.length;
-    text(sink, b" written ")?;
-    decimal(sink, answered.number)?;
-    text(sink, b" ")?;
-    decimal(sink, n as u64)?;
-    text(sink, b" ")?;
+fn written(sink: &mut impl Write, head: &Head, bytes: &[u8], out: &mut [u8]) -> io::Result<()> {
+    let answered = sia_write::write_head(*head, out);
+    write!(sink, " written")?;
+    show_answer(sink, answered)?;
+    let n = answered.unwrap_or(0);
     if n <= out.len() {
-        answer(sink, area::same(&out[0..n], bytes))?;
-        if n <= fresh.len() {
-            answer(sink, area::same(&out[n..], &fresh[n..]))?;
-        }
+        write!(sink, "{}", u8::from(&out[..n] == bytes))?;
+        show_before(sink, &out[n..])?;
     }
     Ok(())
 }
 
 // The head over an area that is a byte too short: number and length, whether the area stays.
-fn too_short(
-    sink: &mut impl Write,
-    head: Head,
-    length: usize,
-    out: &mut [u8],
-    fresh: &[u8],
-) -> io::Result<()> {
-    if length < 1 {
-        return Ok(());
-    }
-    let n = length - 1;
-    area::fill(out, 0, out.len(), BEFORE);
-    if n <= out.len() {
-        let answered = sia_write::write_head(head, &mut out[0..n]);
-        text(sink, b" short ")?;
-        decimal(sink, answered.number)?;
-        text(sink, b" ")?;
-        decimal(sink, answered.length as u64)?;
-        text(sink, b" ")?;
-        answer(sink, area::same(out, fresh))?;
+fn too_short(sink: &mut impl Write, head: &Head, length: usize, out: &mut [u8]) -> io::Result<()> {
+    if 0 < length && length <= out.len() {
+        write!(sink, " short")?;
+        refused(sink, *head, out, length - 1)?;
     }
     Ok(())
 }
 
 // The head with a count or the length above its limit.
-fn above(sink: &mut impl Write, head: Head, out: &mut [u8], fresh: &[u8]) -> io::Result<()> {
-    text(sink, b" above")?;
-    let mut many = head;
-    many.count = 33;
-    refused(sink, many, out, fresh)?;
-    many.count = 18446744073709551615;
-    refused(sink, many, out, fresh)?;
-    let mut long = head;
-    long.length = 65537;
-    refused(sink, long, out, fresh)?;
-    long.length = 18446744073709551615;
-    refused(sink, long, out, fresh)?;
-    let mut x = head.instructions[0];
-    x.count = 5;
-    let mut full = head;
-    full.count = 1;
-    full.instructions[0] = x;
-    refused(sink, full, out, fresh)
+fn above(sink: &mut impl Write, head: &Head, out: &mut [u8]) -> io::Result<()> {
+    write!(sink, " above")?;
+    let room = out.len();
+    for count in [33, u64::MAX] {
+        refused(sink, Head { count, ..*head }, out, room)?;
+    }
+    for length in [65_537, u64::MAX] {
+        refused(sink, Head { length, ..*head }, out, room)?;
+    }
+    let mut full = Head { count: 1, ..*head };
+    full.instructions[0].count = 5;
+    refused(sink, full, out, room)
 }
 
 // Number and length, whether the area stays.
-fn refused(sink: &mut impl Write, head: Head, out: &mut [u8], fresh: &[u8]) -> io::Result<()> {
-    area::fill(out, 0, out.len(), BEFORE);
-    let answered = sia_write::write_head(head, out);
-    text(sink, b" ")?;
-    decimal(sink, answered.number)?;
-    text(sink, b" ")?;
-    decimal(sink, answered.length as u64)?;
-    text(sink, b" ")?;
-    answer(sink, area::same(out, fresh))
+fn refused(sink: &mut impl Write, head: Head, out: &mut [u8], room: usize) -> io::Result<()>
+    requires { room ≤ length out.old }
+{
+    out.fill(BEFORE);
+    let answered = sia_write::write_head(head, &mut out[..room]);
+    show_answer(sink, answered)?;
+    show_before(sink, out)
 }

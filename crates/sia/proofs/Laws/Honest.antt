@@ -2,7 +2,7 @@
 use Rattle.lists.proofs.Kit.{◌≡◌, ap, Bool, true, false, List, [], ◌∷◌, ℕ, zero, suc, arith}
 use Rattle.lists.specs.Pick.{pick}
 use Rattle.sia.specs.declared.Head.{Head}
-use Rattle.sia.specs.declared.Told.{Told}
+use Rattle.sia.specs.Decode.{Told}
 use Rattle.sia.specs.Decode.{Reading, value, fault, after, bytes, number, limited, flag, several, entries, operand, instruction, head}
 use Rattle.sia.specs.Decode.{decode, answer, told}
 

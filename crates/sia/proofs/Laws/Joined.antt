@@ -3,6 +3,7 @@
 use Rattle.lists.proofs.Kit.{◌≡◌, refl, sym, ap, ◌∙◌, List, [], ◌∷◌, ◌++◌, append_assoc, append-nil, ℕ, zero, suc, ◌+◌, ◌*◌, ◌≤◌, ◌<◌, arith, length, take}
 use Rattle.lists.proofs.Kit.{get_or, length-append, take-suc, length-take-le}
 use native.Mathlib.Numerals.{add-one}
+use Rattle.std.proofs.Math.Seq.{take-length}
 use Rattle.area.specs.Area.{put}
 use Rattle.area.specs.Little.{le8}
 use Rattle.area.proofs.Laws.Puts.{put-append}
@@ -39,10 +40,10 @@ module _ {A : Type 0} (f : A → List ℕ) where
   length-within (x ∷ xs) (suc i) (suc n) h =
       omega (arith, length-append (f x) (joined f (take i xs)), length-append (f x) (joined f (take n xs)), length-within xs i n (omega arith))
 
-  -- an area with room for n entries has room for the next one
-  pub room_next : {place room : ℕ} (l : List A) (i n at : ℕ) (d : A) → i < n → n ≤ length l → at + length (joined f (take n l)) ≤ room
-      → place ≡ at + length (joined f (take i l)) → place + length (f (get_or l i d)) ≤ room
-  room_next l i n at d h k g e = omega (arith, length_more l i d (omega arith), length-within l (i + 1) n (omega arith))
+  -- and so with the next one
+  pub room_left : (l : List A) (i : ℕ) (d : A) → i < length l → length (joined f (take i l)) + length (f (get_or l i d)) ≤ length (joined f l)
+  room_left l i d h =
+      omega (arith, length_more l i d h, length-within l (i + 1) (length l) (omega arith), ap (λ (xs : List A). length (joined f xs)) (take-length l))
 
   -- one entry more, laid behind those that stand
   pub lay-more : {e : List ℕ} (a : List ℕ) (at : ℕ) (l : List A) (i : ℕ) (d : A) (place : ℕ) → i < length l → place ≡ at + length (joined f (take i l))

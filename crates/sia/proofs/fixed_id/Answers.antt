@@ -4,4 +4,4 @@ use Rattle.area.proofs.Laws.Same.{same-eq}
 use Rattle.sia.proofs.fixed_id.Goals as goal
 
 pub returns-then-is_read_only : goal.returns-then-is_read_only
-returns-then-is_read_only c = sym (same-eq _ _ (sym c.before.is_read_only.ensures ∙ c.if-is_read_only.true))
+returns-then-is_read_only c = sym (same-eq _ _ (sym c.is_read_only.ensures ∙ c.if-is_read_only.true))

@@ -1,63 +1,54 @@
--- `sia_read::head` meets its contract: contract id, instruction count, instructions and declared length, one behind the other. The fixed id is
--- the id that was read. Assumes nothing.
-use Rattle.lists.proofs.Kit.{refl, sym, ap, ◌∙◌, List, ℕ, arith, drop, rules}
-use Rattle.lists.specs.Pick.{pick}
-use Rattle.sia.specs.Decode.{value, head, reading}
-use Rattle.area.proofs.Laws.Puts.{put-part}
-use Rattle.sia.proofs.Laws.Reading.{fine, short, long, stops, goes}
+-- `sia_read::head` meets its contract: contract id, instruction count, instructions and declared length. The fixed id is the id. Assumes nothing.
+use Rattle.lists.proofs.Kit.{refl, sym, ap, List, ℕ, ◌++◌, drop, replicate, length-take-le}
+use Rattle.sia.specs.declared.Instruction.{Instruction}
+use Rattle.sia.specs.Empty.{no_instruction}
+use Rattle.sia.specs.Decode.{instruction, head, value}
 use Rattle.sia.proofs.Laws.Inverse.{limited-within}
+use Rattle.sia_read.proofs.Laws.{goes, stops, fails}
+use Rattle.sia_read.proofs.Several.{filled-front, fault-in-front}
 use Rattle.sia_read.proofs.head.Goals as goal
 
-pub returns-then-bytes-lt32 : goal.returns-then-bytes-lt32
-unfolding head
-returns-then-bytes-lt32 c = record { stays = search rules; says = short _ c.args.bytes.now 0 32 _ _ (omega arith) }
+pub slice_bounds-instructions-end : goal.slice_bounds-instructions-end
+slice_bounds-instructions-end c = limited-within _ _ (sym c.in_ok-count.ensures)
 
-pub returns-then-counted-ne0 : goal.returns-then-counted-ne0
-unfolding head
-returns-then-counted-ne0 c = record {
-  stays = search rules;
-  says = long _ c.args.bytes.now 0 32 (omega (arith, c.if-bytes-lt32.false)) (stops _ _ _ c.limited-counted.ensures c.if-counted-ne0.true);
-}
+pub slice_bounds-entries-end : goal.slice_bounds-entries-end
+slice_bounds-entries-end c = sym (length-take-le _ _ (limited-within _ _ (sym c.in_ok-count.ensures)))
 
-pub instructions-got-requires : goal.instructions-got-requires
+pub returns-in_err-bytes : goal.returns-in_err-bytes
 unfolding head
-instructions-got-requires c =
-    let read = c.limited-counted.ensures in
-    record { at_in_bounds = read.stays; n_bound = limited-within _ _ (sym read.says ∙ fine _ _ _ c.if-counted-ne0.false) }
+returns-in_err-bytes c = fails _ _ _ c.from_residual.ensures (stops _ c.in_err-bytes.ensures)
 
-pub returns-then-got-ne0 : goal.returns-then-got-ne0
+pub returns-in_err-count : goal.returns-in_err-count
 unfolding head
-returns-then-got-ne0 c = record {
-  stays = search rules;
-  says =
-      long _ c.args.bytes.now 0 32 (omega (arith, c.if-bytes-lt32.false)) (goes _ c.limited-counted.ensures c.if-counted-ne0.false
-      (stops _ _ _ c.instructions-got.ensures c.if-got-ne0.true));
-}
+returns-in_err-count c =
+    fails _ _ _ c.from_residual-in_err-count.ensures (goes _ c.in_ok-bytes.ensures (stops _ c.in_err-count.ensures))
 
-pub returns-then-declared-ne0 : goal.returns-then-declared-ne0
+pub returns-in_err-entries : goal.returns-in_err-entries
 unfolding head
-returns-then-declared-ne0 c = record {
-  stays = search rules;
-  says =
-      long _ c.args.bytes.now 0 32 (omega (arith, c.if-bytes-lt32.false)) (goes _ c.limited-counted.ensures c.if-counted-ne0.false
-      (goes _ c.instructions-got.ensures c.if-got-ne0.false (stops _ _ _ c.limited-declared.ensures c.if-declared-ne0.true)));
-}
+returns-in_err-entries c =
+    let few = length-take-le _ _ (limited-within _ _ (sym c.in_ok-count.ensures)) in
+    fails _ _ _ c.from_residual-in_err-entries.ensures
+    (goes _ c.in_ok-bytes.ensures (goes _ c.in_ok-count.ensures (stops _ (fault-in-front instruction 32 no_instruction _ few c.in_err-entries.ensures))))
+
+pub returns-in_err-length : goal.returns-in_err-length
+unfolding head
+returns-in_err-length c =
+    let few = length-take-le _ _ (limited-within _ _ (sym c.in_ok-count.ensures)) in
+    fails _ _ _ c.from_residual-in_err-length.ensures
+    (goes _ c.in_ok-bytes.ensures (goes _ c.in_ok-count.ensures
+    (goes _ (filled-front instruction 32 no_instruction _ few c.entries.auto.room c.in_ok-entries.ensures refl) (stops _ c.in_err-length.ensures))))
 
 pub returns : goal.returns
-unfolding head reading pick
+unfolding head
 returns c =
-    let bytes = c.args.bytes.now in
-    let there = c.if-bytes-lt32.false in
-    let id = c.fixed_id-contract.ensures ∙ put-part _ bytes 0 32 refl there c.copy_between.ensures in
-    record {
-      stays = c.limited-declared.ensures.stays;
-      says =
-          long _ bytes 0 32 (omega (arith, there)) (goes _ c.limited-counted.ensures c.if-counted-ne0.false
-          (goes _ c.instructions-got.ensures c.if-got-ne0.false (goes _ c.limited-declared.ensures c.if-declared-ne0.false
-          (ap (λ (bs : List ℕ). value (record {
-            contract = bs;
-            count = c.limited-counted.result.value;
-            instructions = c.instructions-got.result.list;
-            length = c.limited-declared.result.value;
-          }) (drop c.limited-declared.result.next bytes)) id))));
-    }
+    let few = length-take-le _ _ (limited-within _ _ (sym c.in_ok-count.ensures)) in
+    let n = c.in_ok-count.count in
+    let empty = ap (λ (none : Instruction). c.entries.new.room ++ drop n (replicate 32 none)) c.empty-instructions.ensures in
+    goes _ c.in_ok-bytes.ensures (goes _ c.in_ok-count.ensures
+    (goes _ (filled-front instruction 32 no_instruction _ few c.entries.auto.room c.in_ok-entries.ensures empty) (goes _ c.in_ok-length.ensures
+    (ap (λ (id : List ℕ). value (record {
+      contract = id;
+      count = n;
+      instructions = c.entries.new.room ++ drop n (replicate 32 c.empty-instructions.result);
+      length = c.in_ok-length.length;
+    }) c.limited-2.new.rest.now) c.fixed_id-contract.ensures))))

@@ -1,17 +1,17 @@
 -- `sia_read::read_head` meets its contract: a fault, bytes left over, or the head. Assumes nothing.
-use Rattle.lists.proofs.Kit.{ap, ◌∙◌, arith}
-use Rattle.sia.specs.Decode.{decode, told}
-use Rattle.sia.proofs.Laws.Reading.{answer-fault, answer-more, answer-all}
+use Rattle.lists.proofs.Kit.{sym, ap, ◌∙◌, eqb-true, eqb-false}
+use Rattle.sia.specs.Decode.{decode, answer}
+use Rattle.sia_read.proofs.Laws.{refused, more, whole}
 use Rattle.sia_read.proofs.read_head.Goals as goal
 
-pub returns-then-got-ne0 : goal.returns-then-got-ne0
-unfolding decode
-returns-then-got-ne0 c = ap (told _) c.empty.ensures ∙ answer-fault c.before.before.before.head-got.ensures c.before.if-got-ne0.true
+pub returns-in_err-head : goal.returns-in_err-head
+unfolding decode answer
+returns-in_err-head c = refused _ _ c.from_residual.ensures (ap answer c.in_err-head.ensures)
 
-pub returns-then-got-bytes : goal.returns-then-got-bytes
+pub returns-then-not-is_empty : goal.returns-then-not-is_empty
 unfolding decode
-returns-then-got-bytes c = let back-3 = c.before.before.before in let back-5 = back-3.before.before in ap (told 9) c.empty-then-got-bytes.ensures ∙ answer-more back-5.head-got.ensures c.before.before.before.if-got-ne0.false (λ e. omega (arith, c.before.if-got-bytes.true))
+returns-then-not-is_empty c = more _ _ (eqb-false _ _ (sym c.if-not-is_empty.ensures)) ∙ ap answer c.in_ok-head.ensures
 
 pub returns : goal.returns
 unfolding decode
-returns c = let back-3 = c.before.before.before in let back-5 = back-3.before.before in answer-all back-5.head-got.ensures c.before.before.before.if-got-ne0.false (omega (arith, c.before.if-got-bytes.false))
+returns c = whole _ _ (eqb-true _ _ (sym c.if-not-is_empty.ensures)) ∙ ap answer c.in_ok-head.ensures

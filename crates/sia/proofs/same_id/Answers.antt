@@ -1,0 +1,7 @@
+-- std's equality of arrays is `same`. Assumes nothing.
+use Rattle.lists.proofs.Kit.{◌∙◌}
+use Rattle.area.proofs.Laws.Same.{pointwise-same}
+use Rattle.sia.proofs.same_id.Goals as goal
+
+pub returns : goal.returns
+returns c = c.eq.ensures ∙ pointwise-same _ _

@@ -1,0 +1,3 @@
+-- The laws that the readers' proofs cite.
+pub mod Laws
+pub mod Several

@@ -1,0 +1,2 @@
+-- What the readers of sections answer.
+pub mod Faults

@@ -1,8 +1,0 @@
--- `sia_vectors::main` is safe and ends: the number of cases is bounded. Assumes nothing.
-use Rattle.sia_vectors.proofs.main.Given as goal
-
-abbrev pub invariant-loop-left : goal.invariant-loop-left
-invariant-loop-left l = Unit {0}
-
-abbrev pub decreases-loop-left : goal.decreases-loop-left
-decreases-loop-left l = l.left

@@ -1,0 +1,2 @@
+-- What the writer answers.
+pub mod Refusals
