@@ -1,4 +1,6 @@
 -- The laws, a file for each subject.
+pub mod Chains
+pub mod Refusals
 pub mod Places
 pub mod Whose
 pub mod Slots

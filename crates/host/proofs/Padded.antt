@@ -12,7 +12,7 @@ use Rattle.host.specs.Order.{in_order}
 use Rattle.host.specs.Calls.{padded, formed}
 use Rattle.host.specs.Padded.{Padding, Fifteen}
 use Rattle.host.specs.declared.Host.{Host}
-use Rattle.host.specs.declared.Made.{Made}
+use Rattle.host.specs.Calls.{Made}
 
 -- ---- the bytes of an id
 

@@ -1,21 +1,32 @@
 -- Making a host, forming a contract and dropping one: what each call answers and leaves. A refusal leaves the host as it was. z is the
 -- sector size that a host is made with; every other call takes the one that its host holds. Assumes nothing.
-use Rattle.std.specs.Prelude.{Bool, not, List, [], ◌∷◌, ℕ, ◌/◌, ◌%◌, drop, eqb}
+use Rattle.std.specs.Prelude.{Bool, not, List, [], ◌∷◌, ℕ, ◌/◌, ◌%◌, drop, eqb, Result, Ok, Err}
 use Rattle.lists.specs.Pick.{pick, both}
 use Rattle.lists.specs.Tests.{every, some, each}
 use Rattle.area.specs.Area.{same}
 use Rattle.sia.specs.Names.{read_only}
 use Rattle.host.specs.Sizes.{is_size}
 use Rattle.host.specs.Empty.{no_place, new_place, bare}
+use Rattle.host.specs.Refusals.{number_of}
 use Rattle.host.specs.With.{with_places}
 use Rattle.host.specs.Places.{has_id, whose}
 use Rattle.host.specs.Order.{lent, in_order}
 use Rattle.host.specs.declared.Place.{Place}
 use Rattle.host.specs.declared.Host.{Host}
-use Rattle.host.specs.declared.Made.{Made}
+use Rattle.host.specs.declared.refusal.Refusal.{Refusal}
+
+-- what a call answers: document 01's number, 0 done, and the host
+pub record Made : Type 0 where
+  pub number : ℕ
+  pub host : Host
 
 abbrev pub answered : ℕ → Host → Made
 answered n h = record { number = n; host = h }
+
+-- the answer by its number: what is done hands out a host, and a refusal leaves the one that is given here
+abbrev pub made_of : Host → Result Host Refusal → Made
+made_of h (Ok after) = answered 0 after
+made_of h (Err why) = answered (number_of why) h
 
 -- "Disk area: 1 to 64 whole sectors. Stage area: 1 to 16.": a length in bytes
 unfoldable pub length_right : ℕ → ℕ → ℕ → Bool

@@ -6,6 +6,7 @@ pub mod Places
 pub mod Listed
 pub mod Order
 pub mod Facts
+pub mod Refusals
 pub mod Calls
 pub mod Padded
 pub mod Renaming

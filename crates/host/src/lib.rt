@@ -10,15 +10,23 @@ ghost use Rattle.host.specs.Empty as Says;
 ghost use Rattle.host.specs.Order as Order;
 
 mod places; // places.rt: contracts by id, and their sizes
+mod pairs; // pairs.rt: whether none of a list are related
+mod refusal; // refusal.rt: why a call is refused
 mod sizes; // sizes.rt: which sizes of sectors there are
-mod slots; // slots.rt: the slots that contracts take, and the lowest free ones
+mod slots; // slots.rt: slots in an array
+mod taken; // taken.rt: the slots that contracts take, and the lowest free ones
 
+pub use pairs::apart;
 pub use places::{has_id, place_number, place_of, replaced_in, sizes_fit};
+pub use refusal::Refusal;
 use sia::Head;
 pub use sizes::is_size;
-pub use slots::{Slots, below, distinct, free_copy, sectors, slots_taken, staged_in, wide};
+pub use slots::Slots;
+pub use taken::{below, distinct, free_copy, sectors, slots_taken, staged_in};
 
 // A place for a contract. Of the slots, those below its size in sectors: `slots[p]` is the disk slot of position p.
+// Kept: flags beside what they speak of, here and below, and no `Option`: definitions (`no_place`, `has_id`, `in_order`) name each field.
+// Kept: `Clone` and `Copy` alone, here and below: nothing compares or prints a record.
 #[derive(Clone, Copy)]
 pub struct Place {
     pub held: bool,
@@ -75,13 +83,6 @@ pub struct Host {
     pub stageroots: [u8; 512],
 }
 
-// What a call answers: document 01's number, and the host.
-#[derive(Clone, Copy)]
-pub struct Made {
-    pub number: u64,
-    pub host: Host,
-}
-
 impl Place {
     // The bytes of an id.
     pub const ID: usize = 32;
@@ -89,16 +90,16 @@ impl Place {
     // The positions that a place has slots for.
     pub const SLOTS: u64 = 64;
 
+    // Kept: `none` here and below by hand. An array of more than 32 has no `Default`, so `Prices` alone could derive it; and `none` says that
+    // the value is no contract, no program.
     pub fn none() -> Place
         ensures { result ≡ no_place }
     {
-        let id = [0u8; 32];
-        let slots = [0u8; 64];
         Place {
             held: false,
-            id,
+            id: [0; 32],
             size: 0,
-            slots,
+            slots: [0; 64],
         }
     }
 }
@@ -124,11 +125,9 @@ impl Terms {
     pub fn none() -> Terms
         ensures { result ≡ no_terms }
     {
-        let head = Head::empty();
-        let prices = Prices::none();
         Terms {
-            head,
-            prices,
+            head: Head::empty(),
+            prices: Prices::none(),
             budget: 0,
             room: 0,
         }
@@ -143,8 +142,7 @@ impl Progress {
     pub fn none() -> Progress
         ensures { result ≡ no_progress }
     {
-        let staged = [0u8; 64];
-        Progress { ran: 0, tally: 0, written: 0, size: 0, failed: false, staged }
+        Progress { ran: 0, tally: 0, written: 0, size: 0, failed: false, staged: [0; 64] }
     }
 }
 
@@ -153,13 +151,11 @@ impl Program {
     pub fn none() -> Program
         ensures { result ≡ no_program }
     {
-        let terms = Terms::none();
-        let progress = Progress::none();
         Program {
             active: false,
-            terms,
+            terms: Terms::none(),
             came: 0,
-            progress,
+            progress: Progress::none(),
         }
     }
 }
@@ -178,16 +174,18 @@ impl Host {
     pub const PLACES: usize = 8;
 
     // A host with so many sectors of that size that holds no contract and no open program.
-    #[rattlefmt::skip]
     pub fn bare(sector: u64, disk: u64, stage: u64) -> Host
         ensures { result ≡ Says.bare sector disk stage }
     {
-        let none = Place::none();
-        let places = [none; 8];
-        let program = Program::none();
-        let diskroots = [0u8; 2048];
-        let stageroots = [0u8; 512];
-        Host { sector, disk, stage, places, program, diskroots, stageroots }
+        Host {
+            sector,
+            disk,
+            stage,
+            places: [Place::none(); 8],
+            program: Program::none(),
+            diskroots: [0; 2048],
+            stageroots: [0; 512],
+        }
     }
 }
 
@@ -195,8 +193,5 @@ impl Host {
 pub fn lent(n: u64, most: u64) -> bool
     ensures { result ≡ Order.lent most n }
 {
-    if n < 1 {
-        return false;
-    }
-    n <= most
+    (1..=most).contains(&n)
 }

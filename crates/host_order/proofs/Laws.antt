@@ -1,3 +1,2 @@
 -- The laws, a file for each subject.
-pub mod Tests
-pub mod Lengths
+pub mod Ends

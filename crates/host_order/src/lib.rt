@@ -3,13 +3,12 @@
 #![tactic(auto)]
 
 ghost use Rattle.std.specs.Prelude.{◌≡◌, ◌+◌, ◌≤◌, ◌<◌, leb};
-ghost use Rattle.std.proofs.Math.Seq.{slice};
 ghost use Rattle.lists.specs.Pick.{pick};
-ghost use Rattle.lists.specs.Tests.{every, some, apart};
+ghost use Rattle.lists.specs.Tests.{every, apart};
 ghost use Rattle.area.specs.Slots.{Size};
 ghost use Rattle.host.specs.Order.{place_in_order, twins, places_in_order, parent_in_order, terms_in_order, progress_in_order, program_in_order, in_order};
 
-use host::{Host, Place, Program, Progress, Terms};
+use host::{Host, Place, Terms};
 
 mod areas; // areas.rt: whether areas are as long as stated
 mod staged; // staged.rt: whether the staged positions of a program are in order
@@ -23,194 +22,109 @@ fn place_in_order(z: u64, p: Place) -> bool
     requires { 0 < z }
     ensures { result ≡ place_in_order z p }
 {
-    if !p.held {
-        return true;
-    }
-    let id = p.id;
-    if sia::is_read_only(id) {
-        return false;
-    }
-    if p.size % z != 0 {
-        return false;
-    }
-    p.size / z <= Place::SLOTS
+    !p.held || (!sia::is_read_only(p.id) && p.size % z == 0 && p.size / z <= Place::SLOTS)
 }
 
 fn each_in_order(z: u64, places: [Place; 8]) -> bool
     requires { 0 < z }
     ensures { result ≡ every (place_in_order z) places }
 {
-    let mut i: usize = 0;
-    while i < 8 {
-        let p = places[i];
-        if !place_in_order(z, p) {
-            return false;
-        }
-        i += 1;
-    }
-    true
+    places.iter().all(|p| place_in_order(z, *p))
 }
 
 // Whether two places hold contracts under one id.
 fn are_twins(p: Place, q: Place) -> bool
     ensures { result ≡ twins p q }
 {
-    if !p.held {
-        return false;
-    }
-    if !q.held {
-        return false;
-    }
-    let one = p.id;
-    let two = q.id;
-    sia::same_id(one, two)
-}
-
-// Whether a place has a twin among those from `from` on.
-fn has_twin(places: [Place; 8], from: usize, p: Place) -> bool
-    ensures { result ≡ some (twins p) (slice from 8 places) }
-{
-    let mut i = from;
-    while i < 8 {
-        let q = places[i];
-        if are_twins(p, q) {
-            return true;
-        }
-        i += 1;
-    }
-    false
+    p.held && q.held && sia::same_id(p.id, q.id)
 }
 
 // Whether no two places hold contracts under one id. A place that holds none has no twin.
 fn no_twins(places: [Place; 8]) -> bool
     ensures { result ≡ apart twins places }
 {
-    let mut i: usize = 0;
-    while i < 8 {
-        let p = places[i];
-        i += 1;
-        if !p.held {
-            continue;
-        }
-        if has_twin(places, i, p) {
-            return false;
-        }
-    }
-    true
+    host::apart(&places, |p, q| are_twins(*p, *q))
 }
 
 fn places_in_order(z: u64, disk: u64, places: [Place; 8]) -> bool
     requires { 0 < z }
     ensures { result ≡ places_in_order z disk places }
 {
-    if !each_in_order(z, places) {
-        return false;
-    }
-    if !no_twins(places) {
-        return false;
-    }
     let taken = host::slots_taken(z, places);
-    let items = taken.items;
-    let count = taken.count;
-    if !host::distinct(items, count) {
-        return false;
-    }
-    host::below(items, count, disk)
+    each_in_order(z, places)
+        && no_twins(places)
+        && host::distinct(taken.as_slice())
+        && host::below(taken.as_slice(), disk)
 }
 
 // ---- an open program
 
+// Kept: places, an id and a size by themselves, as the definition takes them: the id is a head's, the size a program's.
 fn parent_in_order(places: [Place; 8], id: [u8; 32], size: u64) -> bool
     ensures { result ≡ parent_in_order places id size }
 {
     if sia::is_read_only(id) {
-        return size == 0;
+        size == 0
+    } else {
+        host::place_of(places, id).held
     }
-    let parent = host::place_of(places, id);
-    parent.held
 }
 
 fn terms_in_order(places: [Place; 8], t: Terms, size: u64) -> bool
     ensures { result ≡ terms_in_order places t size }
 {
-    let head = t.head;
-    let id = head.contract;
-    if !parent_in_order(places, id, size) {
-        return false;
-    }
-    if !sia::within(head) {
-        return false;
-    }
-    if t.room < Terms::LEAST {
-        return false;
-    }
-    t.room <= Terms::MOST
+    parent_in_order(places, t.head.contract, size)
+        && sia::within(t.head)
+        && (Terms::LEAST..=Terms::MOST).contains(&t.room)
 }
 
 // What is kept free of the output until the end.
 fn owed(failed: bool) -> u64
     ensures { result ≡ pick failed 0 72 }
 {
-    if failed {
-        return 0;
-    }
-    Terms::LEAST
+    if failed { 0 } else { Terms::LEAST }
 }
 
-// Whether a sum is within a limit; it is never made.
+// Whether a sum is within a limit; one that would wrap is not.
 fn sum_fits(one: u64, two: u64, limit: u64) -> bool
     ensures { result ≡ leb (one + two) limit }
 {
-    if limit < two {
-        return false;
-    }
-    one <= limit - two
+    one.checked_add(two).is_some_and(|sum| sum <= limit)
 }
 
-#[rattlefmt::skip]
-fn progress_in_order(z: u64, disk: u64, stage: u64, places: [Place; 8], t: Terms, p: Progress) -> bool
-    requires size { Size z }
-    requires disk_bound { disk ≤ 64 }
-    ensures { result ≡ progress_in_order z disk stage places t p }
+// Of the program of a host whose sectors and disk have sizes that there are.
+fn progress_in_order(host: &Host) -> bool
+    requires size { Size host.now.sector }
+    requires disk_bound { host.now.disk ≤ 64 }
+    ensures { let h = host.now in result ≡ progress_in_order h.sector h.disk h.stage h.places h.program.terms h.program.progress }
 {
-    let head = t.head;
-    let id = head.contract;
-    if head.count < p.ran {
-        return false;
-    }
-    if t.budget < p.tally {
-        return false;
-    }
-    let owing = owed(p.failed);
-    if !sum_fits(p.written, owing, t.room) {
-        return false;
-    }
-    if p.size % z != 0 {
-        return false;
-    }
-    if !host::sizes_fit(places, id, p.size, disk * z) {
-        return false;
-    }
-    let parent = host::place_of(places, id);
-    let staged = p.staged;
-    staged_in_order(z, stage, parent.size / z, p.size, staged)
+    let z = host.sector;
+    let t = host.program.terms;
+    let p = host.program.progress;
+    let id = t.head.contract;
+    p.ran <= t.head.count
+        && p.tally <= t.budget
+        && sum_fits(p.written, owed(p.failed), t.room)
+        && p.size % z == 0
+        && host::sizes_fit(host.places, id, p.size, host.disk * z)
+        && staged_in_order(
+            z,
+            host.stage,
+            host::place_of(host.places, id).size / z,
+            p.size,
+            p.staged,
+        )
 }
 
-fn program_in_order(z: u64, disk: u64, stage: u64, places: [Place; 8], g: Program) -> bool
-    requires size { Size z }
-    requires disk_bound { disk ≤ 64 }
-    ensures { result ≡ program_in_order z disk stage places g }
+fn program_in_order(host: &Host) -> bool
+    requires size { Size host.now.sector }
+    requires disk_bound { host.now.disk ≤ 64 }
+    ensures { let h = host.now in result ≡ program_in_order h.sector h.disk h.stage h.places h.program }
 {
-    let t = g.terms;
-    let p = g.progress;
-    if !terms_in_order(places, t, p.size) {
-        return false;
-    }
-    let head = t.head;
-    if head.length < g.came {
-        return false;
-    }
-    progress_in_order(z, disk, stage, places, t, p)
+    let g = host.program;
+    terms_in_order(host.places, g.terms, g.progress.size)
+        && g.came <= g.terms.head.length
+        && progress_in_order(host)
 }
 
 // ---- the whole record
@@ -219,25 +133,9 @@ fn program_in_order(z: u64, disk: u64, stage: u64, places: [Place; 8], g: Progra
 pub fn in_order(host: Host) -> bool
     ensures { result ≡ in_order host }
 {
-    let z = host.sector;
-    let disk = host.disk;
-    let stage = host.stage;
-    let places = host.places;
-    let program = host.program;
-    if !host::is_size(z) {
-        return false;
-    }
-    if !host::lent(disk, Host::DISK) {
-        return false;
-    }
-    if !host::lent(stage, Host::STAGE) {
-        return false;
-    }
-    if !places_in_order(z, disk, places) {
-        return false;
-    }
-    if !program.active {
-        return true;
-    }
-    program_in_order(z, disk, stage, places, program)
+    host::is_size(host.sector)
+        && host::lent(host.disk, Host::DISK)
+        && host::lent(host.stage, Host::STAGE)
+        && places_in_order(host.sector, host.disk, host.places)
+        && (!host.program.active || program_in_order(&host))
 }

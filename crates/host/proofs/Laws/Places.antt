@@ -1,24 +1,20 @@
--- One turn of a loop that looks for the contract of an id. Assumes nothing.
-use Rattle.lists.proofs.Kit.{◌≡◌, refl, sym, true, false, List, [], ℕ, ◌+◌, ◌≤◌, ◌<◌, arith, length, get_or, slice}
-use Rattle.lists.proofs.Laws.Pick.{yes, no}
-use Rattle.lists.proofs.Laws.Slices.{slice-none, slice-one}
+-- The contract of an id, as the first place that has it. Assumes nothing.
+use Rattle.lists.proofs.Kit.{◌≡◌, refl, ap, ◌∙◌, false, List, [], ◌∷◌, ℕ, cond}
+use Rattle.std.specs.List.{find}
+use Rattle.std.specs.Option.{unwrap_or}
 use Rattle.host.specs.Empty.{no_place}
 use Rattle.host.specs.Places.{has_id, whose}
 use Rattle.host.specs.declared.Place.{Place}
+use Rattle.lists.proofs.Laws.Library.{pick-cond}
+use Rattle.host.proofs.Laws.Chains.{unwrap-cond}
 
 -- what code reads past the end of an array of places
 abbrev pub blank : Place
 blank = record { held = false; id = []; size = 0; slots = [] }
 
-module _ (id : List ℕ) (l : List Place) (f n : ℕ) (long : length l ≡ n) where
-  pub whose-here : f < n → has_id id (get_or l f blank) ≡ true → get_or l f blank ≡ whose id (slice f n l)
-  unfolding whose
-  whose-here h e = rw (slice-one l f n blank long h (omega arith)) (yes _ _ _ e refl)
-
-  pub whose-further : f < n → has_id id (get_or l f blank) ≡ false → whose id (slice f n l) ≡ whose id (slice (f + 1) n l)
-  unfolding whose
-  whose-further h e = rw (slice-one l f n blank long h (omega arith)) (sym (no _ _ _ e refl))
-
-  pub whose-done : n ≤ f → no_place ≡ whose id (slice f n l)
-  unfolding whose
-  whose-done h = rw (slice-none l f n h)
+pub whose-found : (id : List ℕ) (ps : List Place) → whose id ps ≡ unwrap_or (find (has_id id) ps) no_place
+unfolding whose
+whose-found id [] = refl
+whose-found id (p ∷ ps) =
+    rw (unwrap-cond (has_id id p) p (find (has_id id) ps) no_place)
+    (pick-cond (has_id id p) p (whose id ps) ∙ ap (cond (has_id id p) p) (whose-found id ps))

@@ -1,7 +1,13 @@
--- A sector size that there is, as the record of its facts, and one turn of the loop that looks for it. Assumes nothing.
-use Rattle.lists.proofs.Kit.{◌≡◌, refl, sym, ap, ◌∙◌, true, false, ℕ, zero, suc, ◌+◌, ◌-◌, ◌*◌, ◌/◌, ◌^◌, ◌≤◌, ◌<◌, pow-le-pow_right, arith, ltb, eqb}
-use Rattle.lists.proofs.Kit.{ltb-true, ltb-false, eqb-true, eqb-false, eq-eqb, ne_eqb}
+-- A sector size that there is, as the record of its facts, and as a number with one bit set within the limits. Assumes nothing.
+use Rattle.lists.proofs.Kit.{◌≡◌, refl, sym, ap, ap₂, ◌∙◌, true, false, ℕ, zero, suc, ◌+◌, ◌-◌, ◌*◌, ◌/◌, ◌%◌, ◌^◌, ◌≤◌, ◌<◌}
+use Rattle.lists.proofs.Kit.{pow-le-pow_right, two-pow-succ, arith, leb, ltb, eqb, le-leb, leb-true, ltb-true, ltb-false}
+use Rattle.lists.proofs.Kit.{eqb-true, eqb-false, eq-eqb}
+use mathlib.Core.Bool.{◌&&◌}
+use lib.Count.{ones_step}
 use lib.Pow.{pow-add}
+use Rattle.std.specs.Int.{is_power_of_two}
+use Rattle.std.specs.Int.RustNames.{count_ones}
+use Rattle.std.proofs.lemmas.Nat.{ones_le_self, zero_from_ones}
 use Rattle.lists.proofs.Laws.Pick.{by, never, picks, skips}
 use Rattle.area.specs.Slots.{Size}
 use Rattle.host.specs.Sizes.{doubled, is_size}
@@ -56,23 +62,48 @@ power_size z d e least most =
 pub facts-size : (z : ℕ) → Size z → is_size z ≡ true
 facts-size z s = power_size z (6 + s.depth) (s.segments ∙ sym (pow-add 2 6 s.depth)) s.least s.most
 
--- ---- the loop: `at` is 4,096 doubled d times
+-- ---- one bit
 
-pub halved : (d at : ℕ) → 0 < d → at ≡ 4096 * 2 ^ d → at / 2 ≡ 4096 * 2 ^ (d - 1)
-halved zero at pos e = absurd (omega arith)
-halved (suc d) at pos e = let k : suc d - 1 ≡ d = omega arith in rw k (omega (arith, e))
+-- a number with one bit set is a power of two
+power_of : (k n : ℕ) → n < 2 ^ k → count_ones n ≡ 1 → (j : ℕ) × (n ≡ 2 ^ j)
+power_of zero n h e = absurd (omega (arith, ones_le_self n))
+power_of (suc k) n h e =
+    by (eqb (n % 2) 0)
+    (λ t.
+    let even : n % 2 ≡ 0 = eqb-true _ _ t in
+    let half : n / 2 < 2 ^ k = omega (arith, h, two-pow-succ k) in
+    let more : (j : ℕ) × (n / 2 ≡ 2 ^ j) = power_of k (n / 2) half (omega (arith, e, ones_step n, even)) in
+    (suc more.0, omega (arith, more.1, even, two-pow-succ more.0)))
+    (λ f.
+    let none : count_ones (n / 2) ≡ 0 = omega (arith, e, ones_step n, eqb-false _ _ f) in
+    (0, omega (arith, zero_from_ones (n / 2) none, eqb-false _ _ f)))
 
-pub here : (d z : ℕ) → 0 < d → z ≡ 4096 * 2 ^ (d - 1) → doubled d z ≡ true
-unfolding doubled
-here zero z pos e = absurd (omega arith)
-here (suc d) z pos e = let k : suc d - 1 ≡ d = omega arith in picks _ _ _ (eq-eqb _ _ (rw k at e))
+-- and a power of two has one
+one-bit : (k : ℕ) → count_ones (2 ^ k) ≡ 1
+unfolding count_ones
+one-bit zero = refl
+one-bit (suc k) =
+    let double : 2 ^ suc k ≡ 2 * 2 ^ k = omega (arith, two-pow-succ k) in
+    let half : 2 ^ suc k / 2 ≡ 2 ^ k = omega (arith, double) in
+    omega (arith, ones_step (2 ^ suc k), one-bit k, ap count_ones half, double)
 
-pub further : (d z : ℕ) → 0 < d → (z ≡ 4096 * 2 ^ (d - 1) → ⊥) → doubled d z ≡ doubled (d - 1) z
-unfolding doubled
-further zero z pos ne = absurd (omega arith)
-further (suc d) z pos ne = let k : suc d - 1 ≡ d = omega arith in rw k (skips _ _ _ (ne_eqb _ _ (rw k at ne)))
+-- a power of two is a size exactly within the limits
+pub sized : (z : ℕ) → z < 2 ^ 64 → is_power_of_two z ≡ true → (leb 4096 z && leb z 4194304) ≡ is_size z
+sized z h e =
+    let power : (j : ℕ) × (z ≡ 2 ^ j) = power_of 64 z h (eqb-true _ _ e) in
+    by (is_size z)
+    (λ t. let s : Size z = size-facts z t in ap₂ (λ a b. a && b) (le-leb 4096 z s.least) (le-leb z 4194304 s.most) ∙ sym t)
+    (λ f. by (leb 4096 z)
+    (λ l. by (leb z 4194304)
+    (λ m. never (sym (power_size z power.0 power.1 (leb-true _ _ l) (leb-true _ _ m)) ∙ f))
+    (λ m. ap₂ (λ a b. a && b) l m ∙ sym f))
+    (λ l. ap (λ a. a && leb z 4194304) l ∙ sym f))
 
-pub none : (d z : ℕ) → d ≤ 0 → doubled d z ≡ false
-unfolding doubled
-none zero z h = refl
-none (suc d) z h = absurd (omega arith)
+-- and no other number is one
+pub unsized : (z : ℕ) → is_power_of_two z ≡ false → false ≡ is_size z
+unsized z e =
+    by (is_size z)
+    (λ t. let s : Size z = size-facts z t in
+    let power : z ≡ 2 ^ (6 + s.depth) = s.segments ∙ sym (pow-add 2 6 s.depth) in
+    absurd (eqb-false _ _ e (ap count_ones power ∙ one-bit (6 + s.depth))))
+    (λ f. sym f)

@@ -1,6 +1,6 @@
 -- The slots that contracts take, gathered in one array. Assumes nothing.
 use Rattle.lists.proofs.Kit.{◌≡◌, refl, sym, ap, ◌∙◌, true, false, List, [], ◌∷◌, ◌++◌, append_assoc, append-nil, ℕ, ◌+◌, ◌/◌, ◌<◌, min, arith, length}
-use Rattle.lists.proofs.Kit.{take, get_or, set, take-suc, take-suc-set}
+use Rattle.lists.proofs.Kit.{take, get_or, take-suc}
 use native.Mathlib.Numerals.{add-one}
 use Rattle.lists.proofs.Laws.Pick.{yes, no}
 use Rattle.lists.proofs.Laws.Slices.{take_min}
@@ -8,26 +8,15 @@ use Rattle.sia.specs.Encode.{joined}
 use Rattle.host.specs.Places.{committed, taken}
 use Rattle.host.specs.declared.Place.{Place}
 
--- one entry more behind what is listed
-pub grown : (items l base : List ℕ) (count i k : ℕ) {m n : ℕ} → length items ≡ m → length l ≡ n → count < m → i < n → k ≡ count + 1
-    → take count items ≡ base ++ take i l → take k (set items count (get_or l i 0)) ≡ base ++ take (i + 1) l
-grown items l base count i k em en hc hi e q =
-    rw (e, add-one count, add-one i, take-suc-set items count (get_or l i 0) (omega arith), take-suc l i 0 (omega arith))
-    (ap (λ (x : List ℕ). x ++ (get_or l i 0 ∷ [])) q ∙ append_assoc base (take i l) (get_or l i 0 ∷ []))
-
--- a place that is not held adds none
-pub no-slots : (z : ℕ) (p : Place) (base : List ℕ) → p.held ≡ false → base ≡ base ++ committed z p
+-- a place that is not held takes none
+pub none-taken : (z : ℕ) (p : Place) → p.held ≡ false → [] ≡ committed z p
 unfolding committed
-no-slots z p base e =
-    sym (append-nil base) ∙ ap (λ (x : List ℕ). base ++ x) (no p.held (take (p.size / z) p.slots) [] e refl)
+none-taken z p e = no p.held (take (p.size / z) p.slots) [] e refl
 
--- a contract adds those below its size, as far as there are entries
-pub its-slots : (z : ℕ) (p : Place) (base : List ℕ) (i n : ℕ) → p.held ≡ true → length p.slots ≡ n → i ≡ min (p.size / z) n
-    → base ++ take i p.slots ≡ base ++ committed z p
+-- a contract takes those below its size, as far as there are entries
+pub its-slots : (z : ℕ) (p : Place) (i n : ℕ) → p.held ≡ true → length p.slots ≡ n → i ≡ min (p.size / z) n → take i p.slots ≡ committed z p
 unfolding committed
-its-slots z p base i n e h q =
-    ap (λ (x : List ℕ). base ++ x)
-    (yes p.held (take (p.size / z) p.slots) [] e (rw q (take_min (p.size / z) n p.slots h)))
+its-slots z p i n e h q = yes p.held (take (p.size / z) p.slots) [] e (rw q (take_min (p.size / z) n p.slots h))
 
 -- ---- place by place
 

@@ -1,7 +1,7 @@
 -- The sizes of the other contracts, place by place, against what is left of a limit. Assumes nothing.
 use Rattle.lists.proofs.Kit.{◌≡◌, sym, ap, ◌∙◌, true, false, List, ℕ, ◌+◌, ◌-◌, ◌≤◌, ◌<◌, arith, length, get_or, slice, leb, le-leb}
 use Rattle.lists.specs.Tests.{each, sum}
-use Rattle.lists.proofs.Laws.Slices.{slice-none, slice-one, slice_all}
+use Rattle.lists.proofs.Laws.Slices.{slice-none, slice-one}
 use Rattle.lists.proofs.Laws.Sums.{above, left_over}
 use Rattle.host.specs.Places.{own_size, others}
 use Rattle.host.specs.declared.Place.{Place}
@@ -25,11 +25,3 @@ module _ (id : List ℕ) (l : List Place) (f n : ℕ) (long : length l ≡ n) wh
   pub fits-done : (left : ℕ) → n ≤ f → true ≡ leb (others id (slice f n l)) left
   unfolding others sum each
   fits-done left h = rw (slice-none l f n h) (sym (le-leb 0 left (omega arith)))
-
--- the size by itself is within the limit
-pub fits-first : (id : List ℕ) (l : List Place) (n : ℕ) → length l ≡ n → (size limit : ℕ) → size ≤ limit
-    → leb (size + others id l) limit ≡ leb (others id (slice 0 n l)) (limit - size)
-fits-first id l n long size limit h =
-    let turned : size + others id l ≡ others id l + size = omega arith in
-    ap (λ (x : ℕ). leb x limit) turned ∙ sym (left_over limit size (others id l) h)
-    ∙ ap (λ (x : List Place). leb (others id x) (limit - size)) (sym (slice_all l long))

@@ -11,7 +11,7 @@ use Rattle.host.specs.Renaming.{Renaming, place_as, host_as}
 use Rattle.host.proofs.Renaming.Places.{all_as, word-as, whose-as, replaced-as, in-order-as}
 use Rattle.host.specs.declared.Place.{Place}
 use Rattle.host.specs.declared.Host.{Host}
-use Rattle.host.specs.declared.Made.{Made}
+use Rattle.host.specs.Calls.{Made}
 
 module _ (r : List ℕ → List ℕ) (new : Renaming r) where
   -- ---- what a call looks at

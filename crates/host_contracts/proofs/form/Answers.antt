@@ -1,54 +1,53 @@
 -- `host_contracts::form` meets its contract: a walk down the definition. Assumes nothing.
-use Rattle.lists.proofs.Kit.{◌≡◌, false, refl, sym, ap, ◌∙◌, not, List}
+use Rattle.std.proofs.Common.{rules, Some, None, Err, position}
+use Rattle.lists.proofs.Kit.{◌≡◌, refl, sym, ap, ◌∙◌, not, List, set}
 use Rattle.lists.proofs.Laws.Pick.{yes, no}
 use Rattle.host.specs.With.{with_places}
-use Rattle.host.specs.Calls.{answered, padded, formed}
+use Rattle.host.specs.Calls.{answered, made_of, padded, formed}
 use Rattle.host.specs.declared.Place.{Place}
-use Rattle.host_contracts.proofs.Laws.Early.{early}
+use Rattle.host.proofs.Laws.Refusals.{number-some}
+use Rattle.host_contracts.proofs.Laws.Early.{stops, goes-on}
+use Rattle.host.specs.declared.refusal.Refusal.TheVariants.{NoPlace}
+use Rattle.host_contracts.proofs.Laws.Free.{is_free, full, room, formed-in}
 use Rattle.host_contracts.proofs.form.Goals as goal
 
-pub returns-then-not-in_order : goal.returns-then-not-in_order
+pub returns-in_err-ready : goal.returns-in_err-ready
 unfolding formed
-returns-then-not-in_order c = yes _ _ _ (ap not (sym c.in_order.ensures ∙ c.if-not-in_order.true)) refl
+returns-in_err-ready c =
+    let why = c.in_err-ready.field-0.0 in
+    let is : c.from_residual.result ≡ Err why = search rules in
+    ap (made_of c.args.host) is ∙ stops c.args.host _ _ _ _ c.in_err-ready.ensures (number-some why)
 
-pub returns-then-program : goal.returns-then-program
+pub returns-then-padded : goal.returns-then-padded
 unfolding formed
-returns-then-program c = no _ _ _ (ap not (sym c.in_order.ensures ∙ c.if-not-in_order.false)) (yes _ _ _ c.if-program.true refl)
+returns-then-padded c =
+    yes _ _ _ (sym c.if-padded.ensures) refl ∙ goes-on c.args.host _ _ _ _ c.in_ok-ready.ensures refl
 
-pub returns-then-is_read_only : goal.returns-then-is_read_only
+pub returns-then-place_of : goal.returns-then-place_of
 unfolding formed
-returns-then-is_read_only c =
-    no _ _ _ (ap not (sym c.in_order.ensures ∙ c.if-not-in_order.false))
-    (no _ _ _ c.if-program.false (yes _ _ _ (sym c.is_read_only.ensures ∙ c.if-is_read_only.true) refl))
+returns-then-place_of c =
+    no _ _ _ (sym c.if-padded.ensures)
+    (yes _ _ _ (ap (λ (p : Place). p.held) (sym c.place_of.ensures) ∙ c.if-place_of.true) refl)
+    ∙ goes-on c.args.host _ _ _ _ c.in_ok-ready.ensures refl
 
--- behind 1, 3 and 5
-pub returns-then-short : goal.returns-then-short
+pub returns-in_err-free : goal.returns-in_err-free
 unfolding formed
-returns-then-short c =
-    early _ _ _ c.in_order.ensures (ap not c.if-not-in_order.false) c.if-program.false c.is_read_only.ensures c.if-is_read_only.false
-    (yes _ _ _ (sym c.padded-short.ensures ∙ c.if-short.true) refl)
-
--- `cc` finds that 15 was asked before 6
-pub returns-then-own : goal.returns-then-own
-unfolding formed
-returns-then-own c =
-    let long : padded c.args.id ≡ false = cc c.padded-short.ensures in
-    early _ _ _ c.in_order.ensures (ap not c.if-not-in_order.false) c.if-program.false c.is_read_only.ensures c.if-is_read_only.false
-    (no _ _ _ long (yes _ _ _ (ap (λ (p : Place). p.held) (sym c.place_of-own.ensures) ∙ c.if-own.true) refl))
-
-pub returns-then-not-has_free : goal.returns-then-not-has_free
-unfolding formed
-returns-then-not-has_free c =
-    early _ _ _ c.in_order.ensures (ap not c.if-not-in_order.false) c.if-program.false c.is_read_only.ensures c.if-is_read_only.false
-    (no _ _ _ (sym c.padded-short.ensures ∙ c.if-short.false)
-    (no _ _ _ (ap (λ (p : Place). p.held) (sym c.place_of-own.ensures) ∙ c.if-own.false)
-    (yes _ _ _ (ap not (sym c.has_free.ensures ∙ c.if-not-has_free.true)) refl)))
+returns-in_err-free c =
+    let is : c.from_residual-in_err-free.result ≡ Err NoPlace = search rules in
+    let gone : c.free_place.result ≡ None = search rules in
+    ap (made_of c.args.host) is
+    ∙ no _ _ _ (sym c.if-padded.ensures)
+    (no _ _ _ (ap (λ (p : Place). p.held) (sym c.place_of.ensures) ∙ c.if-place_of.false)
+    (yes _ _ _ (ap not (full _ (sym c.free_place.ensures ∙ gone))) refl))
+    ∙ goes-on c.args.host _ _ _ _ c.in_ok-ready.ensures refl
 
 pub returns : goal.returns
 unfolding formed with_places
 returns c =
-    early _ _ _ c.in_order.ensures (ap not c.if-not-in_order.false) c.if-program.false c.is_read_only.ensures c.if-is_read_only.false
-    (no _ _ _ (sym c.padded-short.ensures ∙ c.if-short.false)
-    (no _ _ _ (ap (λ (p : Place). p.held) (sym c.place_of-own.ensures) ∙ c.if-own.false)
-    (no _ _ _ (ap not (sym c.has_free.ensures ∙ c.if-not-has_free.false))
-    (ap (λ (l : List Place). answered 0 (with_places c.args.host l)) c.formed_at-ps.ensures))))
+    let is : c.free_place.result ≡ Some c.in_ok-free.free = search rules in
+    let at : position is_free c.args.host.places ≡ Some c.in_ok-free.free = sym c.free_place.ensures ∙ is in
+    let placed = ap (set c.args.host.places c.in_ok-free.free) c.new_place.ensures ∙ formed-in _ c.args.id _ at in
+    no _ _ _ (sym c.if-padded.ensures)
+    (no _ _ _ (ap (λ (p : Place). p.held) (sym c.place_of.ensures) ∙ c.if-place_of.false)
+    (no _ _ _ (ap not (room _ _ at)) (ap (λ (l : List Place). answered 0 (with_places c.args.host l)) placed)))
+    ∙ goes-on c.args.host _ _ _ _ c.in_ok-ready.ensures refl

@@ -4,10 +4,10 @@ use Rattle.lists.proofs.Laws.Pick.{yes, no}
 use Rattle.host.specs.Calls.{length_right}
 use Rattle.host_contracts.proofs.length_right.Goals as goal
 
-pub returns-then-n-z-ne0 : goal.returns-then-n-z-ne0
+pub returns-then-n-z-eq0 : goal.returns-then-n-z-eq0
 unfolding length_right
-returns-then-n-z-ne0 c = no _ _ _ (ne_eqb _ _ c.if-n-z-ne0.true) refl
+returns-then-n-z-eq0 c = yes _ _ _ (eq-eqb _ _ c.if-n-z-eq0.true) c.lent.ensures
 
-pub returns : goal.returns
+pub returns-else-n-z-eq0 : goal.returns-else-n-z-eq0
 unfolding length_right
-returns c = yes _ _ _ (eq-eqb _ _ c.before.if-n-z-ne0.false) c.lent.ensures
+returns-else-n-z-eq0 c = no _ _ _ (ne_eqb _ _ c.if-n-z-eq0.false) (ne_eqb _ _ c.if-n-z-eq0.false)

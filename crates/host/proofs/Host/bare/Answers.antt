@@ -9,7 +9,7 @@ use Rattle.host.proofs.Host.bare.Goals as goal
 pub returns : goal.returns
 unfolding bare
 returns c =
-    let a = c.before.before.args in
+    let a = c.args in
     ap₂ (λ (none : Place) (program : Program). record {
       sector = a.sector;
       disk = a.disk;
@@ -19,4 +19,4 @@ returns c =
       diskroots = zeros 2048;
       stageroots = zeros 512;
     })
-    c.before.none-none.ensures c.none-program.ensures
+    c.none.ensures c.none-2.ensures

@@ -8,4 +8,4 @@ use Rattle.host.proofs.Program.none.Goals as goal
 pub returns : goal.returns
 unfolding no_program
 returns c = ap₂ (λ (terms : Terms) (progress : Progress). record { active = false; terms = terms; came = 0; progress = progress })
-    c.before.none-terms.ensures c.none-progress.ensures
+    c.none.ensures c.none-2.ensures

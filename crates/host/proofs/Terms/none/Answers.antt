@@ -8,4 +8,4 @@ use Rattle.host.proofs.Terms.none.Goals as goal
 pub returns : goal.returns
 unfolding no_terms
 returns c =
-    ap₂ (λ (head : Head) (prices : Prices). record { head = head; prices = prices; budget = 0; room = 0 }) c.before.empty-head.ensures c.none-prices.ensures
+    ap₂ (λ (head : Head) (prices : Prices). record { head = head; prices = prices; budget = 0; room = 0 }) c.empty.ensures c.none.ensures

@@ -1,19 +1,16 @@
--- `host::places::place_of` meets its contract. The loop's invariant: the contract is one of the places that are left to look at.
--- Assumes nothing.
-use Rattle.lists.proofs.Kit.{sym, ap, ◌∙◌, arith}
-use Rattle.lists.proofs.Laws.Slices.{slice_all}
-use Rattle.host.specs.Places.{whose}
-use Rattle.host.proofs.Laws.Places.{whose-here, whose-further, whose-done}
+-- `host::places::place_of` meets its contract. Assumes nothing.
+use Rattle.lists.proofs.Kit.{sym, ap₂, ◌∙◌}
+use Rattle.std.proofs.Common.{rules, tests}
+use Rattle.std.specs.Option.{unwrap_or}
+use Rattle.std.proofs.lemmas.Iterator.{YieldsList-from_slice}
+use Rattle.std.proofs.lemmas.Iterator.Search.{find_from_yields_List}
+use Rattle.host.specs.Places.{has_id}
+use Rattle.host.proofs.Laws.Places.{whose-found}
 use Rattle.host.proofs.places.place_of.Goals as goal
 
-pub loop-i-init : goal.loop-i-init
-loop-i-init c = ap (whose c.args.id) (sym (slice_all _ c.well_formed.0.1.0.1))
-
-pub returns-then-has_id : goal.returns-then-has_id
-returns-then-has_id c = let back-3 = c.before.before.before in let back-4 = back-3.before in let back-5 = back-4.before in let l = back-4.loop-i in let s = back-5 in whose-here _ s.args.places l.i 8 s.well_formed.0.1.0.1 (omega arith) (sym c.before.has_id.ensures ∙ c.if-has_id.true) ∙ sym l.invariant
-
-pub loop-i-preserved : goal.loop-i-preserved
-loop-i-preserved c = let back-3 = c.before.before.before in let back-4 = back-3.before in let back-5 = back-4.before in let l = back-4.loop-i in let s = back-5 in l.invariant ∙ whose-further _ s.args.places l.i 8 s.well_formed.0.1.0.1 (omega arith) (sym c.before.has_id.ensures ∙ c.if-has_id.false)
-
 pub returns : goal.returns
-returns c = let l = c.before.before.loop-i in let s = c.before.before.before in c.none.ensures ∙ whose-done _ s.args.places l.i 8 s.well_formed.0.1.0.1 (omega arith) ∙ sym l.invariant
+returns c =
+    let a = c.args in
+    let places = YieldsList-from_slice a.places cc in
+    let found = find_from_yields_List (has_id a.id) _ _ c.find.result c.find.ensures.ran places (λ x b q k. search (rules, tests)) in
+    c.unwrap_or.ensures ∙ ap₂ unwrap_or (c.copied.ensures ∙ found) c.none.ensures ∙ sym (whose-found a.id a.places)

@@ -1,10 +1,11 @@
 -- `host_order::areas::areas_right` meets its contract. Assumes nothing.
-use Rattle.lists.proofs.Kit.{refl, sym, ◌∙◌}
-use Rattle.lists.proofs.Laws.Pick.{yes, no}
+use Rattle.lists.proofs.Kit.{arith}
+use Rattle.std.proofs.lemmas.Bool.Decides.{nat_tests}
+use Rattle.lists.proofs.Laws.Library.{both-and}
 use Rattle.host_order.proofs.areas.areas_right.Goals as goal
 
-pub returns-then-not-lent : goal.returns-then-not-lent
-returns-then-not-lent c = no _ _ _ (sym c.before.lent.ensures ∙ c.if-not-lent.true) refl
+pub returns-then-lent : goal.returns-then-lent
+returns-then-lent c = simp both-and (grind (arith, nat_tests))
 
-pub returns : goal.returns
-returns c = yes _ _ _ (sym c.before.before.lent.ensures ∙ c.before.if-not-lent.false) c.lent-2.ensures
+pub returns-else-lent : goal.returns-else-lent
+returns-else-lent c = simp both-and (grind (arith, nat_tests))

@@ -1,23 +1,12 @@
--- `host_order::staged::all_staged` meets its contract. The loop's invariant: the answer is that of the entries that are left to look at.
--- Assumes nothing.
-use Rattle.lists.proofs.Kit.{sym, ap, ◌∙◌, not, arith, eqb, eq-eqb, ne_eqb}
-use Rattle.lists.proofs.Laws.Slices.{every-stops, every-further, every-done}
+-- `host_order::staged::all_staged` meets its contract. Assumes nothing.
+use Rattle.lists.proofs.Kit.{not, eqb}
+use Rattle.std.proofs.Common.{rules, tests}
+use Rattle.std.proofs.lemmas.Iterator.{YieldsList-from_slice}
+use Rattle.lists.proofs.Laws.Library.{all-every}
 use Rattle.host.specs.Empty.{none}
 use Rattle.host_order.proofs.staged.all_staged.Goals as goal
 
-pub returns-then-staged-i : goal.returns-then-staged-i
-returns-then-staged-i c =
-    let l = c.before.before.loop-i in
-    let s = c.before.before.before in
-    every-stops (λ n. not (eqb n none)) s.args.staged l.i s.args.end 0 s.well_formed.0.1.0.1 (omega arith) (omega arith)
-    (ap not (eq-eqb _ none c.if-staged-i.true)) ∙ sym l.invariant
-
-pub loop-i-preserved : goal.loop-i-preserved
-loop-i-preserved c =
-    let l = c.before.before.loop-i in
-    let s = c.before.before.before in
-    l.invariant ∙ every-further (λ n. not (eqb n none)) s.args.staged l.i s.args.end 0 s.well_formed.0.1.0.1 (omega arith) (omega arith)
-    (ap not (ne_eqb _ none c.if-staged-i.false))
-
 pub returns : goal.returns
-returns c = let s = c.before.before in every-done (λ n. not (eqb n none)) s.args.staged c.before.loop-i.i s.args.end (omega arith) ∙ sym c.before.loop-i.invariant
+returns c =
+    let staged = YieldsList-from_slice c.args.staged.now cc in
+    all-every (λ n. not (eqb n none)) _ _ _ c.all.ensures.ran staged (λ x b q k. search (rules, tests))
