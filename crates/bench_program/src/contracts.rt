@@ -1,9 +1,9 @@
 // Contracts formed in turn.
 ghost use Rattle.std.specs.Prelude.{◌≡◌, ◌+◌, ◌≤◌, length};
 ghost use Rattle.area.specs.Area.{part};
-ghost use Rattle.bench_program.specs.Single.{ids_in, formed_in_turn};
+ghost use Rattle.bench_program.specs.Single.{formed_of, ids_in, formed_in_turn};
 
-use machine::{Host, Made, Place};
+use machine::{Host, Place, Refusal};
 
 // The id that stands at a place.
 fn id_at(ids: &[u8], at: usize) -> [u8; 32]
@@ -15,25 +15,17 @@ fn id_at(ids: &[u8], at: usize) -> [u8; 32]
     id
 }
 
-// Forms the contracts of ids that stand one behind another, up to the first refusal: 0; or its number.
-pub fn form_in_turn(host: Host, ids: &[u8]) -> Made
-    ensures { result ≡ formed_in_turn host (ids_in ids.now) }
+// Forms the contracts of ids that stand one behind another, up to the first refusal, which comes with the host as it was then.
+pub fn form_in_turn(host: Host, ids: &[u8]) -> Result<Host, (Refusal, Host)>
+    ensures { formed_of result ≡ formed_in_turn host (ids_in ids.now) }
 {
-    let n = ids.len() / Place::ID;
     let mut made = host;
-    let mut i: usize = 0;
-    while i < n {
+    for i in 0..ids.len() / Place::ID {
         let id = id_at(ids, i * Place::ID);
-        let formed = machine::form(made, id);
-        if formed.number != 0 {
-            return formed;
+        match machine::form(made, id) {
+            Ok(next) => made = next,
+            Err(why) => return Err((why, made)),
         }
-        let next = formed.host;
-        made = next;
-        i += 1;
     }
-    Made {
-        number: 0,
-        host: made,
-    }
+    Ok(made)
 }

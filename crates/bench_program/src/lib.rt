@@ -3,6 +3,7 @@
 #![tactic(auto)]
 
 ghost use Rattle.std.specs.Prelude.{◌≡◌};
+ghost use Rattle.host.specs.Refusals.{number_in};
 ghost use Rattle.bench_program.specs.Single as Says;
 ghost use Rattle.bench_program.specs.Single.{leaves};
 ghost use Rattle.bench_program.specs.Input.{answered};
@@ -12,14 +13,16 @@ mod playing; // playing.rt: opening, the piece and the close
 mod reading; // reading.rt: the whole input in its bytes
 mod speaking; // speaking.rt: what is written out
 
-use machine::{Host, Prices};
+use machine::{Host, Prices, Refusal};
 pub use playing::{begin, least};
 pub use speaking::play;
 
-// What a run answers: document 01's number, how many bytes of the output area are records to be written out, and the host.
+// Kept: `Clone` and `Copy` alone: nothing compares or prints it.
+
+// What a run comes to: the refusal that ended it, if one did, how many bytes of the output area are records to be written out, and the host.
 #[derive(Clone, Copy)]
 pub struct Outcome {
-    pub number: u64,
+    pub refused: Option<Refusal>,
     pub written: u64,
     pub host: Host,
 }
@@ -27,6 +30,16 @@ pub struct Outcome {
 impl Outcome {
     // The bytes of the price count, prices, budget and contract count, ahead of the ids.
     pub const FRONT: usize = 80;
+
+    // Document 01's number: 0 where no refusal ended it.
+    pub fn number(self) -> u64
+        ensures { result ≡ number_in self.refused }
+    {
+        match self.refused {
+            None => 0,
+            Some(why) => why.number(),
+        }
+    }
 }
 
 // Plays one program on a fresh host with sectors of that size for the areas that are lent: 2 for the size and their lengths; 5, 15, 6, 8 of the first
@@ -48,19 +61,16 @@ pub fn run(
         Says.run sector prices budget ids.now head.now bytes.now disk.old stage.old
         input.old output.old }
 {
-    let fresh = machine::fresh(sector, disk.len() as u64, stage.len() as u64);
-    let empty = fresh.host;
-    if fresh.number != 0 {
-        return playing::refused(fresh.number, empty);
+    let empty = match machine::fresh(sector, disk.len() as u64, stage.len() as u64) {
+        Ok(host) => host,
+        Err(why) => return playing::refused(why, machine::unmade()),
+    };
+    match contracts::form_in_turn(empty, ids) {
+        Ok(ready) => playing::begin(
+            ready, prices, budget, head, bytes, disk, stage, input, output,
+        ),
+        Err((why, host)) => playing::refused(why, host),
     }
-    let formed = contracts::form_in_turn(empty, ids);
-    let ready = formed.host;
-    if formed.number != 0 {
-        return playing::refused(formed.number, ready);
-    }
-    playing::begin(
-        ready, prices, budget, head, bytes, disk, stage, input, output,
-    )
 }
 
 // Plays what the whole input asks for: 9 if bytes ahead of the data are missing, the price count is not 7 or a price passes 65,535.
@@ -77,8 +87,7 @@ pub fn answer(
 {
     if reading::wrong(all) {
         let fresh = machine::fresh(sector, disk.len() as u64, stage.len() as u64);
-        let empty = fresh.host;
-        return playing::refused(9, empty);
+        return playing::refused(Refusal::Malformed, fresh.unwrap_or(machine::unmade()));
     }
     let prices = reading::prices(all);
     let budget = area::load(all, 64);

@@ -1,53 +1,52 @@
 // Opening a program, giving it its data as one piece, and closing it.
-ghost use Rattle.std.specs.Prelude.{◌≡◌, min};
-ghost use Rattle.machine.specs.Closes.{close_leaves};
+ghost use Rattle.std.specs.Prelude.{◌≡◌, Some, min};
+ghost use Rattle.host.specs.Refusals.{number_in};
+ghost use Rattle.machine.specs.Closes.{close_leaves, end_number};
 ghost use Rattle.bench_program.specs.Single as Says;
 ghost use Rattle.bench_program.specs.Single.{leaves, ended, given, begun};
 
 use crate::Outcome;
-use machine::{Closing, Host, Prices};
+use machine::{Closing, End, Host, Prices, Refusal};
 
 // A refusal shows no record.
-pub fn refused(number: u64, host: Host) -> Outcome
-    ensures { result ≡ record { number = number; written = 0; host = host } }
+pub fn refused(why: Refusal, host: Host) -> Outcome
+    ensures { result ≡ record { refused = Some why; written = 0; host = host } }
 {
     Outcome {
-        number,
+        refused: Some(why),
         written: 0,
         host,
     }
 }
 
 // Agrees to the pair reached; gives up after a failure.
-fn finish(host: Host, disk: &mut [u8], stage: &[u8]) -> Closing
-    ensures { close_leaves result disk.new ≡ ended disk.old host stage.now }
+fn finish(host: Host, disk: &mut [u8], stage: &[u8]) -> Result<Closing, Refusal>
+    ensures { close_leaves host result disk.new ≡ ended disk.old host stage.now }
 {
-    let program = host.program;
-    let progress = program.progress;
-    let pair = machine::reached(host, &*disk, stage);
-    let root = pair.root;
-    machine::close(host, disk, stage, !progress.failed, pair.size, root)
-}
-
-// The records that a close shows: none where it is refused.
-fn shown(number: u64, written: u64) -> u64
-    ensures { result ≡ Says.shown number written }
-{
-    if number != 0 {
-        return 0;
-    }
-    written
-}
-
-// What a close leaves of a program that has written so many bytes of records.
-fn closed(done: Closing, written: u64) -> Outcome
-    ensures { result ≡ record { number = done.number; written = Says.shown done.number written; host = done.host } }
-{
-    let host = done.host;
-    Outcome {
-        number: done.number,
-        written: shown(done.number, written),
+    let pair = machine::reached(host, &*disk, stage)?;
+    machine::close(
         host,
+        disk,
+        stage,
+        !host.program.progress.failed,
+        pair.size,
+        pair.root,
+    )
+}
+
+// What a close leaves of a program that has written so many bytes of records: it shows none of them where the agreement was refused.
+fn closed(done: Closing, written: u64) -> Outcome
+    ensures number { number_in result.refused ≡ end_number done.end }
+    ensures shown { result.written ≡ Says.shown (end_number done.end) written }
+    ensures host { result.host ≡ done.host }
+{
+    match done.end {
+        End::Closed => Outcome {
+            refused: None,
+            written,
+            host: done.host,
+        },
+        End::Disagreed => refused(Refusal::Disagreed, done.host),
     }
 }
 
@@ -77,14 +76,15 @@ fn give(
     let terms = program.terms;
     let head = terms.head;
     let n = least(head.length, input.len());
-    let taken = machine::piece(host, &*disk, stage, &mut input[0..n], output, bytes);
-    if taken.number != 0 {
-        return refused(taken.number, taken.host);
+    let taken = match machine::piece(host, &*disk, stage, &mut input[0..n], output, bytes) {
+        Ok(taken) => taken.host,
+        Err(why) => return refused(why, host),
+    };
+    let written = taken.program.progress.written;
+    match finish(taken, disk, &*stage) {
+        Ok(done) => closed(done, written),
+        Err(why) => refused(why, taken),
     }
-    let running = taken.host.program;
-    let progress = running.progress;
-    let done = finish(taken.host, disk, &*stage);
-    closed(done, progress.written)
 }
 
 // Opens a head, with the output area's length as output length, and plays it.
@@ -103,9 +103,8 @@ pub fn begin(
         begun host prices budget head.now bytes.now disk.old stage.old input.old
         output.old }
 {
-    let opened = machine::open(host, head, budget, prices, output.len() as u64);
-    if opened.number != 0 {
-        return refused(opened.number, opened.host);
+    match machine::open(host, head, budget, prices, output.len() as u64) {
+        Ok(opened) => give(opened.host, bytes, disk, stage, input, output),
+        Err(why) => refused(why, host),
     }
-    give(opened.host, bytes, disk, stage, input, output)
 }

@@ -11,12 +11,10 @@ fn prices_right(all: &[u8]) -> bool
     requires { 80 ≤ length all.now }
     ensures { result ≡ prices_right all.now }
 {
-    let mut i: usize = 0;
-    while i < 7 {
+    for i in 0..7 {
         if 65_535 < area::load(all, 8 + i * 8) {
             return false;
         }
-        i += 1;
     }
     true
 }

@@ -18,8 +18,8 @@ pub fn play(
         spoken (answered sector all.now disk.old stage.old input.old output.old) }
 {
     let done = crate::answer(sector, all, disk, stage, input, output);
-    if done.number != 0 {
-        area::store(output, 0, 8, done.number);
+    if let Some(why) = done.refused {
+        area::store(output, 0, 8, why.number());
         return 8;
     }
     crate::playing::least(done.written, output.len())

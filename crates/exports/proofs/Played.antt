@@ -5,6 +5,7 @@ use Rattle.area.specs.Area.{put}
 use Rattle.area.specs.Little.{le8}
 use Rattle.area.proofs.Laws.Little.{length-bytes}
 use Rattle.area.proofs.Laws.Puts.{put_all}
+use Rattle.host.specs.Refusals.{number_in}
 use Rattle.host.specs.declared.Prices.{Prices}
 use Rattle.bench_program.specs.Single.{leaves, run}
 use Rattle.bench_program.specs.declared.Outcome.{Outcome}
@@ -18,10 +19,10 @@ module _ (z : ℕ) (prices : Prices) (budget : ℕ) (ids head bytes disk stage i
   not_eight n = yes _ _ _ (ap not (ne_eqb _ 8 n)) refl
 
   -- what the program came to, and the count of its records' bytes over the whole area
-  pub counted : {o : Outcome} {d s i u after : List ℕ} → length count ≡ 8
+  pub counted : (o : Outcome) {d s i u after : List ℕ} → length count ≡ 8
       → leaves o d s i u ≡ run z prices budget ids head bytes disk stage input output → after ≡ put count 0 (le8 o.written)
-      → shown o.number d s i u after ≡ played z prices budget ids head bytes disk stage input output count
+      → shown (number_in o.refused) d s i u after ≡ played z prices budget ids head bytes disk stage input output count
   unfolding played
-  counted {o} {d} {s} {i} {u} n e q =
+  counted o {d} {s} {i} {u} n e q =
       no _ _ _ (ap not (eq-eqb _ 8 n))
-      (ap (shown o.number d s i u) (q ∙ put_all count (le8 o.written) (length-bytes 8 o.written ∙ sym n)) ∙ ap told e)
+      (ap (shown (number_in o.refused) d s i u) (q ∙ put_all count (le8 o.written) (length-bytes 8 o.written ∙ sym n)) ∙ ap told e)

@@ -14,10 +14,9 @@ use machine::Prices;
 pub extern "C" fn candlebrood_digest(key: &[u8], message: &[u8], out: &mut [u8]) -> u64
     ensures { numbered result out.new ≡ digested key.now message.now out.old }
 {
-    let a = blake2b::digest(key, message, out);
-    match a {
-        blake2b::Answer::Done => 0,
-        blake2b::Answer::Refused => 2,
+    match blake2b::digest(key, message, out) {
+        Ok(()) => 0,
+        Err(blake2b::LengthError) => 2,
     }
 }
 
@@ -29,19 +28,16 @@ pub extern "C" fn candlebrood_root(bytes: &[u8], out: &mut [u8]) -> u64
     if out.len() != 32 {
         return 2;
     }
-    let r = tree::root(bytes);
-    let a = r.answer;
-    match a {
-        tree::Answer::Done => {
-            let root = r.root;
+    match tree::root(bytes) {
+        Ok(root) => {
             area::copy_between(&root, 0, out, 0, 32);
             0
         }
-        tree::Answer::Refused => 2,
+        Err(_) => 2,
     }
 }
 
-// single::run: one program from a fresh host to its close, on lent areas, with sectors of any size. It answers document 01's number; `count`,
+// bench_program::run: one program from a fresh host to its close, on lent areas, with sectors of any size. It answers document 01's number; `count`,
 // an area of 8 bytes, takes how many bytes at the front of the output area are records, 0 where it was refused. 2 also where that area has
 // another length, and then all is as it was.
 #[unsafe(no_mangle)]
@@ -63,5 +59,5 @@ pub extern "C" fn candlebrood_run(
     let prices = Prices { init, memory, readbase, readlength, writebase, writelength, truncatebase };
     let done = bench_program::run(sector, prices, budget, ids, head, bytes, disk, stage, input, output);
     area::store(count, 0, 8, done.written);
-    done.number
+    done.number()
 }

@@ -1,6 +1,6 @@
 // Closing a program: giving up, or agreeing to the size and root that it has reached, which a program that changed nothing need not name;
 // and the commit.
-ghost use Rattle.std.specs.Prelude.{◌≡◌, pos};
+ghost use Rattle.std.specs.Prelude.{◌≡◌, Ok, pos};
 ghost use Rattle.host.specs.Empty.{no_program};
 ghost use Rattle.host.specs.With.{with_program};
 ghost use Rattle.machine_rules.specs.Record.{same_pair};
@@ -8,44 +8,20 @@ ghost use Rattle.machine_rules.specs.Commit as Says;
 ghost use Rattle.machine_step.specs.Turns.{Ready};
 ghost use Rattle.machine.specs.Closes.{close_leaves};
 
-use crate::{commit, refusing};
-use host::{Host, Program};
+use crate::{Closing, End, commit, refusing};
+use host::{Host, Program, Refusal};
 use machine_rules::Pair;
 
-// What closing answers: document 01's number, the tally, the growth in bytes, and the host.
-#[derive(Clone, Copy)]
-pub struct Closing {
-    pub number: u64,
-    pub tally: u64,
-    pub growth: i64,
-    pub host: Host,
-}
-
-fn refused(number: u64, host: Host) -> Closing
-    ensures { result ≡ record { number = number; tally = 0; growth = pos 0; host = host } }
-{
-    Closing {
-        number,
-        tally: 0,
-        growth: 0,
-        host,
-    }
-}
-
 // The program is closed and nothing committed.
-fn give_up(number: u64, host: Host) -> Closing
-    ensures { result ≡ record { number = number; tally = host.program.progress.tally; growth = pos 0; host = with_program host no_program } }
+fn give_up(end: End, host: Host) -> Closing
+    ensures { result ≡ record { end = end; tally = host.program.progress.tally; growth = pos 0; host = with_program host no_program } }
 {
-    let program = host.program;
-    let progress = program.progress;
-    let mut left = host;
-    let none = Program::none();
-    left.program = none;
+    let program = Program::none();
     Closing {
-        number,
-        tally: progress.tally,
+        end,
+        tally: host.program.progress.tally,
         growth: 0,
-        host: left,
+        host: Host { program, ..host },
     }
 }
 
@@ -75,7 +51,7 @@ fn same_pair(one: Pair, two: Pair) -> bool
 // Staged sectors go to the parent's slots on the disk, each with the root kept beside it, and the parent takes its final size.
 fn commit(host: Host, disk: &mut [u8], stage: &[u8]) -> Closing
     requires { Ready disk.old host stage.now }
-    ensures { close_leaves result disk.new ≡ Says.commit disk.old host stage.now }
+    ensures { close_leaves host (Ok result) disk.new ≡ Says.commit disk.old host stage.now }
 {
     let program = host.program;
     let terms = program.terms;
@@ -103,7 +79,7 @@ fn commit(host: Host, disk: &mut [u8], stage: &[u8]) -> Closing
     let none = Program::none();
     after.program = none;
     Closing {
-        number: 0,
+        end: End::Closed,
         tally: progress.tally,
         growth,
         host: after,
@@ -113,20 +89,21 @@ fn commit(host: Host, disk: &mut [u8], stage: &[u8]) -> Closing
 // An agreement. Where nothing changed there is nothing to agree, and nothing to commit; else 14 drops the changes, and closes.
 fn agree_to(host: Host, disk: &mut [u8], stage: &[u8], named: Pair) -> Closing
     requires { Ready disk.old host stage.now }
-    ensures { close_leaves result disk.new ≡ Says.agreed disk.old host stage.now named }
+    ensures { close_leaves host (Ok result) disk.new ≡ Says.agreed disk.old host stage.now named }
 {
     let starting = machine_step::starting_pair(host);
     let running = machine_step::running_pair(host);
     if same_pair(running, starting) {
-        return give_up(0, host);
+        return give_up(End::Closed, host);
     }
     if !same_pair(named, running) {
-        return give_up(14, host);
+        return give_up(End::Disagreed, host);
     }
     commit(host, disk, stage)
 }
 
-// Closes the program: 1, 2, 4, 13, 14. Giving up always closes and commits nothing; so does an agreement to a program that changed nothing.
+// Closes the program; or 1, 2, 4, 13. Giving up always closes and commits nothing; so does an agreement to a program that changed nothing, and,
+// as 14, an agreement to another pair than the running one.
 pub fn close(
     host: Host,
     disk: &mut [u8],
@@ -134,22 +111,19 @@ pub fn close(
     agree: bool,
     size: u64,
     root: [u8; 32],
-) -> Closing
-    ensures { close_leaves result disk.new ≡ Says.close disk.old host stage.now agree size root }
+) -> Result<Closing, Refusal>
+    ensures { close_leaves host result disk.new ≡ Says.close disk.old host stage.now agree size root }
 {
     let lent = host_order::areas_right(host.sector, host.disk, host.stage, &*disk, stage);
     let program = host.program;
     let ordered = host_order::in_order(host);
-    let number = refusing::refusal(ordered, lent, program.active);
-    if number != 0 {
-        return refused(number, host);
-    }
+    refusing::refusal(ordered, lent, program.active)?;
     if !agree {
-        return give_up(0, host);
+        return Ok(give_up(End::Closed, host));
     }
     if unfinished(program) {
-        return refused(13, host);
+        return Err(Refusal::Unfinished);
     }
     let named = Pair { size, root };
-    agree_to(host, disk, stage, named)
+    Ok(agree_to(host, disk, stage, named))
 }

@@ -5,6 +5,7 @@
 // too, so that a user names this crate alone.
 #![tactic(auto)]
 
+mod answers; // answers.rt: what a call hands out where it is done
 mod closing; // closing.rt: giving up, or agreeing to what a program has reached
 mod commit; // commit.rt: the slots and bytes of a commit
 mod interrupting; // interrupting.rt: interrupting a program
@@ -15,12 +16,13 @@ mod reaching; // reaching.rt: what a program has reached
 mod refusing; // refusing.rt: why a call on the open program is refused
 mod sounding; // sounding.rt: whether a host is sound
 
-pub use closing::{Closing, close};
-pub use host::{Host, Made, Place, Prices, Program, Progress, Terms};
-pub use host_contracts::{drop, form, fresh};
+pub use answers::{Closing, Done, End, Location};
+pub use closing::close;
+pub use host::{Host, Place, Prices, Program, Progress, Refusal, Terms};
+pub use host_contracts::{drop, form, fresh, unmade};
 pub use interrupting::interrupt;
 pub use locating::locate;
-pub use machine_rules::{Answer, Located, Reached, Sounded};
+pub use machine_rules::Pair;
 pub use machine_step::going;
 pub use opening::open;
 pub use piecing::piece;

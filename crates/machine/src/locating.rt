@@ -1,15 +1,17 @@
 // Where the sector with a root is: the place of its contract, its position there, and whether the stage holds it. Kept roots say it all, so no
 // area is lent. What the inner functions require, their callers prove; the call requires nothing.
-ghost use Rattle.std.specs.Prelude.{◌≡◌, true};
+ghost use Rattle.std.specs.Prelude.{◌≡◌, Ok, true};
 ghost use Rattle.host.specs.Order.{in_order};
 ghost use Rattle.machine_rules.specs.Roots.{kept_root};
-ghost use Rattle.machine_rules.specs.Seats.{first_seat, seats_in, not_located, is_staged, located_at, located};
+ghost use Rattle.machine_rules.specs.Seats.{first_seat, seats_in, is_staged, located_at, located};
+ghost use Rattle.machine.specs.Asks.{located_of};
 
-use host::Host;
-use machine_rules::{Located, Sought, Spot};
+use crate::Location;
+use host::{Host, Refusal};
+use machine_rules::{Seat, Spot};
 
 // What is looked up: of an open program as ReadSector has it, else of all committed sectors.
-fn sought(host: Host, root: [u8; 32]) -> Sought
+fn sought(host: Host, root: [u8; 32]) -> Option<Seat>
     requires { in_order host ≡ true }
     ensures { result ≡ first_seat (kept_root host.diskroots host.stageroots) root (seats_in host) }
 {
@@ -42,50 +44,30 @@ fn sought(host: Host, root: [u8; 32]) -> Sought
 fn is_staged(spot: Spot) -> bool
     ensures { result ≡ is_staged spot }
 {
-    match spot {
-        Spot::OnDisk(_) => false,
-        Spot::InStage(_) => true,
-    }
-}
-
-// An answer with no sector.
-fn not_located(number: u64) -> Located
-    ensures { result ≡ not_located number }
-{
-    Located {
-        number,
-        found: false,
-        place: 0,
-        position: 0,
-        staged: false,
-    }
+    matches!(spot, Spot::InStage(_))
 }
 
 // What is answered of what is found.
-fn located_at(sought: Sought) -> Located
-    ensures { result ≡ located_at sought }
+fn located_at(sought: Option<Seat>) -> Option<Location>
+    ensures { located_of (Ok result) ≡ located_at sought }
 {
-    let Sought::At(seat) = sought else {
-        return not_located(0);
+    let Some(seat) = sought else {
+        return None;
     };
-    let spot = seat.spot;
-    let staged = is_staged(spot);
-    Located {
-        number: 0,
-        found: true,
+    Some(Location {
         place: seat.place as u64,
         position: seat.position as u64,
-        staged,
-    }
+        staged: is_staged(seat.spot),
+    })
 }
 
-// 1; else 0 and where the first sector with that root is. It changes nothing, and a program need not be open.
-pub fn locate(host: Host, root: [u8; 32]) -> Located
-    ensures { result ≡ located host root }
+// Where the first sector with that root is, if there is one; or 1. It changes nothing, and a program need not be open.
+pub fn locate(host: Host, root: [u8; 32]) -> Result<Option<Location>, Refusal>
+    ensures { located_of result ≡ located host root }
 {
     if !host_order::in_order(host) {
-        return not_located(1);
+        return Err(Refusal::NotInOrder);
     }
     let found = sought(host, root);
-    located_at(found)
+    Ok(located_at(found))
 }

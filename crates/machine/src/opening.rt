@@ -3,13 +3,16 @@ ghost use Rattle.std.specs.Prelude.{◌≡◌, not};
 ghost use Rattle.lists.specs.Pick.{both};
 ghost use Rattle.area.specs.Area.{same};
 ghost use Rattle.sia.specs.Names.{read_only};
+ghost use Rattle.sia_read.specs.Faults as Faults;
+ghost use Rattle.host.specs.Refusals.{number_of};
 ghost use Rattle.host.specs.Empty as Empty;
 ghost use Rattle.host.specs.Places.{whose};
 ghost use Rattle.machine_rules.specs.Calls.{room_right, opened};
+ghost use Rattle.machine.specs.Asks.{answer_of};
 
-use crate::refusing;
-use host::{Host, Place, Prices, Program, Progress, Terms};
-use machine_rules::Answer;
+use crate::Done;
+use host::{Host, Place, Prices, Program, Progress, Refusal, Terms};
+use sia_read::Fault;
 
 fn room_right(room: u64) -> bool
     ensures { result ≡ room_right room }
@@ -46,59 +49,60 @@ fn started(tally: u64, size: u64) -> Progress
     }
 }
 
-fn wide(x: u16) -> u64
-    ensures { result ≡ x }
+// Why bytes that are no head refuse an opening.
+fn unread(fault: Fault) -> Refusal
+    ensures { number_of result ≡ Faults.number_of fault }
 {
-    x as u64
+    match fault {
+        Fault::Malformed => Refusal::Malformed,
+        Fault::AboveLimit => Refusal::AboveLimit,
+    }
 }
 
-// Opens a program under a head in its bytes: 1, 2, 3, 9 and 10 in reading order, 7, 11; with 0 the start price is tallied.
-pub fn open(host: Host, bytes: &[u8], budget: u64, prices: Prices, room: u64) -> Answer
-    ensures { result ≡ opened host bytes.now budget prices room }
+// Opens a program under a head in its bytes, and tallies the start price; or 1, 2, 3, 9 and 10 in reading order, 7, 11.
+pub fn open(
+    host: Host,
+    bytes: &[u8],
+    budget: u64,
+    prices: Prices,
+    room: u64,
+) -> Result<Done, Refusal>
+    ensures { answer_of host result ≡ opened host bytes.now budget prices room }
 {
     if !host_order::in_order(host) {
-        return refusing::refused(1, host);
+        return Err(Refusal::NotInOrder);
     }
     if !room_right(room) {
-        return refusing::refused(2, host);
+        return Err(Refusal::WrongLength);
     }
-    let idle = host.program;
-    if idle.active {
-        return refusing::refused(3, host);
+    if host.program.active {
+        return Err(Refusal::Open);
     }
-    let told = sia_read::read_head(bytes);
-    if told.number != 0 {
-        return refusing::refused(told.number, host);
-    }
-    let head = told.head;
-    let places = host.places;
-    let id = head.contract;
-    if absent(places, id) {
-        return refusing::refused(7, host);
-    }
-    let start = wide(prices.init);
-    if budget < start {
-        return refusing::refused(11, host);
-    }
-    let parent = host::place_of(places, id);
-    let progress = started(start, parent.size);
-    let terms = Terms {
-        head,
-        prices,
-        budget,
-        room,
+    let head = match sia_read::read_head(bytes) {
+        Ok(head) => head,
+        Err(fault) => return Err(unread(fault)),
     };
+    if absent(host.places, head.contract) {
+        return Err(Refusal::NotFound);
+    }
+    let tally = u64::from(prices.init);
+    if budget < tally {
+        return Err(Refusal::AboveBudget);
+    }
+    let parent = host::place_of(host.places, head.contract);
     let program = Program {
         active: true,
-        terms,
+        terms: Terms {
+            head,
+            prices,
+            budget,
+            room,
+        },
         came: 0,
-        progress,
+        progress: started(tally, parent.size),
     };
-    let mut after = host;
-    after.program = program;
-    Answer {
-        number: 0,
-        tally: start,
-        host: after,
-    }
+    Ok(Done {
+        tally,
+        host: Host { program, ..host },
+    })
 }

@@ -1,30 +1,21 @@
 // Giving a program a piece of its data.
-ghost use Rattle.std.specs.Prelude.{◌≡◌, ◌+◌, ◌≤◌, length, ltb};
+ghost use Rattle.std.specs.Prelude.{◌≡◌, Ok, ◌+◌, ◌≤◌, length, ltb};
 ghost use Rattle.machine_rules.specs.Calls as Says;
 ghost use Rattle.machine_rules.specs.Calls.{piece_lent, accepted};
 ghost use Rattle.machine.specs.Asks.{Takes, piece_leaves};
 
-use crate::refusing;
-use host::Host;
-use machine_rules::Answer;
+use crate::{Done, refusing};
+use host::{Host, Refusal};
 
 // Whether a piece lends what is stated: disk and stage, and, if a program is open, its input and output areas.
 fn piece_lent(host: Host, disk: &[u8], stage: &[u8], input: &[u8], output: &[u8]) -> bool
     ensures { result ≡ piece_lent host disk.now stage.now input.now output.now }
 {
-    if !host_order::areas_right(host.sector, host.disk, host.stage, disk, stage) {
-        return false;
-    }
     let program = host.program;
-    if !program.active {
-        return true;
-    }
-    let terms = program.terms;
-    let head = terms.head;
-    if input.len() as u64 != head.length {
-        return false;
-    }
-    output.len() as u64 == terms.room
+    host_order::areas_right(host.sector, host.disk, host.stage, disk, stage)
+        && (!program.active
+            || (input.len() as u64 == program.terms.head.length
+                && output.len() as u64 == program.terms.room))
 }
 
 // 12: whether a piece of n bytes passes the declared length.
@@ -43,9 +34,9 @@ fn accept(
     input: &mut [u8],
     output: &mut [u8],
     bytes: &[u8],
-) -> Answer
+) -> Done
     requires { Takes disk.now host stage.old input.old output.old bytes.now }
-    ensures { piece_leaves result stage.new input.new output.new ≡
+    ensures { piece_leaves host (Ok result) stage.new input.new output.new ≡
         accepted disk.now host stage.old input.old output.old bytes.now }
 {
     let setting = machine_step::setting_of(host);
@@ -72,14 +63,13 @@ fn accept(
     let mut after = host;
     after.program = program;
     after.stageroots = stageroots;
-    Answer {
-        number: 0,
+    Done {
         tally: progress.tally,
         host: after,
     }
 }
 
-// Gives the program a piece: 1, 2, 4, 12.
+// Gives the program a piece; or 1, 2, 4, 12.
 pub fn piece(
     host: Host,
     disk: &[u8],
@@ -87,21 +77,18 @@ pub fn piece(
     input: &mut [u8],
     output: &mut [u8],
     bytes: &[u8],
-) -> Answer
-    ensures { piece_leaves result stage.new input.new output.new ≡
+) -> Result<Done, Refusal>
+    ensures { piece_leaves host result stage.new input.new output.new ≡
         Says.piece disk.now host stage.old input.old output.old bytes.now }
 {
     let lent = piece_lent(host, disk, &*stage, &*input, &*output);
     let program = host.program;
     let ordered = host_order::in_order(host);
-    let number = refusing::refusal(ordered, lent, program.active);
-    if number != 0 {
-        return refusing::refused(number, host);
-    }
+    refusing::refusal(ordered, lent, program.active)?;
     let terms = program.terms;
     let head = terms.head;
     if passes(program.came, bytes.len(), head.length) {
-        return refusing::refused(12, host);
+        return Err(Refusal::TooMuchData);
     }
-    accept(host, disk, stage, input, output, bytes)
+    Ok(accept(host, disk, stage, input, output, bytes))
 }

@@ -2,59 +2,31 @@
 ghost use Rattle.std.specs.Prelude.{◌≡◌, true, []};
 ghost use Rattle.host.specs.Order.{in_order};
 ghost use Rattle.machine_rules.specs.Calls as Says;
-ghost use Rattle.machine_rules.specs.Calls.{reached_at, reached_pair, no_pair};
+ghost use Rattle.machine_rules.specs.Calls.{reached_pair};
+ghost use Rattle.machine.specs.Asks.{reached_of};
 
 use crate::refusing;
-use host::Host;
-use machine_rules::Reached;
-
-fn unreached(number: u64) -> Reached
-    ensures { result ≡ reached_at number no_pair }
-{
-    let root = [0u8; 32];
-    Reached {
-        number,
-        size: 0,
-        root,
-    }
-}
+use host::{Host, Refusal};
+use machine_rules::Pair;
 
 // The pair that an agreement would name; after a failure the starting pair. Both come from the roots that are kept: no area is looked at.
-fn reach(host: Host) -> Reached
+fn reach(host: Host) -> Pair
     requires host_value { in_order host ≡ true }
     requires active_value { host.program.active ≡ true }
-    ensures { result ≡ reached_at 0 (reached_pair [] host []) }
+    ensures { result ≡ reached_pair [] host [] }
 {
-    let program = host.program;
-    let progress = program.progress;
-    if progress.failed {
-        let starting = machine_step::starting_pair(host);
-        let root = starting.root;
-        return Reached {
-            number: 0,
-            size: starting.size,
-            root,
-        };
+    if host.program.progress.failed {
+        return machine_step::starting_pair(host);
     }
-    let running = machine_step::running_pair(host);
-    let root = running.root;
-    Reached {
-        number: 0,
-        size: running.size,
-        root,
-    }
+    machine_step::running_pair(host)
 }
 
-// The size and root that the program has reached: 1, 2, 4. It changes nothing.
-pub fn reached(host: Host, disk: &[u8], stage: &[u8]) -> Reached
-    ensures { result ≡ Says.reached disk.now host stage.now }
+// The size and root that the program has reached; or 1, 2, 4. It changes nothing.
+pub fn reached(host: Host, disk: &[u8], stage: &[u8]) -> Result<Pair, Refusal>
+    ensures { reached_of result ≡ Says.reached disk.now host stage.now }
 {
     let lent = host_order::areas_right(host.sector, host.disk, host.stage, disk, stage);
-    let program = host.program;
     let ordered = host_order::in_order(host);
-    let number = refusing::refusal(ordered, lent, program.active);
-    if number != 0 {
-        return unreached(number);
-    }
-    reach(host)
+    refusing::refusal(ordered, lent, host.program.active)?;
+    Ok(reach(host))
 }

@@ -4,15 +4,15 @@ ghost use Rattle.std.specs.Prelude.{◌≡◌, true, [], ◌∷◌, ◌≤◌, e
 ghost use Rattle.lists.specs.Pick.{either};
 ghost use Rattle.area.specs.Slots.{Size};
 ghost use Rattle.host.specs.Empty.{none};
-ghost use Rattle.host.specs.Listed.{listed};
 ghost use Rattle.host.specs.Order.{in_order};
 ghost use Rattle.machine_rules.specs.View.{areas_right};
 ghost use Rattle.machine_rules.specs.Sound.{right, staged_right, roots_right, sounded};
 ghost use Rattle.machine_sight.specs.Seen.{holds};
+ghost use Rattle.machine.specs.Asks.{sounded_of};
 ghost use Rattle.machine.specs.Beside.{Beside};
 
-use host::{Host, Progress, Slots};
-use machine_rules::{Sounded, Spot};
+use host::{Host, Progress, Refusal};
+use machine_rules::Spot;
 
 // Whether the root kept beside slot n of an area is that of the sector's bytes.
 fn slot_right(z: usize, bytes: &[u8], roots: &[u8], n: usize) -> bool
@@ -31,10 +31,7 @@ fn position_right(z: usize, bytes: &[u8], roots: &[u8], slot: u8) -> bool
     requires { Beside z bytes.now roots.now (slot ∷ []) }
     ensures { result ≡ either (eqb slot none) (right z bytes.now roots.now slot) }
 {
-    if slot == Progress::NONE {
-        return true;
-    }
-    slot_right(z, bytes, roots, slot as usize)
+    slot == Progress::NONE || slot_right(z, bytes, roots, slot as usize)
 }
 
 // Of all positions.
@@ -42,26 +39,9 @@ fn all_right(z: usize, bytes: &[u8], roots: &[u8], slots: &[u8]) -> bool
     requires { Beside z bytes.now roots.now slots.now }
     ensures { result ≡ staged_right z bytes.now roots.now slots.now }
 {
-    let mut i: usize = 0;
-    while i < slots.len() {
-        let slot = slots[i];
-        if !position_right(z, bytes, roots, slot) {
-            return false;
-        }
-        i += 1;
-    }
-    true
-}
-
-// Of those that an array lists.
-fn listed_right(z: usize, bytes: &[u8], roots: &[u8], all: Slots) -> bool
-    requires count_bound { all.count ≤ 512 }
-    requires beside { Beside z bytes.now roots.now (listed all) }
-    ensures { result ≡ staged_right z bytes.now roots.now (listed all) }
-{
-    let items = all.items;
-    let count = all.count;
-    all_right(z, bytes, roots, &items[..count])
+    slots
+        .iter()
+        .all(|&slot| position_right(z, bytes, roots, slot))
 }
 
 // Each committed position of each contract, and each staged position of an open program.
@@ -70,39 +50,22 @@ fn roots_right(host: Host, disk: &[u8], stage: &[u8]) -> bool
     requires stage_value { areas_right host disk.now stage.now ≡ true }
     ensures { result ≡ roots_right disk.now host stage.now }
 {
-    let z = host.sector;
-    let places = host.places;
-    let diskroots = host.diskroots;
-    let all = host::slots_taken(z, places);
-    if !listed_right(z as usize, disk, &diskroots, all) {
-        return false;
-    }
+    let z = host.sector as usize;
+    let all = host::slots_taken(host.sector, host.places);
     let program = host.program;
-    if !program.active {
-        return true;
-    }
-    let progress = program.progress;
-    let staged = progress.staged;
-    let stageroots = host.stageroots;
-    all_right(z as usize, stage, &stageroots, &staged)
+    all_right(z, disk, &host.diskroots, all.as_slice())
+        && (!program.active || all_right(z, stage, &host.stageroots, &program.progress.staged))
 }
 
-// 1, 2; else 0 and whether the host is sound. It changes nothing, and a program need not be open.
-pub fn sound(host: Host, disk: &[u8], stage: &[u8]) -> Sounded
-    ensures { result ≡ sounded disk.now host stage.now }
+// Whether the host is sound; or 1, 2. It changes nothing, and a program need not be open.
+pub fn sound(host: Host, disk: &[u8], stage: &[u8]) -> Result<bool, Refusal>
+    ensures { sounded_of result ≡ sounded disk.now host stage.now }
 {
     if !host_order::in_order(host) {
-        return Sounded {
-            number: 1,
-            sound: false,
-        };
+        return Err(Refusal::NotInOrder);
     }
     if !host_order::areas_right(host.sector, host.disk, host.stage, disk, stage) {
-        return Sounded {
-            number: 2,
-            sound: false,
-        };
+        return Err(Refusal::WrongLength);
     }
-    let sound = roots_right(host, disk, stage);
-    Sounded { number: 0, sound }
+    Ok(roots_right(host, disk, stage))
 }

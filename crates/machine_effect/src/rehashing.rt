@@ -16,24 +16,15 @@ ghost use Rattle.machine_effect.specs.Rehashes.{Near, Beside, Rehashes};
 use machine_rules::Args;
 use sia::Op;
 
-// The stage slot of a position.
-fn slot_of(staged: [u8; 64], at: usize) -> usize
-    requires { at < 64 }
-    ensures { result ≡ get_or staged at none }
-{
-    staged[at] as usize
-}
-
 // Position `at`: the root of its sector's bytes.
 fn rehash_one(z: usize, staged: [u8; 64], stage: &[u8], at: usize, stageroots: &mut [u8])
     requires size { Size z }
     requires beside { Beside z (staging staged stage.now) stageroots.old at }
     ensures { stageroots.new ≡ rehashed z (staging staged stage.now) (at ∷ []) stageroots.old }
 {
-    let slot = slot_of(staged, at);
+    let slot = staged[at] as usize;
     let from = slot * z;
-    let rooted = tree::root(&stage[from..from + z]);
-    let root = rooted.root;
+    let root = tree::root(&stage[from..from + z]).unwrap();
     area::copy_between(&root, 0, stageroots, slot * 32, 32);
 }
 
@@ -53,10 +44,9 @@ fn rehash_two(
         rehashed z (staging staged stage.now) (pick (eqb one two) (two ∷ []) (two ∷ one ∷ [])) stageroots.old }
 {
     rehash_one(z, staged, stage, one, stageroots);
-    if one == two {
-        return;
+    if one != two {
+        rehash_one(z, staged, stage, two, stageroots);
     }
-    rehash_one(z, staged, stage, two, stageroots);
 }
 
 // The position that growth adds: the root of zeros. A size that does not grow adds none.
@@ -66,12 +56,11 @@ fn rehash_new(z: usize, staged: [u8; 64], size: usize, new: usize, stageroots: &
     ensures { stageroots.new ≡ pick (ltb size new)
         (put stageroots.old (get_or staged (size / z) none * 32) (root (zeros z))) stageroots.old }
 {
-    if new <= size {
-        return;
+    if size < new {
+        let slot = staged[size / z] as usize;
+        let zeros = tree::doubling::zeros_root(z);
+        area::copy_between(&zeros, 0, stageroots, slot * 32, 32);
     }
-    let slot = slot_of(staged, size / z);
-    let zeros = tree::doubling::zeros_root(z);
-    area::copy_between(&zeros, 0, stageroots, slot * 32, 32);
 }
 
 // What an instruction leaves; `size` is the size before it.
@@ -90,13 +79,11 @@ pub fn rehash(
 {
     let first = args.first as usize;
     let second = args.second as usize;
+    // Kept: no plainer as a table of closures: these are the definition's cases, and the arms take other arguments.
     match op {
-        Op::Read => {}
-        Op::ReadSector => {}
-        Op::Write => rehash_one(z, staged, stage, first / z, stageroots),
-        Op::Copy => rehash_one(z, staged, stage, first / z, stageroots),
+        Op::Read | Op::ReadSector | Op::Unknown => {}
+        Op::Write | Op::Copy => rehash_one(z, staged, stage, first / z, stageroots),
         Op::Swap => rehash_two(z, staged, stage, first / z, second / z, stageroots),
         Op::Truncate => rehash_new(z, staged, size, first, stageroots),
-        Op::Unknown => {}
     }
 }

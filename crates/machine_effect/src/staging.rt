@@ -1,51 +1,61 @@
-// What effects look at and change. `staged[p]` is the stage slot of position p, or NONE: it is handed in and
-// handed back, while the stage's bytes are changed where they lie. `slots[p]` is the disk slot of position p; the disk is only read.
+// What effects look at and change: the ground, which is only read, and the stage. And what effects share: copies, and where a byte lies.
 // These are inner functions: what they require, their callers prove.
-ghost use Rattle.std.specs.Prelude.{◌≡◌, ◌/◌, ◌<◌, get_or, eqb};
+ghost use Rattle.std.specs.Prelude.{◌≡◌, ◌/◌, ◌<◌};
 ghost use Rattle.area.specs.Slots.{Size};
-ghost use Rattle.host.specs.Empty.{none};
 ghost use Rattle.machine_rules.specs.Effect as Says;
-ghost use Rattle.machine_effect.specs.Parts.{ground, staging, place_of};
-ghost use Rattle.machine_effect.specs.Asks.{Lent, Room};
+ghost use Rattle.machine_effect.specs.Parts.{told_ground, told_staging, place_of};
+ghost use Rattle.machine_effect.specs.Asks.{bare, Lent, Room};
 
 use host::Progress;
 
-// Whether a position has no copy.
-pub fn is_bare(staged: [u8; 64], at: usize) -> bool
-    requires { at < 64 }
-    ensures { result ≡ eqb (get_or staged at none) none }
-{
-    staged[at] == Progress::NONE
+// Kept: `Clone` and `Copy` alone: nothing compares or prints it.
+
+// The bytes of a sector, the sectors of the stage, the disk slots of the parent's positions, and the disk's bytes.
+#[derive(Clone, Copy)]
+pub struct Ground<'a> {
+    pub sector: usize,
+    pub copies: u64,
+    pub slots: [u8; 64],
+    pub disk: &'a [u8],
 }
 
-// A copy of position `at`, unless it has one: the disk's sector in the lowest free slot.
-pub fn copied(
-    z: usize,
-    copies: u64,
-    slots: [u8; 64],
-    disk: &[u8],
-    staged: [u8; 64],
-    stage: &mut [u8],
-    at: usize,
-) -> [u8; 64]
-    requires lent { Lent z (ground copies slots disk.now) (staging staged stage.old) }
-    requires room { Room z (ground copies slots disk.now) (staging staged stage.old) at }
-    ensures { staging result stage.new ≡ Says.copied z (ground copies slots disk.now) at (staging staged stage.old) }
-{
-    if !is_bare(staged, at) {
-        return staged;
+// The stage slots of the parent's positions, NONE of a position that has no copy; and the stage's bytes, changed where they lie.
+#[derive(Drop)]
+pub struct Staging<'a> {
+    pub staged: [u8; 64],
+    pub bytes: &'a mut [u8],
+}
+
+impl<'a> Staging<'a> {
+    // Whether a position has no copy.
+    pub fn is_bare(&self, at: usize) -> bool
+        requires { at < 64 }
+        ensures { result ≡ bare at (told_staging self.now) }
+    {
+        self.staged[at] == Progress::NONE
     }
-    let slot = host::free_copy(copies, staged);
-    area::copy_between(disk, slots[at] as usize * z, stage, slot as usize * z, z);
-    let mut after = staged;
-    after[at] = slot as u8;
-    after
-}
 
-fn wide(x: u8) -> usize
-    ensures { (result ≡ x) × (result < 256) }
-{
-    x as usize
+    // A copy of position `at`, unless it has one: the disk's sector in the lowest free slot.
+    pub fn copy_in(&mut self, ground: &Ground, at: usize)
+        requires lent { Lent ground.now.sector (told_ground ground.now) (told_staging self.old) }
+        requires room { Room ground.now.sector (told_ground ground.now) (told_staging self.old) at }
+        ensures copied { told_staging self.new ≡
+            Says.copied ground.now.sector (told_ground ground.now) at (told_staging self.old) }
+        ensures same_bytes { self.new.bytes.ghost_name ≡ self.old.bytes.ghost_name }
+    {
+        if self.is_bare(at) {
+            let z = ground.sector;
+            let slot = host::free_copy(ground.copies, self.staged);
+            area::copy_between(
+                ground.disk,
+                ground.slots[at] as usize * z,
+                self.bytes,
+                slot as usize * z,
+                z,
+            );
+            self.staged[at] = slot as u8;
+        }
+    }
 }
 
 // Where byte `at` lies in an area, by the slots of the positions.
@@ -54,5 +64,5 @@ pub fn place(z: usize, slots: [u8; 64], at: usize) -> usize
     requires z_bound { at / z < 64 }
     ensures { result ≡ place_of z slots at }
 {
-    wide(slots[at / z]) * z + at % z
+    slots[at / z] as usize * z + at % z
 }

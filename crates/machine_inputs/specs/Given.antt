@@ -1,5 +1,5 @@
 -- What the decoder tells of an instruction's inputs. Assumes nothing.
-use Rattle.std.specs.Prelude.{true, false, List, [], ◌∷◌, ℕ, ◌+◌, ◌-◌, length, get_or}
+use Rattle.std.specs.Prelude.{Option, Some, None, Bool, true, false, List, [], ◌∷◌, ℕ, ◌+◌, ◌-◌, length, get_or}
 use Rattle.lists.specs.Pick.{pick}
 use Rattle.area.specs.Area.{part, zeros}
 use Rattle.sia.specs.Empty.{no_operand}
@@ -10,8 +10,7 @@ use Rattle.sia.specs.declared.Instruction.{Instruction}
 use Rattle.sia.specs.declared.Op.{Op}
 use Rattle.sia.specs.declared.Op.TheVariants.{Read, ReadSector, Write, Copy, Swap, Truncate, Unknown}
 use Rattle.machine_rules.specs.declared.Args.{Args}
-use Rattle.machine_inputs.specs.declared.Given.{Given}
-use Rattle.machine_inputs.specs.declared.Key.{Key}
+use Rattle.machine_inputs.specs.declared.Given as Code
 
 -- the input that operand k names
 abbrev pub input_at : List ℕ → List Operand → ℕ → List ℕ
@@ -29,6 +28,15 @@ three area os = input_at area os 0 ∷ input_at area os 1 ∷ input_at area os 2
 
 -- ---- the decoders
 
+-- what 32 bytes are: an id or a root. Of other lengths nothing is told
+pub record Key : Type 0 where
+  pub told : Bool
+  pub bytes : List ℕ
+
+abbrev pub key_told : Option (List ℕ) → Key
+key_told (Some b) = record { told = true; bytes = b }
+key_told None = record { told = false; bytes = zeros 32 }
+
 unfoldable pub key_of : List ℕ → Key
 key_of b = pick (is_key b) (record { told = true; bytes = b }) (record { told = false; bytes = zeros 32 })
 
@@ -42,8 +50,18 @@ data_of b = pick (is_data b) (decoded 0 (length b - 8)) (decoded 23 0)
 abbrev pub no_args : Args
 no_args = record { key = zeros 32; first = 0; second = 0; len = 0 }
 
+-- the arguments, and where Write's data begin in the input area, 0 for all others; or nothing told, which is 23
+pub record Given : Type 0 where
+  pub told : Bool
+  pub args : Args
+  pub from : ℕ
+
 unfoldable pub malformed : Given
 malformed = record { told = false; args = no_args; from = 0 }
+
+abbrev pub given_told : Option Code.Given → Given
+given_told (Some g) = record { told = true; args = g.args; from = g.from }
+given_told None = malformed
 
 -- the arguments, or 23
 unfoldable pub given : Op → List (List ℕ) → ℕ → Given

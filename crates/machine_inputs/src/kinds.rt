@@ -22,8 +22,7 @@ pub fn kind(op: Op) -> Kind
     ensures { result ≡ Says.kind op }
 {
     match op {
-        Op::Read => row(true, 3, 10, true, false),
-        Op::ReadSector => row(true, 3, 10, true, false),
+        Op::Read | Op::ReadSector => row(true, 3, 10, true, false),
         Op::Write => row(true, 2, 20, false, true),
         Op::Copy => row(true, 3, 20, false, true),
         Op::Swap => row(true, 3, 30, false, true),
@@ -36,6 +35,5 @@ pub fn kind(op: Op) -> Kind
 pub fn reads(op: Op) -> bool
     ensures { result ≡ Says.reads op }
 {
-    let kind = kind(op);
-    kind.reads
+    kind(op).reads
 }

@@ -3,7 +3,7 @@
 #![tactic(auto)]
 
 ghost use Rattle.std.specs.Prelude.{◌≡◌};
-ghost use Rattle.machine_inputs.specs.Given.{no_args, malformed};
+ghost use Rattle.machine_inputs.specs.Given.{no_args};
 
 mod decoding; // decoding.rt: what the inputs say, and check 23
 mod kinds; // kinds.rt: what kinds of instructions differ in
@@ -20,40 +20,17 @@ pub use sums::above;
 pub fn no_args() -> Args
     ensures { result ≡ no_args }
 {
-    let key = [0u8; 32];
     Args {
-        key,
+        key: [0u8; 32],
         first: 0,
         second: 0,
         len: 0,
     }
 }
 
-// The decoder's answer: the arguments, and where Write's data begin in the input area, 0 for all others; or nothing told, which is 23.
-#[derive(Clone, Copy)]
+// What the decoder tells: the arguments, and where Write's data begin in the input area, 0 for all others.
+#[derive(Clone, Copy, Debug, PartialEq, Eq)]
 pub struct Given {
-    pub told: bool,
     pub args: Args,
     pub from: u64,
-}
-
-impl Given {
-    // 23, with no arguments.
-    pub fn malformed() -> Given
-        ensures { result ≡ malformed }
-    {
-        let args = no_args();
-        Given {
-            told: false,
-            args,
-            from: 0,
-        }
-    }
-}
-
-// What 32 bytes are: an id or a root. Of other lengths nothing is told.
-#[derive(Clone, Copy)]
-pub struct Key {
-    pub told: bool,
-    pub bytes: [u8; 32],
 }

@@ -1,5 +1,5 @@
 // Checks 21 and 22, and the need of an instruction.
-ghost use Rattle.std.specs.Prelude.{◌≡◌, false, ◌+◌, ◌≤◌, ◌<◌, ◌^◌, max, min, take};
+ghost use Rattle.std.specs.Prelude.{◌≡◌, false, ◌+◌, ◌≤◌, ◌<◌, ◌^◌, min, take};
 ghost use Rattle.lists.specs.Tests.{some};
 ghost use Rattle.machine_rules.specs.Inputs.{ill_formed, past_end, largest};
 ghost use Rattle.machine_rules.specs.Inputs as Says;
@@ -13,13 +13,8 @@ use sia::{Instruction, Operand};
 pub fn ill_formed(i: Instruction) -> bool
     ensures { result ≡ ill_formed i }
 {
-    let name = i.name;
-    let op = sia::op_of(name);
-    let kind = kind(op);
-    if !kind.known {
-        return true;
-    }
-    i.count != kind.operands
+    let kind = kind(sia::op_of(i.name));
+    !kind.known || i.count != kind.operands
 }
 
 // Whether an operand ends past the declared length.
@@ -33,35 +28,24 @@ fn ends_past(declared: u64, o: Operand) -> bool
 fn listed(count: u64) -> usize
     ensures { (result ≡ min count 4) × (result ≤ 4) }
 {
-    if count < Instruction::OPERANDS {
-        return count as usize;
-    }
-    4
+    count.min(Instruction::OPERANDS) as usize
 }
+
+// Kept: operands and how many of them count, here and below, as an instruction has them: no heap.
 
 // Whether one of the first n operands ends past the declared length.
 fn some_past(declared: u64, list: [Operand; 4], n: usize) -> bool
     requires { n ≤ 4 }
     ensures { result ≡ some (ends_past declared) (take n list) }
 {
-    let mut i: usize = 0;
-    while i < n {
-        let o = list[i];
-        if ends_past(declared, o) {
-            return true;
-        }
-        i += 1;
-    }
-    false
+    list[..n].iter().any(|o| ends_past(declared, *o))
 }
 
 // 22: whether an operand ends past the declared length.
 pub fn past_end(declared: u64, i: Instruction) -> bool
     ensures { result ≡ past_end declared i }
 {
-    let list = i.operands;
-    let n = listed(i.count);
-    some_past(declared, list, n)
+    some_past(declared, i.operands, listed(i.count))
 }
 
 // Where an operand of nonzero length ends.
@@ -69,19 +53,7 @@ fn end_of(o: Operand) -> u64
     requires { o.offset + o.len < 2 ^ 64 }
     ensures { result ≡ end_of o }
 {
-    if o.len == 0 {
-        return 0;
-    }
-    o.offset + o.len
-}
-
-fn greater(a: u64, b: u64) -> u64
-    ensures { result ≡ max a b }
-{
-    if a < b {
-        return b;
-    }
-    a
+    if o.len == 0 { 0 } else { o.offset + o.len }
 }
 
 // The largest end among the first n operands.
@@ -91,12 +63,8 @@ fn largest_end(declared: u64, list: [Operand; 4], n: usize) -> u64
     ensures { result ≡ largest (take n list) }
 {
     let mut most: u64 = 0;
-    let mut i: usize = 0;
-    while i < n {
-        let o = list[i];
-        let end = end_of(o);
-        most = greater(most, end);
-        i += 1;
+    for i in 0..n {
+        most = most.max(end_of(list[i]));
     }
     most
 }
@@ -111,7 +79,5 @@ pub fn need(declared: u64, i: Instruction) -> u64
     if past_end(declared, i) {
         return 0;
     }
-    let list = i.operands;
-    let n = listed(i.count);
-    largest_end(declared, list, n)
+    largest_end(declared, i.operands, listed(i.count))
 }

@@ -5,8 +5,5 @@ ghost use Rattle.std.specs.Prelude.{◌≡◌, ◌+◌, ltb};
 pub fn above(limit: u64, one: u64, two: u64) -> bool
     ensures { result ≡ ltb limit (one + two) }
 {
-    if limit < one {
-        return true;
-    }
-    limit - one < two
+    limit < one || limit - one < two
 }

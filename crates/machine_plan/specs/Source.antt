@@ -1,12 +1,11 @@
--- What is read, as the code says it: whether it is there, and its sectors; and what its look-up asks. Assumes nothing.
-use Rattle.std.specs.Prelude.{◌≡◌, List, ℕ, ◌*◌, ◌≤◌, length}
+-- What is read, as the code says it; and what its look-up asks. Assumes nothing.
+use Rattle.std.specs.Prelude.{List, ℕ, ◌*◌, ◌≤◌, length, Option, Some, None}
 use Rattle.machine_rules.specs.declared.Setting.{Setting}
-use Rattle.machine_rules.specs.Plan.{is_there, spots}
-use Rattle.machine_rules.specs.Plan as Says
+use Rattle.machine_rules.specs.Plan.{Source, missing, seen}
 use Rattle.machine_sight.specs.Seen.{spots_of}
 use Rattle.machine_sight.specs.Lookup.{Seeks}
+use Rattle.machine_sight.specs.declared.Seen.{Seen}
 use Rattle.host.specs.declared.Progress.{Progress}
-use Rattle.machine_plan.specs.declared.Source.{Source}
 
 -- of a program in order: a root kept beside each slot in use, of which a host has at most 64 on the disk and 16 in the stage
 pub record Sources (s : Setting) (diskroots stageroots : List ℕ) (p : Progress) : Type 0 where
@@ -14,7 +13,7 @@ pub record Sources (s : Setting) (diskroots stageroots : List ℕ) (p : Progress
   pub disk : length diskroots ≤ 64 * 32
   pub stage : length stageroots ≤ 16 * 32
 
--- the definitions' source; it has no sectors where it is missing
-pub record Shows (r : Source) (from : Says.Source) : Type 0 where
-  pub there : r.there ≡ is_there from
-  pub sectors : spots_of r.seen ≡ spots from
+-- the sectors that are seen, or none: it is missing
+abbrev pub sighted : Option Seen → Source
+sighted (Some v) = seen (spots_of v)
+sighted None = missing

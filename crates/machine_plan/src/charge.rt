@@ -12,8 +12,7 @@ use sia::Op;
 fn time(op: Op) -> u64
     ensures { (result ≡ Kinds.time op) × (result ≤ 30) }
 {
-    let kind = kind(op);
-    kind.time
+    kind(op).time
 }
 
 // A base price and a price for each of n bytes.
@@ -21,9 +20,10 @@ fn price(base: u16, each: u16, n: u64) -> u64
     requires { n ≤ 4194304 }
     ensures { (result ≡ base + each * n) × (result < 2 ^ 39) }
 {
-    base as u64 + each as u64 * n
+    u64::from(base) + u64::from(each) * n
 }
 
+// Kept: two functions, here and below, as the definitions `read_price` and `write_price` are two: which prices they take is all that they say.
 fn read_price(prices: Prices, n: u64) -> u64
     requires { n ≤ 4194304 }
     ensures { (result ≡ read_price prices n) × (result < 2 ^ 39) }
@@ -43,13 +43,13 @@ fn own(prices: Prices, op: Op, n: u64) -> u64
     requires { Small op n }
     ensures { (result ≡ Says.own prices op n) × (result < 2 ^ 41) }
 {
+    // Kept: no plainer as a table of closures: these are the definition's cases, and the arms take other arguments.
     match op {
-        Op::Read => read_price(prices, n),
-        Op::ReadSector => read_price(prices, n),
+        Op::Read | Op::ReadSector => read_price(prices, n),
         Op::Write => write_price(prices, n),
         Op::Copy => read_price(prices, n) + write_price(prices, n),
         Op::Swap => 2 * (read_price(prices, n) + write_price(prices, n)),
-        Op::Truncate => prices.truncatebase as u64,
+        Op::Truncate => u64::from(prices.truncatebase),
         Op::Unknown => 0,
     }
 }
@@ -60,8 +60,5 @@ pub fn cost(declared: u64, prices: Prices, op: Op, n: u64) -> u64
     requires small { Small op n }
     ensures { result ≡ Says.cost declared prices op n }
 {
-    let memory = prices.memory as u64;
-    let time = time(op);
-    let own = own(prices, op, n);
-    (Prices::MEMORY + declared) * time * memory + own
+    (Prices::MEMORY + declared) * time(op) * u64::from(prices.memory) + own(prices, op, n)
 }

@@ -1,9 +1,10 @@
 // Checks 26 to 42, in order, of an instruction whose inputs are told and whose sectors are found.
 ghost use Rattle.std.specs.Prelude.{◌≡◌, true, ◌+◌, ◌*◌, ◌≤◌, leb};
-ghost use Rattle.lists.specs.Pick.{both};
 ghost use Rattle.machine_rules.specs.Facts.{Lent};
 ghost use Rattle.host.specs.Places.{others};
 ghost use Rattle.machine_rules.specs.Plan.{bad_proof, new_size};
+ghost use Rattle.lists.specs.Pick.{both};
+ghost use Rattle.machine_rules.specs.Failure.{plan_given};
 ghost use Rattle.machine_sight.specs.Seen.{Ranged};
 ghost use Rattle.machine_rules.specs.Plan as Says;
 
@@ -13,33 +14,18 @@ use crate::spans::{bad_proof, bad_spans};
 use crate::sums::record_above;
 use host::Progress;
 use machine_inputs::above;
-use machine_rules::{Args, Plan, Setting};
+use machine_rules::{Args, Failure, Plan, Setting};
 use sia::Op;
-
-// A failure, by its number.
-pub fn refused(number: u64) -> Plan
-    ensures { result ≡ Says.refused number }
-{
-    Plan {
-        number,
-        cost: 0,
-        size: 0,
-        hashes: 0,
-        count: 0,
-    }
-}
 
 // 27: whether a proof is asked that cannot be made.
 fn asked_badly(asked: bool, op: Op, args: Args) -> bool
     ensures { result ≡ both asked (bad_proof op args) }
 {
-    if !asked {
-        return false;
-    }
-    bad_proof(op, args)
+    asked && bad_proof(op, args)
 }
 
-// 40 to 42 of an instruction that costs so much; `fits` says whether its new size fits the disk beside the other contracts. Where it can run, its cost, the new size, its hashes and the record's length.
+// 40 to 42 of an instruction that costs so much; `fits` says whether its new size fits the disk beside the other contracts. Where it can run, its
+// cost, the new size, its hashes and the record's length.
 fn fitted(
     setting: Setting,
     p: Progress,
@@ -49,63 +35,64 @@ fn fitted(
     seen: u64,
     cost: u64,
     fits: bool,
-) -> Plan
+) -> Result<Plan, Failure>
     requires lent { Lent setting }
     requires seen_bound { seen ≤ 64 }
     requires room_bound { setting.terms.room ≤ 65536 }
     requires ranged { asked ≡ true → Ranged setting.sector seen args.first args.len }
     requires fits_value { fits ≡ leb (new_size p.size op args + others setting.terms.head.contract setting.places) (setting.disksectors * setting.sector) }
-    ensures { result ≡ Says.fitted setting p asked seen op args cost }
+    ensures { plan_given result ≡ Says.fitted setting p asked seen op args cost }
 {
     let z = setting.sector;
     if too_few(z, setting.stagesectors, p, op, args) {
-        return refused(40);
+        return Err(Failure::NoStageSlot);
     }
     if !fits {
-        return refused(41);
+        return Err(Failure::NoDisk);
     }
-    let terms = setting.terms;
     let size = new_size(p.size, op, args);
     let hashes = proof_count(z, asked, seen, args);
     let output = output_count(op, args);
-    if record_above(terms.room, p.written, hashes, output) {
-        return refused(42);
+    if record_above(setting.terms.room, p.written, hashes, output) {
+        return Err(Failure::NoOutput);
     }
     let count = 72 + 32 * hashes + output;
-    Plan {
-        number: 0,
+    Ok(Plan {
         cost,
         size,
         hashes,
         count,
-    }
+    })
 }
 
 // 26 to 42. `seen` is the number of the sectors that are read.
-pub fn weighed(setting: Setting, p: Progress, asked: bool, op: Op, args: Args, seen: u64) -> Plan
+pub fn weighed(
+    setting: Setting,
+    p: Progress,
+    asked: bool,
+    op: Op,
+    args: Args,
+    seen: u64,
+) -> Result<Plan, Failure>
     requires lent { Lent setting }
     requires seen_bound { seen ≤ 64 }
     requires length_bound { setting.terms.head.length ≤ 65536 }
     requires room_bound { setting.terms.room ≤ 65536 }
-    ensures { result ≡ Says.weighed setting p asked seen op args }
+    ensures { plan_given result ≡ Says.weighed setting p asked seen op args }
 {
     if bad_spans(setting.sector, p.size, seen, op, args) {
-        return refused(26);
+        return Err(Failure::BadSpan);
     }
     if asked_badly(asked, op, args) {
-        return refused(27);
+        return Err(Failure::BadProof);
     }
     let terms = setting.terms;
-    let head = terms.head;
-    let prices = terms.prices;
-    let cost = cost(head.length, prices, op, args.len);
+    let cost = cost(terms.head.length, terms.prices, op, args.len);
     if above(terms.budget, p.tally, cost) {
-        return refused(28);
+        return Err(Failure::OverBudget);
     }
-    let id = head.contract;
     let size = new_size(p.size, op, args);
-    let places = setting.places;
-    let sectors = setting.disksectors;
-    let fits = host::sizes_fit(places, id, size, sectors * setting.sector);
+    let limit = setting.disksectors * setting.sector;
+    let fits = host::sizes_fit(setting.places, terms.head.contract, size, limit);
     fitted(setting, p, asked, op, args, seen, cost, fits)
 }

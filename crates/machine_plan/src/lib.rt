@@ -17,15 +17,9 @@ use machine_rules::{Args, Plan};
 use machine_sight::Seen;
 use sia::Op;
 
-// What is read: whether it is there, and its sectors.
-#[derive(Clone, Copy)]
-pub struct Source {
-    pub there: bool,
-    pub seen: Seen,
-}
+// Kept: `Clone` and `Copy` alone: nothing compares or prints it.
 
-// An instruction's plan and, where it can run, what it starts from: its arguments, where Write's data begin in the input area, and what it reads. A failure
-// has nothing of these.
+// The plan of an instruction that can run and what it starts from: its arguments, where Write's data begin in the input area, and what it reads.
 #[derive(Clone, Copy)]
 pub struct Task {
     pub plan: Plan,

@@ -14,25 +14,15 @@ use machine_inputs::kind;
 use machine_rules::Args;
 use sia::Op;
 
-// One for a stage slot that no position has.
-fn free_at(staged: [u8; 64], x: u64) -> u64
-    ensures { (result ≡ pick (unused staged x) 1 0) × (result ≤ 1) }
-{
-    if host::staged_in(staged, x) {
-        return 0;
-    }
-    1
-}
-
 // How many stage slots no position has.
 fn free_copies(copies: u64, staged: [u8; 64]) -> u64
     ensures { result ≡ count (unused staged) 0 copies }
 {
     let mut free: u64 = 0;
-    let mut i: u64 = 0;
-    while i < copies {
-        free += free_at(staged, i);
-        i += 1;
+    for i in 0..copies {
+        if !host::staged_in(staged, i) {
+            free += 1;
+        }
     }
     free
 }
@@ -41,13 +31,11 @@ fn free_copies(copies: u64, staged: [u8; 64]) -> u64
 fn lacks(staged: [u8; 64], at: u64) -> u64
     ensures { (result ≡ pick (eqb (get_or staged at none) none) 1 0) × (result ≤ 1) }
 {
-    if 64 <= at {
-        return 1;
+    if 64 <= at || staged[at as usize] == Progress::NONE {
+        1
+    } else {
+        0
     }
-    if staged[at as usize] == Progress::NONE {
-        return 1;
-    }
-    0
 }
 
 // Of Swap: offset 2's position first.
@@ -55,13 +43,13 @@ fn wanted_swap(z: u64, p: Progress, args: Args) -> u64
     requires { Size z }
     ensures { result ≡ Says.wanted z p Swap args }
 {
-    let staged = p.staged;
     let one = args.first / z;
     let two = args.second / z;
     if one == two {
-        return lacks(staged, two);
+        lacks(p.staged, two)
+    } else {
+        lacks(p.staged, two) + lacks(p.staged, one)
     }
-    lacks(staged, two) + lacks(staged, one)
 }
 
 // Of Truncate: the position that growth adds.
@@ -69,11 +57,11 @@ fn wanted_size(z: u64, p: Progress, args: Args) -> u64
     requires { Size z }
     ensures { result ≡ Says.wanted z p Truncate args }
 {
-    let staged = p.staged;
     if p.size < args.first {
-        return lacks(staged, p.size / z);
+        lacks(p.staged, p.size / z)
+    } else {
+        0
     }
-    0
 }
 
 // 40: how many stage slots an instruction needs.
@@ -81,15 +69,12 @@ fn wanted(z: u64, p: Progress, op: Op, args: Args) -> u64
     requires { Size z }
     ensures { result ≡ Says.wanted z p op args }
 {
-    let staged = p.staged;
+    // Kept: no plainer as a table of closures: these are the definition's cases, and the arms take other arguments.
     match op {
-        Op::Read => 0,
-        Op::ReadSector => 0,
-        Op::Write => lacks(staged, args.first / z),
-        Op::Copy => lacks(staged, args.first / z),
+        Op::Read | Op::ReadSector | Op::Unknown => 0,
+        Op::Write | Op::Copy => lacks(p.staged, args.first / z),
         Op::Swap => wanted_swap(z, p, args),
         Op::Truncate => wanted_size(z, p, args),
-        Op::Unknown => 0,
     }
 }
 
@@ -99,11 +84,7 @@ pub fn too_few(z: u64, copies: u64, p: Progress, op: Op, args: Args) -> bool
     ensures { result ≡ ltb (count (unused p.staged) 0 copies) (Says.wanted z p op args) }
 {
     let want = wanted(z, p, op, args);
-    if want == 0 {
-        return false;
-    }
-    let staged = p.staged;
-    free_copies(copies, staged) < want
+    want != 0 && free_copies(copies, p.staged) < want
 }
 
 // 41: the parent's size after the instruction.
@@ -111,13 +92,8 @@ pub fn new_size(size: u64, op: Op, args: Args) -> u64
     ensures { result ≡ new_size size op args }
 {
     match op {
-        Op::Read => size,
-        Op::ReadSector => size,
-        Op::Write => size,
-        Op::Copy => size,
-        Op::Swap => size,
         Op::Truncate => args.first,
-        Op::Unknown => size,
+        Op::Read | Op::ReadSector | Op::Write | Op::Copy | Op::Swap | Op::Unknown => size,
     }
 }
 
@@ -143,9 +119,5 @@ pub fn proof_count(z: u64, asked: bool, seen: u64, args: Args) -> u64
 pub fn output_count(op: Op, args: Args) -> u64
     ensures { result ≡ output_count op args }
 {
-    let kind = kind(op);
-    if kind.reads {
-        return args.len;
-    }
-    0
+    if kind(op).reads { args.len } else { 0 }
 }

@@ -14,13 +14,7 @@ pub fn bad_span(z: u64, end: u64, at: u64, n: u64) -> bool
     requires { Size z }
     ensures { result ≡ bad_span z end at n }
 {
-    if n == 0 {
-        return true;
-    }
-    if above(end, at, n) {
-        return true;
-    }
-    z < at % z + n
+    n == 0 || above(end, at, n) || z < at % z + n
 }
 
 // Whether one of two spans of a length is bad.
@@ -28,10 +22,7 @@ fn bad_pair(z: u64, end: u64, one: u64, two: u64, n: u64) -> bool
     requires { Size z }
     ensures { result ≡ either (bad_span z end one n) (bad_span z end two n) }
 {
-    if bad_span(z, end, one, n) {
-        return true;
-    }
-    bad_span(z, end, two, n)
+    bad_span(z, end, one, n) || bad_span(z, end, two, n)
 }
 
 // Whether a new size is not whole sectors, or more than one sector away.
@@ -39,13 +30,7 @@ pub fn bad_size(z: u64, size: u64, new: u64) -> bool
     requires { Size z }
     ensures { result ≡ bad_size z size new }
 {
-    if new % z != 0 {
-        return true;
-    }
-    if far_above(z, size, new) {
-        return true;
-    }
-    far_above(z, new, size)
+    new % z != 0 || far_above(z, size, new) || far_above(z, new, size)
 }
 
 // 26: of a read the span in the sectors that are seen; Write's, and both of Copy and Swap, in the parent; Truncate's new size.
@@ -54,12 +39,11 @@ pub fn bad_spans(z: u64, size: u64, seen: u64, op: Op, args: Args) -> bool
     requires seen_bound { seen ≤ 64 }
     ensures { result ≡ bad_spans z size seen op args }
 {
+    // Kept: no plainer as a table of closures: these are the definition's cases, and the arms take other arguments.
     match op {
-        Op::Read => bad_span(z, seen * z, args.first, args.len),
-        Op::ReadSector => bad_span(z, seen * z, args.first, args.len),
+        Op::Read | Op::ReadSector => bad_span(z, seen * z, args.first, args.len),
         Op::Write => bad_span(z, size, args.first, args.len),
-        Op::Copy => bad_pair(z, size, args.first, args.second, args.len),
-        Op::Swap => bad_pair(z, size, args.first, args.second, args.len),
+        Op::Copy | Op::Swap => bad_pair(z, size, args.first, args.second, args.len),
         Op::Truncate => bad_size(z, size, args.first),
         Op::Unknown => false,
     }
@@ -69,12 +53,5 @@ pub fn bad_spans(z: u64, size: u64, seen: u64, op: Op, args: Args) -> bool
 pub fn bad_proof(op: Op, args: Args) -> bool
     ensures { result ≡ bad_proof op args }
 {
-    let kind = kind(op);
-    if !kind.reads {
-        return true;
-    }
-    if args.first % 64 != 0 {
-        return true;
-    }
-    args.len % 64 != 0
+    !kind(op).reads || args.first % 64 != 0 || args.len % 64 != 0
 }

@@ -27,7 +27,7 @@ use Rattle.machine_rules.proofs.Laws.Taking.{order-good}
 use Rattle.machine_rules.proofs.Laws.Filling.{filling-length}
 use Rattle.host.specs.declared.Place.{Place}
 use Rattle.host.specs.declared.Host.{Host}
-use Rattle.host.specs.declared.Made.{Made}
+use Rattle.host.specs.Calls.{Made}
 use Rattle.machine_rules.proofs.Laws.Declared.{same-opens, declared-gives}
 
 -- ---- making, forming and dropping

@@ -13,9 +13,9 @@ use Rattle.machine_rules.specs.Commit.{Closed, given_up, commit}
 use Rattle.machine_rules.specs.Visit.{Areas, Opening, Agreement, opens, stops, closes}
 use Rattle.machine_rules.specs.KeptRoots.{Beside, Leaves}
 use Rattle.machine_rules.proofs.Nothing.{nothing, close-ways}
-use Rattle.host.specs.declared.Made.{Made}
+use Rattle.host.specs.Calls.{Made}
 use Rattle.host.specs.declared.Host.{Host}
-use Rattle.machine_rules.specs.declared.Answer.{Answer}
+use Rattle.machine_rules.specs.Calls.{Answer}
 
 module _ (h : Host) (a : Areas) where
   same : Beside h h

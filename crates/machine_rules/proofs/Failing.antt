@@ -27,7 +27,7 @@ use Rattle.sia.specs.declared.Instruction.{Instruction}
 use Rattle.host.specs.declared.Progress.{Progress}
 use Rattle.machine_rules.specs.declared.Spot.{Spot}
 use Rattle.machine_rules.specs.Roots.{root_at}
-use Rattle.machine_rules.specs.declared.Plan.{Plan}
+use Rattle.machine_rules.specs.Plan.{Plan}
 
 fails : (s : Setting) (vol : Volume) (n : ℕ) (t : Turn) → Failed s vol n t (failing s vol n t)
 unfolding failing failed_progress with_written with_failed

@@ -23,7 +23,7 @@ use Rattle.machine_rules.proofs.Laws.KeptSlots.{none_of}
 use Rattle.host.proofs.Laws.Whose.{none_bare, none-order, new-bare}
 use Rattle.host.specs.declared.Place.{Place}
 use Rattle.host.specs.declared.Host.{Host}
-use Rattle.host.specs.declared.Made.{Made}
+use Rattle.host.specs.Calls.{Made}
 
 -- ---- one place among others
 

@@ -12,7 +12,7 @@ use Rattle.host.specs.Places.{committed, taken}
 use Rattle.host.specs.Order.{lent, place_in_order, twins, places_in_order, in_order}
 use Rattle.host.specs.Calls.{length_right, freshed}
 use Rattle.host.proofs.Theorems.{no-slots-refused}
-use Rattle.host.specs.declared.Made.{Made}
+use Rattle.host.specs.Calls.{Made}
 use Rattle.machine_rules.proofs.Forming.{Fine}
 
 -- ---- making

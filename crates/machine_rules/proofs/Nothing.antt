@@ -22,7 +22,7 @@ use Rattle.machine_rules.proofs.Laws.Pairs.{same-pairs, pairs-differ}
 use Rattle.machine_rules.proofs.Laws.Refusals.{past, goes, numbered, low}
 use Rattle.host.specs.declared.Program.{Program}
 use Rattle.host.specs.declared.Host.{Host}
-use Rattle.machine_rules.specs.declared.Answer.{Answer}
+use Rattle.machine_rules.specs.Calls.{Answer}
 
 shut_by : (h : Host) → h.program ≡ no_program → Shut h
 unfolding no_program stage_taken pick

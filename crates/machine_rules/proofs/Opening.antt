@@ -16,7 +16,7 @@ use Rattle.machine_rules.proofs.Ordering.{opening}
 use Rattle.sia.specs.declared.Head.{Head}
 use Rattle.host.specs.declared.Prices.{Prices}
 use Rattle.host.specs.declared.Host.{Host}
-use Rattle.machine_rules.specs.declared.Answer.{Answer}
+use Rattle.machine_rules.specs.Calls.{Answer}
 
 fault-passes : (fault : ℕ) (h : Host) (r : Answer) → (pick (not (eqb fault 0)) (answered fault 0 h) r).number ≡ 0
     → (r.number ≡ 0) × (pick (not (eqb fault 0)) (answered fault 0 h) r ≡ r)

@@ -39,9 +39,9 @@ use Rattle.machine_rules.proofs.Laws.Refusals.{past, broken, broken-stops}
 use Rattle.host.specs.declared.Prices.{Prices}
 use Rattle.host.specs.declared.Program.{Program}
 use Rattle.host.specs.declared.Host.{Host}
-use Rattle.host.specs.declared.Made.{Made}
-use Rattle.machine_rules.specs.declared.Answer.{Answer}
-use Rattle.machine_rules.specs.declared.Reached.{Reached}
+use Rattle.host.specs.Calls.{Made}
+use Rattle.machine_rules.specs.Calls.{Answer}
+use Rattle.machine_rules.specs.Calls.{Reached}
 
 -- ---- opening
 

@@ -21,7 +21,7 @@ use Rattle.machine_rules.proofs.Nothing.{nothing, close-ways}
 use Rattle.machine_rules.proofs.Renaming.Alike.{alike}
 use Rattle.host.specs.declared.Place.{Place}
 use Rattle.host.specs.declared.Host.{Host}
-use Rattle.host.specs.declared.Made.{Made}
+use Rattle.host.specs.Calls.{Made}
 
 -- ---- no call forms one
 

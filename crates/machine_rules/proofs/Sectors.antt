@@ -19,8 +19,8 @@ use Rattle.machine_rules.specs.Sectors.{Fixed, FullSectors}
 use Rattle.machine_rules.proofs.Nothing.{close-ways}
 use Rattle.machine_rules.proofs.Ordering.{damaged}
 use Rattle.host.specs.declared.Host.{Host}
-use Rattle.host.specs.declared.Made.{Made}
-use Rattle.machine_rules.specs.declared.Answer.{Answer}
+use Rattle.host.specs.Calls.{Made}
+use Rattle.machine_rules.specs.Calls.{Answer}
 
 -- ---- making
 

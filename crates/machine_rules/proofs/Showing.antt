@@ -24,7 +24,7 @@ use Rattle.sia.specs.declared.Instruction.{Instruction}
 use Rattle.machine_rules.proofs.Laws.Refusals.{numbered}
 use Rattle.host.specs.declared.Host.{Host}
 use Rattle.machine_rules.specs.declared.Pair.{Pair}
-use Rattle.machine_rules.specs.declared.Reached.{Reached}
+use Rattle.machine_rules.specs.Calls.{Reached}
 
 abbrev shown : Pair → List ℕ
 shown pair = le8 pair.size ++ pair.root

@@ -27,7 +27,7 @@ use Rattle.host.specs.declared.Progress.{Progress}
 use Rattle.host.specs.declared.Host.{Host}
 use Rattle.machine_rules.specs.declared.Spot.{Spot}
 use Rattle.machine_rules.specs.declared.Spot.TheVariants.{OnDisk, InStage}
-use Rattle.machine_rules.specs.declared.Plan.{Plan}
+use Rattle.machine_rules.specs.Plan.{Plan}
 use Rattle.machine_rules.proofs.Laws.Looks.{same-finds, looks}
 
 -- ---- what ReadSector reads

@@ -18,9 +18,13 @@ use Rattle.sia.specs.declared.Head.{Head}
 use Rattle.host.specs.declared.Prices.{Prices}
 use Rattle.host.specs.declared.Program.{Program}
 use Rattle.host.specs.declared.Host.{Host}
-use Rattle.machine_rules.specs.declared.Answer.{Answer}
 use Rattle.machine_rules.specs.declared.Pair.{Pair}
-use Rattle.machine_rules.specs.declared.Reached.{Reached}
+
+-- what opening, a piece and an interrupt answer: document 01's number, 0 done, the tally, and the host
+pub record Answer : Type 0 where
+  pub number : ℕ
+  pub tally : ℕ
+  pub host : Host
 
 abbrev pub answered : ℕ → ℕ → Host → Answer
 answered n tally h = record { number = n; tally = tally; host = h }
@@ -161,6 +165,12 @@ reached_pair_by way disk h stage =
 
 abbrev pub reached_pair : List ℕ → Host → List ℕ → Pair
 reached_pair disk h stage = reached_pair_by kept disk h stage
+
+-- the number, and the pair
+pub record Reached : Type 0 where
+  pub number : ℕ
+  pub size : ℕ
+  pub root : List ℕ
 
 abbrev pub reached_at : ℕ → Pair → Reached
 reached_at n pair = record { number = n; size = pair.size; root = pair.root }

@@ -22,7 +22,7 @@ use Rattle.sia.specs.declared.Instruction.{Instruction}
 use Rattle.host.specs.declared.Host.{Host}
 use Rattle.machine_rules.specs.declared.Spot.{Spot}
 use Rattle.machine_rules.specs.declared.Seat.{Seat}
-use Rattle.machine_rules.specs.declared.Sought.TheVariants.{At}
+use Rattle.std.specs.Prelude.{Some}
 
 -- after pieces that are the front of the data: h is the host that the opening left, w what the pieces leave, k how many bytes have come
 pub record Ran (h : Host) (o : Opening) (a : Areas) (all : List ℕ) (k : ℕ) (w : Pieced) : Type 0 where
@@ -81,4 +81,4 @@ pub record Demand2 : Type 0 where
   pub ids : (one two : List ℕ) → same one two ≡ true → one ≡ two
   pub equals : (one two : List ℕ) → length one ≡ 32 → length two ≡ 32 → ((i : ℕ) → i < 32 → get_or one i 0 ≡ get_or two i 0)
       → same one two ≡ true
-  pub roots : (f : Spot → List ℕ) (key : List ℕ) (l : List Seat) (x : Seat) → first_seat f key l ≡ At x → f x.spot ≡ key
+  pub roots : (f : Spot → List ℕ) (key : List ℕ) (l : List Seat) (x : Seat) → first_seat f key l ≡ Some x → f x.spot ≡ key

@@ -8,11 +8,11 @@ use Rattle.machine_rules.specs.Seats.{located_by}
 use Rattle.machine_rules.specs.Calls.{Pieced, Interrupted}
 use Rattle.machine_rules.specs.Commit.{Closed}
 use Rattle.machine_rules.specs.Visit.{Areas, Opening, Agreement, opens, gives_by, stops_by, reaches_by, closes_by}
-use Rattle.host.specs.declared.Made.{Made}
+use Rattle.host.specs.Calls.{Made}
 use Rattle.host.specs.declared.Host.{Host}
-use Rattle.machine_rules.specs.declared.Answer.{Answer}
-use Rattle.machine_rules.specs.declared.Reached.{Reached}
-use Rattle.machine_rules.specs.declared.Located.{Located}
+use Rattle.machine_rules.specs.Calls.{Answer}
+use Rattle.machine_rules.specs.Calls.{Reached}
+use Rattle.machine_rules.specs.Seats.{Located}
 
 pub record Depot : Type 0 where
   pub host : Host

@@ -5,6 +5,7 @@ pub mod Roots
 pub mod Seats
 pub mod Inputs
 pub mod Plan
+pub mod Failure
 pub mod Effect
 pub mod Record
 pub mod Class

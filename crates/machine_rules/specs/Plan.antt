@@ -19,10 +19,19 @@ use Rattle.sia.specs.declared.Op.{Op}
 use Rattle.sia.specs.declared.Op.TheVariants.{Read, ReadSector, Write, Copy, Swap, Truncate, Unknown}
 use Rattle.host.specs.declared.Prices.{Prices}
 use Rattle.host.specs.declared.Progress.{Progress}
-use Rattle.machine_rules.specs.declared.Plan.{Plan}
 use Rattle.machine_rules.specs.declared.Spot.{Spot}
-use Rattle.machine_rules.specs.declared.Sought.{Sought}
-use Rattle.machine_rules.specs.declared.Sought.TheVariants.{At, Nowhere}
+use Rattle.std.specs.Prelude.{Option, Some, None}
+use Rattle.machine_rules.specs.declared.Seat.{Seat}
+
+-- ---- the plan of an instruction
+
+-- the number of its failure and nothing else, or 0 with its cost, the parent's new size, the hashes of its proof and the length of its record
+pub record Plan : Type 0 where
+  pub number : ℕ
+  pub cost : ℕ
+  pub size : ℕ
+  pub hashes : ℕ
+  pub count : ℕ
 
 -- ---- 25: what is read
 
@@ -48,9 +57,9 @@ contract_source s p id =
     pick (not other.held) missing (pick (same id s.terms.head.contract) own committed)
 
 -- ReadSector: the sector that has that root
-unfoldable pub sought_source : Sought → Source
-sought_source (At x) = seen (x.spot ∷ [])
-sought_source Nowhere = missing
+unfoldable pub sought_source : Option Seat → Source
+sought_source (Some x) = seen (x.spot ∷ [])
+sought_source None = missing
 
 unfoldable pub sector_source : Setting → (Spot → List ℕ) → Progress → List ℕ → Source
 sector_source s f p key = sought_source (first_seat f key (seats_of s p))

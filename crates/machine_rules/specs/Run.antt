@@ -16,7 +16,7 @@ use Rattle.sia.specs.declared.Instruction.{Instruction}
 use Rattle.sia.specs.declared.Op.{Op}
 use Rattle.host.specs.declared.Terms.{Terms}
 use Rattle.host.specs.declared.Progress.{Progress}
-use Rattle.machine_rules.specs.declared.Plan.{Plan}
+use Rattle.machine_rules.specs.Plan.{Plan}
 use Rattle.machine_rules.specs.declared.Spot.{Spot}
 
 -- ---- one instruction

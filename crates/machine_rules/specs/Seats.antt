@@ -16,9 +16,7 @@ use Rattle.host.specs.declared.Host.{Host}
 use Rattle.machine_rules.specs.declared.Spot.{Spot}
 use Rattle.machine_rules.specs.declared.Spot.TheVariants.{OnDisk, InStage}
 use Rattle.machine_rules.specs.declared.Seat.{Seat}
-use Rattle.machine_rules.specs.declared.Sought.{Sought}
-use Rattle.machine_rules.specs.declared.Sought.TheVariants.{At, Nowhere}
-use Rattle.machine_rules.specs.declared.Located.{Located}
+use Rattle.std.specs.Prelude.{Option, Some, None}
 
 -- ---- the sectors that are searched, in their order
 
@@ -52,11 +50,11 @@ seats_of s p =
 -- ---- the look-up
 
 -- "a root is found at the first match", all 32 bytes
-unfoldable pub first_seat : (Spot → List ℕ) → List ℕ → List Seat → Sought
-first_seat f key [] = Nowhere
+unfoldable pub first_seat : (Spot → List ℕ) → List ℕ → List Seat → Option Seat
+first_seat f key [] = None
 first_seat f key (x ∷ xs) =
     let rest = first_seat f key xs in
-    pick (same (f x.spot) key) (At x) rest
+    pick (same (f x.spot) key) (Some x) rest
 
 -- ---- the call `locate`
 
@@ -71,13 +69,22 @@ unfoldable pub is_staged : Spot → Bool
 is_staged (OnDisk n) = false
 is_staged (InStage n) = true
 
+-- what it answers: document 01's number, whether a sector with that root is found, the place of its contract, its position there, and whether the
+-- stage holds it
+pub record Located : Type 0 where
+  pub number : ℕ
+  pub found : Bool
+  pub place : ℕ
+  pub position : ℕ
+  pub staged : Bool
+
 abbrev pub not_located : ℕ → Located
 not_located n = record { number = n; found = false; place = 0; position = 0; staged = false }
 
 -- "It also answers the contract place and position, and whether the stage held it."
-unfoldable pub located_at : Sought → Located
-located_at (At x) = record { number = 0; found = true; place = x.place; position = x.position; staged = is_staged x.spot }
-located_at Nowhere = not_located 0
+unfoldable pub located_at : Option Seat → Located
+located_at (Some x) = record { number = 0; found = true; place = x.place; position = x.position; staged = is_staged x.spot }
+located_at None = not_located 0
 
 -- 1; else 0 and what is found. With roots known in a way
 unfoldable pub located_by : Way → List ℕ → Host → List ℕ → List ℕ → Located

@@ -10,7 +10,6 @@ use Rattle.host.specs.Places.{taken}
 use Rattle.host.specs.Order.{in_order}
 use Rattle.machine_rules.specs.View.{areas_right}
 use Rattle.host.specs.declared.Host.{Host}
-use Rattle.machine_rules.specs.declared.Sounded.{Sounded}
 
 -- the root kept beside slot n of an area is that of the sector's bytes
 unfoldable pub right : ℕ → List ℕ → List ℕ → ℕ → Bool
@@ -30,6 +29,11 @@ unfoldable pub sound : List ℕ → Host → List ℕ → Bool
 sound disk h stage = both (in_order h) (roots_right disk h stage)
 
 -- ---- the call
+
+-- what it answers: document 01's number, and yes or no
+pub record Sounded : Type 0 where
+  pub number : ℕ
+  pub sound : Bool
 
 abbrev pub sounded_at : ℕ → Bool → Sounded
 sounded_at n good = record { number = n; sound = good }

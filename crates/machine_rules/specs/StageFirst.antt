@@ -25,8 +25,7 @@ use Rattle.host.specs.declared.Host.{Host}
 use Rattle.machine_rules.specs.declared.Spot.{Spot}
 use Rattle.machine_rules.specs.declared.Spot.TheVariants.{OnDisk}
 use Rattle.machine_rules.specs.declared.Seat.{Seat}
-use Rattle.machine_rules.specs.declared.Sought.{Sought}
-use Rattle.machine_rules.specs.declared.Sought.TheVariants.{At, Nowhere}
+use Rattle.std.specs.Prelude.{Option, Some, None}
 
 -- ---- the sectors that are searched, and their order, by numbers
 
@@ -63,9 +62,9 @@ module _ (q : Search) where
     pub first : (y : Seat) → Sits y → earlier y x ≡ true → same (f y.spot) key ≡ false
 
   -- what a look-up comes to
-  pub record Finds (f : Spot → List ℕ) (key : List ℕ) (r : Sought) : Type 0 where
-    pub found : (x : Seat) → r ≡ At x → First f key x
-    pub nowhere : r ≡ Nowhere → (y : Seat) → Sits y → same (f y.spot) key ≡ false
+  pub record Finds (f : Spot → List ℕ) (key : List ℕ) (r : Option Seat) : Type 0 where
+    pub found : (x : Seat) → r ≡ Some x → First f key x
+    pub nowhere : r ≡ None → (y : Seat) → Sits y → same (f y.spot) key ≡ false
 
 -- "the parent's current sectors first, stage copies included, by position, then committed sectors of the other contracts"
 abbrev pub writing : Setting → Progress → Search
@@ -93,8 +92,8 @@ pub record Looks (s : Setting) (f : Spot → List ℕ) (p : Progress) (key : Lis
   pub writer : read_only_mode s.terms ≡ false → Finds (writing s p) f key (first_seat f key (seats_of s p))
   -- what the program has just written is found by its root: at its position in the parent, or at a lower one that has the same root
   pub written : read_only_mode s.terms ≡ false → (j : ℕ) → j < p.size / s.sector → f (spot_of (parent s).slots p.staged j) ≡ key
-      → (first_seat f key (seats_of s p) ≡ Nowhere → ⊥)
-      × ((x : Seat) → first_seat f key (seats_of s p) ≡ At x
+      → (first_seat f key (seats_of s p) ≡ None → ⊥)
+      × ((x : Seat) → first_seat f key (seats_of s p) ≡ Some x
       → (x.place ≡ first_of (has_id s.terms.head.contract) s.places) × (x.position ≤ j))
   pub reader : read_only_mode s.terms ≡ true → Finds (reading s.sector s.places) f key (first_seat f key (seats_of s p))
   -- "In read-only mode nothing changes.": ReadSector reads what document 01 has it read
@@ -103,9 +102,9 @@ pub record Looks (s : Setting) (f : Spot → List ℕ) (p : Progress) (key : Lis
 -- what ReadSector reads
 pub record Reads (s : Setting) (vol : Volume) (t : Turn) (key : List ℕ) : Type 0 where
   -- the sector that the look-up finds, and no other
-  pub finds : (x : Seat) → first_seat (root_at s vol t) key (seats_of s t.progress) ≡ At x
+  pub finds : (x : Seat) → first_seat (root_at s vol t) key (seats_of s t.progress) ≡ Some x
       → source_of s (root_at s vol t) t.progress ReadSector key ≡ seen (x.spot ∷ [])
-  pub misses : first_seat (root_at s vol t) key (seats_of s t.progress) ≡ Nowhere
+  pub misses : first_seat (root_at s vol t) key (seats_of s t.progress) ≡ None
       → source_of s (root_at s vol t) t.progress ReadSector key ≡ missing
   -- where roots are worked out, its bytes have that root
   pub bytes : vol.way ≡ worked → (x : Spot) → source_of s (root_at s vol t) t.progress ReadSector key ≡ seen (x ∷ [])
@@ -115,19 +114,19 @@ pub record Reads (s : Setting) (vol : Volume) (t : Turn) (key : List ℕ) : Type
 abbrev pub NotFound : Setting → Volume → Turn → Type 0
 NotFound s vol t = (i : Instruction) (l : List (List ℕ)) → ill_formed i ≡ false → past_end s.terms.head.length i ≡ false
     → op_of i.name ≡ ReadSector → well_formed ReadSector l ≡ true
-    → first_seat (root_at s vol t) (args_of ReadSector l).key (seats_of s t.progress) ≡ Nowhere
+    → first_seat (root_at s vol t) (args_of ReadSector l).key (seats_of s t.progress) ≡ None
     → judged s (root_at s vol t) t.progress i l ≡ 25
 
 -- what the call `locate` looks up, by the kept roots
-abbrev pub looked : Host → List ℕ → Sought
+abbrev pub looked : Host → List ℕ → Option Seat
 looked h key = first_seat (root_of (setting_of h) (volume_of h []) [] h.stageroots) key (seats_in h)
 
 pub record Locates (h : Host) (key : List ℕ) : Type 0 where
   -- its whole answers: 1; else "found or not, the place, the position, and whether the stage held it"
   pub damaged : in_order h ≡ false → located h key ≡ not_located 1
-  pub found : in_order h ≡ true → (x : Seat) → looked h key ≡ At x
+  pub found : in_order h ≡ true → (x : Seat) → looked h key ≡ Some x
       → located h key ≡ record { number = 0; found = true; place = x.place; position = x.position; staged = is_staged x.spot }
-  pub nowhere : in_order h ≡ true → looked h key ≡ Nowhere → located h key ≡ not_located 0
+  pub nowhere : in_order h ≡ true → looked h key ≡ None → located h key ≡ not_located 0
   -- of an open program, failed or not, it looks through what ReadSector looks through, with no program through all committed sectors
   pub program : (program_of h).active ≡ true → seats_in h ≡ seats_of (setting_of h) (program_of h).progress
   pub none : (program_of h).active ≡ false

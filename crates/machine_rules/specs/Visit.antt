@@ -14,9 +14,9 @@ use Rattle.machine_rules.specs.Sound.{sound}
 use Rattle.host.specs.declared.Place.{Place}
 use Rattle.host.specs.declared.Prices.{Prices}
 use Rattle.host.specs.declared.Host.{Host}
-use Rattle.machine_rules.specs.declared.Answer.{Answer}
+use Rattle.machine_rules.specs.Calls.{Answer}
 use Rattle.machine_rules.specs.declared.Pair.{Pair}
-use Rattle.machine_rules.specs.declared.Reached.{Reached}
+use Rattle.machine_rules.specs.Calls.{Reached}
 
 -- ---- what is lent and said
 

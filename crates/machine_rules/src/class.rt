@@ -4,7 +4,7 @@ ghost use Rattle.machine_rules.specs.Class.{class_of};
 
 // Invalid and Host are the classes of document 01's table of checks; an interrupt's number is of a class of its own. No record has a number
 // of class Unknown.
-#[derive(Clone, Copy)]
+#[derive(Clone, Copy, Debug, PartialEq, Eq)]
 pub enum Class {
     Done,
     Interrupted,
@@ -13,26 +13,16 @@ pub enum Class {
     Unknown,
 }
 
-pub fn class_of(number: u64) -> Class
-    ensures { result ≡ class_of number }
-{
-    if number == 0 {
-        return Class::Done;
+impl From<u64> for Class {
+    ghost from_gives = { λ number class. class ≡ class_of number };
+
+    fn from(number: u64) -> Class {
+        match number {
+            0 => Class::Done,
+            20 => Class::Interrupted,
+            21..=28 => Class::Invalid,
+            40..=42 => Class::Host,
+            _ => Class::Unknown,
+        }
     }
-    if number == 20 {
-        return Class::Interrupted;
-    }
-    if number < 21 {
-        return Class::Unknown;
-    }
-    if number <= 28 {
-        return Class::Invalid;
-    }
-    if number < 40 {
-        return Class::Unknown;
-    }
-    if number <= 42 {
-        return Class::Host;
-    }
-    Class::Unknown
 }

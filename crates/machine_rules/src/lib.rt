@@ -3,8 +3,10 @@
 #![tactic(auto)]
 
 pub mod class; // class.rt: the class of a record's number
+mod failure; // failure.rt: why an instruction fails
 
-use host::{Host, Place, Terms};
+pub use failure::Failure;
+use host::{Place, Terms};
 
 // What stays while the instructions of a program run: the size of a sector, the sectors of disk and stage, the contracts, and the terms of the program.
 #[derive(Clone, Copy)]
@@ -18,7 +20,8 @@ pub struct Setting {
 
 // What kinds of instructions differ in: whether there is such an instruction, how many operands it has, its time, whether it hands out what it reads,
 // and whether it changes the parent.
-#[derive(Clone, Copy)]
+// Kept: a flag for the unknown name: the definitions' table, `kind` of specs/Kinds.antt, has a row of this form for it.
+#[derive(Clone, Copy, Debug, PartialEq, Eq)]
 pub struct Kind {
     pub known: bool,
     pub operands: u64,
@@ -28,7 +31,7 @@ pub struct Kind {
 }
 
 // What an instruction's inputs say: an id or root, zeros where there is none; two offsets, the first also Truncate's new size; and a length.
-#[derive(Clone, Copy)]
+#[derive(Clone, Copy, Debug, PartialEq, Eq)]
 pub struct Args {
     pub key: [u8; 32],
     pub first: u64,
@@ -36,11 +39,9 @@ pub struct Args {
     pub len: u64,
 }
 
-// The plan of an instruction: the number of its failure and nothing else, or 0 with its cost, the parent's new size, the hashes of its proof and the length
-// of its record.
-#[derive(Clone, Copy)]
+// The plan of an instruction that can run: its cost, the parent's new size, the hashes of its proof and the length of its record.
+#[derive(Clone, Copy, Debug, PartialEq, Eq)]
 pub struct Plan {
-    pub number: u64,
     pub cost: u64,
     pub size: u64,
     pub hashes: u64,
@@ -48,64 +49,23 @@ pub struct Plan {
 }
 
 // Where the bytes of a sector are: in a slot of the disk, or of the stage.
-#[derive(Clone, Copy)]
+#[derive(Clone, Copy, Debug, PartialEq, Eq)]
 pub enum Spot {
     OnDisk(usize),
     InStage(usize),
 }
 
 // A sector by the place of its contract and its position there, and where its bytes are.
-#[derive(Clone, Copy)]
+#[derive(Clone, Copy, Debug, PartialEq, Eq)]
 pub struct Seat {
     pub place: usize,
     pub position: usize,
     pub spot: Spot,
 }
 
-// What a look-up by root comes to: a sector, or none.
-#[derive(Clone, Copy)]
-pub enum Sought {
-    At(Seat),
-    Nowhere,
-}
-
-// What opening, a piece and an interrupt answer: document 01's number, the tally, and the host.
-#[derive(Clone, Copy)]
-pub struct Answer {
-    pub number: u64,
-    pub tally: u64,
-    pub host: Host,
-}
-
 // A size and a root.
-#[derive(Clone, Copy)]
+#[derive(Clone, Copy, Debug, PartialEq, Eq)]
 pub struct Pair {
     pub size: u64,
     pub root: [u8; 32],
-}
-
-// The size and root that a program has reached.
-#[derive(Clone, Copy)]
-pub struct Reached {
-    pub number: u64,
-    pub size: u64,
-    pub root: [u8; 32],
-}
-
-// What the call that asks whether a host is sound answers: document 01's number, and yes or no.
-#[derive(Clone, Copy)]
-pub struct Sounded {
-    pub number: u64,
-    pub sound: bool,
-}
-
-// What the call that looks a root up answers: document 01's number, whether a sector with that root is found, the place of its contract, its
-// position there, and whether the stage holds it.
-#[derive(Clone, Copy)]
-pub struct Located {
-    pub number: u64,
-    pub found: bool,
-    pub place: u64,
-    pub position: u64,
-    pub staged: bool,
 }

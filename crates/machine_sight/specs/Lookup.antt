@@ -1,5 +1,5 @@
--- What the functions that look a root up ask of their callers, and whether they found a sector. z is the sector size. Assumes nothing.
-use Rattle.std.specs.Prelude.{◌≡◌, Bool, true, false, List, ℕ, ◌/◌, ◌≤◌, ◌<◌}
+-- What the functions that look a root up ask of their callers. z is the sector size. Assumes nothing.
+use Rattle.std.specs.Prelude.{◌≡◌, true, List, ℕ, ◌/◌, ◌≤◌, ◌<◌}
 use Rattle.lists.specs.Tests.{every}
 use Rattle.lists.specs.Tab.{tab}
 use Rattle.area.specs.Slots.{Size}
@@ -10,13 +10,6 @@ use Rattle.machine_sight.specs.Seen.{holds, lies}
 use Rattle.host.specs.declared.Place.{Place}
 use Rattle.machine_rules.specs.declared.Spot.{Spot}
 use Rattle.machine_rules.specs.declared.Spot.TheVariants.{OnDisk, InStage}
-use Rattle.machine_rules.specs.declared.Sought.{Sought}
-use Rattle.machine_rules.specs.declared.Sought.TheVariants.{At, Nowhere}
-
--- whether a look-up found a sector
-unfoldable pub is_found : Sought → Bool
-is_found (At x) = true
-is_found Nowhere = false
 
 -- a slot whose number a byte holds, and that is not the number for none
 abbrev pub Narrow : Spot → Type 0

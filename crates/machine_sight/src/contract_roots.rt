@@ -14,16 +14,11 @@ fn kept_roots<'a>(diskroots: &'a [u8], stageroots: &'a [u8], seen: Seen) -> [u8;
     requires { Known diskroots.now stageroots.now seen }
     ensures { take (32 * seen.count) result ≡ joined (kept_root diskroots.now stageroots.now) (spots_of seen) }
 {
-    let slots = seen.slots;
-    let staged = seen.staged;
-    let count = seen.count;
     let mut roots = [0u8; 2048];
-    let mut i: usize = 0;
-    while i < count {
-        let spot = sectors::spot_of(slots, staged, i);
+    for i in 0..seen.count {
+        let spot = seen.spot(i);
         let root = sector_roots::kept_root(diskroots, stageroots, spot);
         area::copy_between(root, 0, &mut roots, 32 * i, 32);
-        i += 1;
     }
     roots
 }
@@ -34,12 +29,8 @@ fn first_root<'a>(diskroots: &'a [u8], stageroots: &'a [u8], seen: Seen) -> [u8;
     requires count_nonzero { 0 < seen.count }
     ensures { result ≡ kept_root diskroots.now stageroots.now (spot_of seen.slots seen.staged 0) }
 {
-    let slots = seen.slots;
-    let staged = seen.staged;
-    let spot = sectors::spot_of(slots, staged, 0);
-    let kept = sector_roots::kept_root(diskroots, stageroots, spot);
     let mut root = [0u8; 32];
-    area::copy_between(kept, 0, &mut root, 0, 32);
+    root.copy_from_slice(sector_roots::kept_root(diskroots, stageroots, seen.spot(0)));
     root
 }
 
@@ -48,16 +39,14 @@ pub fn contract_root<'a>(diskroots: &'a [u8], stageroots: &'a [u8], seen: Seen) 
     requires { Known diskroots.now stageroots.now seen }
     ensures { result ≡ contract_root (kept_root diskroots.now stageroots.now) (spots_of seen) }
 {
-    let count = seen.count;
-    if count == 0 {
-        return [0u8; 32];
+    match seen.count {
+        0 => [0u8; 32],
+        1 => first_root(diskroots, stageroots, seen),
+        count => {
+            let roots = kept_roots(diskroots, stageroots, seen);
+            tree::join(&roots[..32 * count]).unwrap()
+        }
     }
-    if count == 1 {
-        return first_root(diskroots, stageroots, seen);
-    }
-    let roots = kept_roots(diskroots, stageroots, seen);
-    let rooted = tree::join(&roots[..32 * count]);
-    rooted.root
 }
 
 // The proof of the n bytes from `at` on, which lie in one sector, laid over the front of out. Of one sector no root is needed.
@@ -81,18 +70,14 @@ pub fn range_proof<'a>(
         put out.old 0 (range_proof z (kept_root diskroots.now stageroots.now)
         disk.now stage.now (spots_of seen) at n) }
 {
-    let slots = seen.slots;
-    let staged = seen.staged;
-    let count = seen.count;
     let place = at / z;
-    let spot = sectors::spot_of(slots, staged, place);
-    let bytes = sectors::sector(z, disk, stage, spot);
+    let bytes = sectors::sector(z, disk, stage, seen.spot(place));
     let first = at % z / Seen::SEGMENT;
     let end = first + n / Seen::SEGMENT;
-    if count == 1 {
-        tree::prove(bytes, first, end, out);
+    if seen.count == 1 {
+        tree::prove(bytes, first, end, out).unwrap();
         return;
     }
     let roots = kept_roots(diskroots, stageroots, seen);
-    tree::prove_in(&roots[..32 * count], place, bytes, first, end, out);
+    tree::prove_in(&roots[..32 * seen.count], place, bytes, first, end, out).unwrap();
 }

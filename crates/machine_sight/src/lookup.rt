@@ -9,37 +9,20 @@ ghost use Rattle.machine_rules.specs.View.{committed_spots};
 ghost use Rattle.machine_rules.specs.Roots.{kept_root};
 ghost use Rattle.machine_rules.specs.Seats.{seated, committed_seats, seats, all_seats, first_seat};
 ghost use Rattle.machine_sight.specs.Seen.{spots_of, lies, Known};
-ghost use Rattle.machine_sight.specs.Lookup.{is_found, Stands, Stand, Seeks, own_spots};
+ghost use Rattle.machine_sight.specs.Lookup.{Stands, Stand, Seeks, own_spots};
 
-use crate::{Seen, sector_roots, sectors, sights};
-use host::{Host, Place, Progress};
-use machine_rules::{Seat, Sought, Spot};
+use crate::{Seen, sector_roots, sights};
+use host::{Place, Progress};
+use machine_rules::{Seat, Spot};
 use sia::Head;
 
-// Whether two roots are the same, all bytes of both.
-fn agrees(one: &[u8], two: &[u8]) -> bool
-    ensures { result ≡ same one.now two.now }
-{
-    area::same(one, two)
-}
-
-// Whether the root kept beside a sector's slot is that one.
+// Whether the root kept beside a sector's slot is that one, all bytes of both.
 fn has_root<'a>(diskroots: &'a [u8], stageroots: &'a [u8], spot: Spot, key: [u8; 32]) -> bool
     requires { lies 32 diskroots.now stageroots.now spot ≡ true }
     ensures { result ≡ same (kept_root diskroots.now stageroots.now spot) key }
 {
     let root = sector_roots::kept_root(diskroots, stageroots, spot);
-    agrees(root, &key)
-}
-
-// Whether a look-up found a sector.
-fn is_found(sought: Sought) -> bool
-    ensures { result ≡ is_found sought }
-{
-    match sought {
-        Sought::At(_) => true,
-        Sought::Nowhere => false,
-    }
+    root == key.as_slice()
 }
 
 // The first sector with that root, of what is seen of the contract in a place.
@@ -49,26 +32,21 @@ fn first_in<'a>(
     place: usize,
     seen: Seen,
     key: [u8; 32],
-) -> Sought
+) -> Option<Seat>
     requires { Known diskroots.now stageroots.now seen }
     ensures { result ≡ first_seat (kept_root diskroots.now stageroots.now) key (seated place 0 (spots_of seen)) }
 {
-    let count = seen.count;
-    let slots = seen.slots;
-    let staged = seen.staged;
-    let mut position: usize = 0;
-    while position < count {
-        let spot = sectors::spot_of(slots, staged, position);
+    for position in 0..seen.count {
+        let spot = seen.spot(position);
         if has_root(diskroots, stageroots, spot, key) {
-            return Sought::At(Seat {
+            return Some(Seat {
                 place,
                 position,
                 spot,
             });
         }
-        position += 1;
     }
-    Sought::Nowhere
+    None
 }
 
 // The first committed sector with that root, of the contract in a place, unless it is the contract of an id.
@@ -80,13 +58,13 @@ fn first_unless<'a>(
     place: Place,
     id: [u8; 32],
     key: [u8; 32],
-) -> Sought
+) -> Option<Seat>
     requires { Stands z diskroots.now place }
     ensures { result ≡ first_seat (kept_root diskroots.now stageroots.now) key
         (pick (has_id id place) [] (seated number 0 (committed_spots z place))) }
 {
     if host::has_id(place, id) {
-        return Sought::Nowhere;
+        return None;
     }
     let seen = sights::committed_seen(z, place);
     first_in(diskroots, stageroots, number, seen, key)
@@ -100,20 +78,17 @@ fn first_of_others<'a>(
     places: [Place; 8],
     id: [u8; 32],
     key: [u8; 32],
-) -> Sought
+) -> Option<Seat>
     requires { Stand z diskroots.now places }
     ensures { result ≡ first_seat (kept_root diskroots.now stageroots.now) key (committed_seats z (has_id id) 0 places) }
 {
-    let mut i: usize = 0;
-    while i < Host::PLACES {
-        let place = places[i];
-        let found = first_unless(z, diskroots, stageroots, i, place, id, key);
-        if is_found(found) {
+    for (i, place) in places.iter().enumerate() {
+        let found = first_unless(z, diskroots, stageroots, i, *place, id, key);
+        if found.is_some() {
             return found;
         }
-        i += 1;
     }
-    Sought::Nowhere
+    None
 }
 
 // The first sector with that root: of the contract of an id, up to a size, with its copies in the stage, and then of the other contracts.
@@ -126,7 +101,7 @@ fn find_root<'a>(
     staged: [u8; 64],
     size: u64,
     key: [u8; 32],
-) -> Sought
+) -> Option<Seat>
     requires { Seeks z diskroots.now stageroots.now places id staged size }
     ensures { result ≡ first_seat (kept_root diskroots.now stageroots.now) key
         (seats z (has_id id) (own_spots z places id staged size) places) }
@@ -135,7 +110,7 @@ fn find_root<'a>(
     let number = host::place_number(places, id);
     let seen = sights::parent_seen(z, parent, staged, size);
     let own = first_in(diskroots, stageroots, number, seen, key);
-    if is_found(own) {
+    if own.is_some() {
         return own;
     }
     first_of_others(z, diskroots, stageroots, places, id, key)
@@ -148,13 +123,21 @@ pub fn find_in_all<'a>(
     stageroots: &'a [u8],
     places: [Place; 8],
     key: [u8; 32],
-) -> Sought
+) -> Option<Seat>
     requires { Stand z diskroots.now places }
     ensures { result ≡ first_seat (kept_root diskroots.now stageroots.now) key (all_seats z places) }
 {
     let nobody = Head::READ_ONLY;
-    let none = [Progress::NONE; 64];
-    find_root(z, diskroots, stageroots, places, nobody, none, 0, key)
+    find_root(
+        z,
+        diskroots,
+        stageroots,
+        places,
+        nobody,
+        [Progress::NONE; 64],
+        0,
+        key,
+    )
 }
 
 // What a program on the contract of an id finds; in read-only mode it finds the first of all committed sectors.
@@ -167,7 +150,7 @@ pub fn find_for<'a>(
     staged: [u8; 64],
     size: u64,
     key: [u8; 32],
-) -> Sought
+) -> Option<Seat>
     requires { Seeks z diskroots.now stageroots.now places id staged size }
     ensures { result ≡ first_seat (kept_root diskroots.now stageroots.now) key
         (pick (same id read_only) (all_seats z places) (seats z (has_id id) (own_spots z places id staged size) places)) }

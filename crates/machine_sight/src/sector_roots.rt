@@ -9,6 +9,7 @@ use crate::{Seen, sectors};
 use machine_rules::Spot;
 
 // The root kept beside a slot: slot n of disk or stage has its root at 32 * n.
+// Kept: two slices as two parameters, here and above: of a struct of slices each `ensures` names one as `x.entry.disk.now`, which is no plainer.
 pub fn kept_root<'a>(diskroots: &'a [u8], stageroots: &'a [u8], spot: Spot) -> &'a [u8]
     requires { lies 32 diskroots.now stageroots.now spot ≡ true }
     ensures { (result.now ≡ kept_root diskroots.now stageroots.now spot) × (length result.now ≡ 32) }
@@ -22,9 +23,7 @@ pub fn sector_root<'a>(z: usize, disk: &'a [u8], stage: &'a [u8], spot: Spot) ->
     requires spot_value { lies z disk.now stage.now spot ≡ true }
     ensures { result ≡ sector_root z disk.now stage.now spot }
 {
-    let bytes = sectors::sector(z, disk, stage, spot);
-    let rooted = tree::root(bytes);
-    rooted.root
+    tree::root(sectors::sector(z, disk, stage, spot)).unwrap()
 }
 
 // How many hashes prove the n bytes from `at` on, of so many sectors.
@@ -35,6 +34,5 @@ pub fn range_count(z: usize, sectors: usize, at: usize, n: usize) -> usize
     ensures { result ≡ count (segments z sectors) (at / 64) ((at + n) / 64) }
 {
     let segments = sectors * (z / Seen::SEGMENT);
-    let counted = tree::count(segments, at / Seen::SEGMENT, (at + n) / Seen::SEGMENT);
-    counted.count
+    tree::count(segments, at / Seen::SEGMENT, (at + n) / Seen::SEGMENT).unwrap()
 }

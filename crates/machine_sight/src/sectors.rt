@@ -1,23 +1,19 @@
 // Where a sector is, and its bytes: a part of the area that holds it, never a copy.
-ghost use Rattle.std.specs.Prelude.{◌≡◌, true, ◌<◌, length};
+ghost use Rattle.std.specs.Prelude.{◌≡◌, true, ◌*◌, length};
+ghost use Rattle.area.specs.Area.{part};
 ghost use Rattle.machine_rules.specs.View as Says;
-ghost use Rattle.machine_rules.specs.View.{spot_of};
-ghost use Rattle.machine_sight.specs.Seen.{lies, span_of, Lies, Inside};
+ghost use Rattle.machine_sight.specs.Seen.{holds, lies, span_of, Lies, Inside};
 
 use crate::Seen;
-use host::Progress;
 use machine_rules::Spot;
 
-// Where position `at` is: in the stage where it has a copy there, else on the disk.
-pub fn spot_of(slots: [u8; 64], staged: [u8; 64], at: usize) -> Spot
-    requires { at < 64 }
-    ensures { result ≡ spot_of slots staged at }
+// The bytes of slot n of an area, z of them.
+fn slot<'a>(z: usize, area: &'a [u8], n: usize) -> &'a [u8]
+    requires { holds z area.now n ≡ true }
+    ensures { (result.now ≡ part area.now (n * z) z) × (length result.now ≡ z) }
 {
-    let copy = staged[at];
-    if copy == Progress::NONE {
-        return Spot::OnDisk(slots[at] as usize);
-    }
-    Spot::InStage(copy as usize)
+    let from = n * z;
+    &area[from..from + z]
 }
 
 // The bytes of a sector, z of them.
@@ -26,14 +22,8 @@ pub fn sector<'a>(z: usize, disk: &'a [u8], stage: &'a [u8], spot: Spot) -> &'a 
     ensures { (result.now ≡ Says.sector z disk.now stage.now spot) × (length result.now ≡ z) }
 {
     match spot {
-        Spot::OnDisk(n) => {
-            let from = n * z;
-            &disk[from..from + z]
-        }
-        Spot::InStage(n) => {
-            let from = n * z;
-            &stage[from..from + z]
-        }
+        Spot::OnDisk(n) => slot(z, disk, n),
+        Spot::InStage(n) => slot(z, stage, n),
     }
 }
 
@@ -50,10 +40,7 @@ pub fn span<'a>(
     requires inside { Inside z seen.count at n }
     ensures { (result.now ≡ span_of z disk.now stage.now seen at n) × (length result.now ≡ n) }
 {
-    let slots = seen.slots;
-    let staged = seen.staged;
-    let spot = spot_of(slots, staged, at / z);
-    let bytes = sector(z, disk, stage, spot);
+    let bytes = sector(z, disk, stage, seen.spot(at / z));
     let from = at % z;
     &bytes[from..from + n]
 }

@@ -12,15 +12,13 @@ use host::{Place, Progress};
 use machine_rules::Spot;
 
 // No sector.
-fn nothing() -> Seen
+pub fn nothing() -> Seen
     ensures { (spots_of result ≡ []) × (result.count ≤ 1) }
 {
-    let slots = [0u8; 64];
-    let staged = [Progress::NONE; 64];
     Seen {
         count: 0,
-        slots,
-        staged,
+        slots: [0u8; 64],
+        staged: [Progress::NONE; 64],
     }
 }
 
@@ -30,24 +28,16 @@ pub fn one(spot: Spot) -> Seen
     ensures { spots_of result ≡ spot ∷ [] }
 {
     match spot {
-        Spot::OnDisk(n) => {
-            let slots = [n as u8; 64];
-            let staged = [Progress::NONE; 64];
-            Seen {
-                count: 1,
-                slots,
-                staged,
-            }
-        }
-        Spot::InStage(n) => {
-            let slots = [0u8; 64];
-            let staged = [n as u8; 64];
-            Seen {
-                count: 1,
-                slots,
-                staged,
-            }
-        }
+        Spot::OnDisk(n) => Seen {
+            count: 1,
+            slots: [n as u8; 64],
+            staged: [Progress::NONE; 64],
+        },
+        Spot::InStage(n) => Seen {
+            count: 1,
+            slots: [0u8; 64],
+            staged: [n as u8; 64],
+        },
     }
 }
 
@@ -56,10 +46,9 @@ pub fn parent_seen(z: u64, place: Place, staged: [u8; 64], size: u64) -> Seen
     requires { Size z }
     ensures { (spots_of result ≡ tab 0 (size / z) (spot_of place.slots staged)) × (result.count ≡ size / z) }
 {
-    let count = (size / z) as usize;
     let slots = place.slots;
     Seen {
-        count,
+        count: (size / z) as usize,
         slots,
         staged,
     }
@@ -74,7 +63,5 @@ pub fn committed_seen(z: u64, place: Place) -> Seen
     if !place.held {
         return nothing();
     }
-    let staged = [Progress::NONE; 64];
-    let size = place.size;
-    parent_seen(z, place, staged, size)
+    parent_seen(z, place, [Progress::NONE; 64], place.size)
 }

@@ -43,6 +43,5 @@ stepped_turn s vol i input t = turned t (stepped s vol i (inputs_of i input) t)
 pub record Tasked (s : Setting) (vol : Volume) (t : Turn) (input : List ℕ) (i : Instruction) (r : Task) : Type 0 where
   pub steps : Steps s vol t input
   pub told : said r ≡ plan_of s (root_at s vol t) t.progress i input
-  pub zero : r.plan.number ≡ 0
   pub operands : length i.operands ≡ 4
   pub small : s.terms.budget < 2 ^ 64

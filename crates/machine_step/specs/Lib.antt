@@ -3,3 +3,4 @@ pub mod Front
 pub mod Shown
 pub mod Asks
 pub mod Turns
+pub mod Told

@@ -3,11 +3,11 @@
 ghost use Rattle.std.specs.Prelude.{◌≡◌, true, [], ◌≤◌, length};
 ghost use Rattle.lists.specs.Pick.{pick};
 ghost use Rattle.area.specs.Area.{put};
-ghost use Rattle.machine_rules.specs.Roots.{kept_root};
 ghost use Rattle.machine_rules.specs.Record.{pairing, record_bytes};
 ghost use Rattle.machine_sight.specs.Seen.{Lies, Known, Inside, Ranged};
 ghost use Rattle.machine_step.specs.Front.{front};
-ghost use Rattle.machine_step.specs.Shown.{shown_proof, shown_bytes, Shows};
+ghost use Rattle.machine_step.specs.Shown.{Shows};
+ghost use Rattle.machine_step.specs.Told.{proof_of, bytes_of};
 
 use machine_sight::Seen;
 
@@ -32,52 +32,54 @@ pub fn put_failure(number: u64, size: u64, root: [u8; 32], out: &mut [u8])
     area::store(out, 64, 8, 0);
 }
 
+// What a record shows: the n bytes from `at` on of the sectors seen, with their proof where one is asked, themselves where they are read.
+#[derive(Clone, Copy)]
+pub struct Shown<'a> {
+    pub sector: usize,
+    pub asked: bool,
+    pub reads: bool,
+    pub diskroots: &'a [u8],
+    pub stageroots: &'a [u8],
+    pub disk: &'a [u8],
+    pub stage: &'a [u8],
+    pub seen: Seen,
+    pub at: usize,
+    pub n: usize,
+}
+
 // The proof of what is read, where one is asked.
-fn put_proof<'a>(
-    z: usize,
-    asked: bool,
-    diskroots: &'a [u8],
-    stageroots: &'a [u8],
-    disk: &'a [u8],
-    stage: &'a [u8],
-    seen: Seen,
-    at: usize,
-    n: usize,
-    out: &mut [u8],
-)
-    requires known { Known diskroots.now stageroots.now seen }
-    requires lies { Lies z disk.now stage.now seen }
-    requires ranged { asked ≡ true → Ranged z seen.count at n }
-    requires n_in_bounds { length (shown_proof z asked (kept_root diskroots.now stageroots.now) disk.now stage.now seen at n)
-        ≤ length out.old }
-    ensures { out.new ≡
-        put out.old 0 (shown_proof z asked (kept_root diskroots.now stageroots.now)
-        disk.now stage.now seen at n) }
+#[rattlefmt::skip]
+fn put_proof(shown: &Shown, out: &mut [u8])
+    requires known { Known shown.now.diskroots.now shown.now.stageroots.now shown.now.seen }
+    requires lies { Lies shown.now.sector shown.now.disk.now shown.now.stage.now shown.now.seen }
+    requires ranged { shown.now.asked ≡ true → Ranged shown.now.sector shown.now.seen.count shown.now.at shown.now.n }
+    requires n_in_bounds { length (proof_of shown.now) ≤ length out.old }
+    ensures { out.new ≡ put out.old 0 (proof_of shown.now) }
 {
-    if asked {
-        machine_sight::range_proof(z, diskroots, stageroots, disk, stage, seen, at, n, out);
+    if shown.asked {
+        machine_sight::range_proof(
+            shown.sector, shown.diskroots, shown.stageroots, shown.disk, shown.stage, shown.seen, shown.at, shown.n, out
+        );
     }
 }
 
 // The bytes of what is read.
-fn put_bytes<'a>(
-    z: usize,
-    reads: bool,
-    disk: &'a [u8],
-    stage: &'a [u8],
-    seen: Seen,
-    at: usize,
-    n: usize,
-    out: &mut [u8],
-)
-    requires lies { Lies z disk.now stage.now seen }
-    requires inside { reads ≡ true → Inside z seen.count at n }
-    requires n_in_bounds { pick reads n 0 ≤ length out.old }
-    ensures { out.new ≡ put out.old 0 (shown_bytes z reads disk.now stage.now seen at n) }
+fn put_bytes(shown: &Shown, out: &mut [u8])
+    requires lies { Lies shown.now.sector shown.now.disk.now shown.now.stage.now shown.now.seen }
+    requires inside { shown.now.reads ≡ true → Inside shown.now.sector shown.now.seen.count shown.now.at shown.now.n }
+    requires n_in_bounds { pick shown.now.reads shown.now.n 0 ≤ length out.old }
+    ensures { out.new ≡ put out.old 0 (bytes_of shown.now) }
 {
-    if reads {
-        let bytes = machine_sight::span(z, disk, stage, seen, at, n);
-        area::copy_between(bytes, 0, out, 0, n);
+    if shown.reads {
+        let bytes = machine_sight::span(
+            shown.sector,
+            shown.disk,
+            shown.stage,
+            shown.seen,
+            shown.at,
+            shown.n,
+        );
+        area::copy_between(bytes, 0, out, 0, shown.n);
     }
 }
 
@@ -85,44 +87,22 @@ fn put_bytes<'a>(
 fn count_of(reads: bool, n: usize) -> u64
     ensures { result ≡ pick reads n 0 }
 {
-    if reads {
-        return n as u64;
-    }
-    0
+    if reads { n as u64 } else { 0 }
 }
 
 // The record of an instruction that ran: the remainder behind its front is lent on to the writer of hashes, and behind them that of bytes.
 #[rattlefmt::skip]
-pub fn put_success<'a>(
-    z: usize,
-    cost: u64,
-    size: u64,
-    root: [u8; 32],
-    hashes: u64,
-    asked: bool,
-    reads: bool,
-    diskroots: &'a [u8],
-    stageroots: &'a [u8],
-    disk: &'a [u8],
-    stage: &'a [u8],
-    seen: Seen,
-    at: usize,
-    n: usize,
-    out: &mut [u8],
-)
-    requires { Shows z diskroots.now stageroots.now disk.now stage.now seen asked reads at n hashes out.old }
+pub fn put_success(cost: u64, size: u64, root: [u8; 32], hashes: u64, shown: &Shown, out: &mut [u8])
+    requires { Shows shown.now.sector shown.now.diskroots.now shown.now.stageroots.now shown.now.disk.now shown.now.stage.now
+        shown.now.seen shown.now.asked shown.now.reads shown.now.at shown.now.n hashes out.old }
     ensures { out.new ≡
         put out.old 0 (record_bytes 0 cost (pairing size root)
-        hashes (shown_proof z asked (kept_root diskroots.now stageroots.now)
-        disk.now stage.now seen at n)
-        (pick reads n 0) (shown_bytes z reads disk.now stage.now seen at n)) }
+        hashes (proof_of shown.now) (pick shown.now.reads shown.now.n 0) (bytes_of shown.now)) }
 {
     put_front(0, cost, size, root, hashes, out);
-    put_proof(
-        z, asked, diskroots, stageroots, disk, stage, seen, at, n, &mut out[64..]
-    );
+    put_proof(shown, &mut out[64..]);
     let behind = 64 + 32 * (hashes as usize);
-    let count = count_of(reads, n);
+    let count = count_of(shown.reads, shown.n);
     area::store(out, behind, 8, count);
-    put_bytes(z, reads, disk, stage, seen, at, n, &mut out[behind + 8..]);
+    put_bytes(shown, &mut out[behind + 8..]);
 }

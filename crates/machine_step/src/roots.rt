@@ -40,6 +40,7 @@ pub fn running_root<'a>(
 }
 
 // A failure: it ends the program, and otherwise only writes its record.
+// Kept: its number is any, as a caller may give any: `Failure` in its place would ask more of callers.
 pub fn fail(
     setting: Setting,
     number: u64,

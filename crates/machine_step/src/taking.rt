@@ -26,12 +26,10 @@ pub fn step<'a>(
         stepped_turn setting (volume disk.now diskroots.now) i input.now
         (turn progress stage.old output.old stageroots.old) }
 {
-    let task = machine_plan::planned(setting, progress, i, diskroots, &*stageroots, input);
-    let plan = task.plan;
-    if plan.number != 0 {
-        return roots::fail(setting, plan.number, diskroots, progress, output);
+    match machine_plan::planned(setting, progress, i, diskroots, &*stageroots, input) {
+        Ok(task) => running::succeed(
+            setting, diskroots, disk, input, i, task, progress, stageroots, stage, output
+        ),
+        Err(failure) => roots::fail(setting, failure.number(), diskroots, progress, output),
     }
-    running::succeed(
-        setting, diskroots, disk, input, i, task, progress, stageroots, stage, output
-    )
 }

@@ -15,10 +15,7 @@ use sia::Instruction;
 pub fn goes_on(count: u64, progress: Progress) -> bool
     ensures { result ≡ both (not progress.failed) (ltb progress.ran count) }
 {
-    if progress.failed {
-        return false;
-    }
-    progress.ran < count
+    !progress.failed && progress.ran < count
 }
 
 // Whether the need of an instruction has come, with k bytes.
@@ -29,6 +26,7 @@ fn ready(declared: u64, i: Instruction, k: u64) -> bool
 }
 
 // At most as many as the head has.
+// Kept: a while, since its test is of the progress that a step leaves; a `for` over the instructions would ask `goes_on` all the same.
 #[rattlefmt::skip]
 pub fn run<'a>(
     setting: Setting,
@@ -49,6 +47,7 @@ pub fn run<'a>(
     let terms = setting.terms;
     let head = terms.head;
     let mut progress = start;
+    // Kept: no plainer as a `for`: the progress, not a count of turns, says which instruction is next, and a failure ends it.
     while goes_on(head.count, progress) {
         let i = head.instructions[progress.ran as usize];
         if !ready(head.length, i, k) {

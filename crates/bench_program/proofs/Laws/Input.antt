@@ -6,13 +6,18 @@ use Rattle.lists.proofs.Laws.Tab.{tab-at}
 use Rattle.lists.proofs.Laws.Sums.{rest-less}
 use Rattle.area.proofs.Laws.Parts.{part-is}
 use Rattle.area.proofs.Laws.Lent.{rest-take}
-use Rattle.host.specs.Calls.{freshed}
+use Rattle.std.specs.Prelude.{Result, Ok, Err}
+use Rattle.std.specs.Result.{result_unwrap_or}
+use Rattle.host.specs.Empty.{bare}
+use Rattle.host.specs.Calls.{Made, made_of, freshed}
 use Rattle.bench_program.specs.Single.{Ran, ran, leaves, run}
 use Rattle.bench_program.specs.Input.{number_at, prices_in, budget_in, ids_end, head_end, ids_bytes, head_bytes, data_bytes, prices_right, cut_short}
 use Rattle.bench_program.specs.Input.{wrong, answered}
 use Rattle.bench_program.proofs.Laws.Plays.{without}
 use Rattle.host.specs.declared.Prices.{Prices}
-use Rattle.host.specs.declared.Made.{Made}
+use Rattle.host.specs.declared.refusal.Refusal.{Refusal}
+use Rattle.host.specs.declared.refusal.Refusal.TheVariants.{Malformed}
+use Rattle.host.specs.declared.Host.{Host}
 use Rattle.bench_program.specs.declared.Outcome.{Outcome}
 
 -- ---- an input that is not refused with 9
@@ -96,12 +101,19 @@ module _ (all : List ℕ) where
 -- ---- 9, or what the input asks for
 
 module _ (z : ℕ) (all disk stage input output : List ℕ) where
-  pub answered-nine : {f : Made} {o : Outcome} → wrong all ≡ true → f ≡ freshed z (length disk) (length stage) → o ≡ without 9 f.host
+  -- the host that a fresh one is, or that it leaves where it is refused
+  fresh-host : (r : Result Host Refusal) {d : Host} → d ≡ bare 0 0 0 → result_unwrap_or r d ≡ (made_of (bare 0 0 0) r).host
+  fresh-host (Ok h) e = refl
+  fresh-host (Err why) e = e
+
+  pub answered-nine : (r : Result Host Refusal) {d h : Host} {o : Outcome} → wrong all ≡ true
+      → made_of (bare 0 0 0) r ≡ freshed z (length disk) (length stage) → d ≡ bare 0 0 0 → h ≡ result_unwrap_or r d → o ≡ without Malformed h
       → leaves o disk stage input output ≡ answered z all disk stage input output
   unfolding answered
-  answered-nine w e q =
+  answered-nine r w e i u q =
       yes _ _ _ w
-      (ap (λ (x : Outcome). leaves x disk stage input output) q ∙ ap (λ (x : Made). ran 9 0 x.host disk stage input output) e)
+      (ap (λ (x : Outcome). leaves x disk stage input output) (q ∙ ap (without Malformed) (u ∙ fresh-host r i))
+      ∙ ap (λ (x : Made). ran 9 0 x.host disk stage input output) e)
 
   pub answered-run : {prices : Prices} {budget : ℕ} {ids head bytes : List ℕ} {x : Ran} → wrong all ≡ false → prices ≡ prices_in all → budget ≡ budget_in all
       → ids ≡ ids_bytes all → head ≡ head_bytes all → bytes ≡ data_bytes all → x ≡ run z prices budget ids head bytes disk stage input output

@@ -6,7 +6,7 @@ use Rattle.lists.proofs.Laws.Pick.{yes, no}
 use Rattle.host.specs.Calls.{answered, formed}
 use Rattle.bench_program.specs.Single.{formed_in_turn}
 use Rattle.host.specs.declared.Host.{Host}
-use Rattle.host.specs.declared.Made.{Made}
+use Rattle.host.specs.Calls.{Made}
 
 module _ (f : ℕ → List ℕ) (h : Host) (i n : ℕ) where
   -- the first refusal ends them

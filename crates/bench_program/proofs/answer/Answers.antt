@@ -18,7 +18,8 @@ lies c = within _ (passed (goal.at.After-head_end-end c).Else-wrong) c.ids_end-i
 
 pub returns-then-wrong : goal.returns-then-wrong
 returns-then-wrong c =
-    answered-nine _ _ _ _ _ _ (sym c.wrong.ensures ∙ c.if-wrong.true) c.fresh-fresh.ensures c.refused.ensures
+    answered-nine _ _ _ _ _ _ c.fresh-fresh.result (sym c.wrong.ensures ∙ c.if-wrong.true) c.fresh-fresh.ensures
+    c.unmade.ensures c.unwrap_or.ensures c.refused.ensures
 
 pub returns : goal.returns
 unfolding number_at

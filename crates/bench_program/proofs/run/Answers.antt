@@ -3,19 +3,15 @@ use Rattle.bench_program.proofs.Laws.Plays.{run-unmade, run-unformed, run-goes}
 use Rattle.bench_program.proofs.run.Goals as goal
 
 -- ---- the first refusal, or the program
-pub returns-then-fresh-ne0 : goal.returns-then-fresh-ne0
-returns-then-fresh-ne0 c =
-    let a = c.args in
-    run-unmade _ a.prices a.budget _ _ _ _ _ _ _ c.fresh-fresh.ensures c.refused.ensures c.if-fresh-ne0.true
+pub returns-in-Err : goal.returns-in-Err
+returns-in-Err c =
+    let a = c.args in run-unmade _ a.prices a.budget _ _ _ _ _ _ _ c.in-Err.why c.in-Err.ensures c.unmade.ensures c.refused.ensures
 
-pub returns-then-formed-ne0 : goal.returns-then-formed-ne0
-returns-then-formed-ne0 c =
+pub returns-in-Err-form_in_turn : goal.returns-in-Err-form_in_turn
+returns-in-Err-form_in_turn c =
     let a = c.args in
-    run-unformed _ a.prices a.budget _ _ _ _ _ _ _ c.fresh-fresh.ensures c.if-fresh-ne0.false c.form_in_turn-formed.ensures
-    c.refused-then-formed-ne0.ensures c.if-formed-ne0.true
+    run-unformed _ a.prices a.budget _ _ _ _ _ _ _ c.in-Ok.ensures c.in-Err-form_in_turn.why c.in-Err-form_in_turn.ensures c.refused-in-Err-form_in_turn.ensures
 
-pub returns : goal.returns
-returns c =
-    let a = c.args in
-    run-goes _ a.prices a.budget _ _ _ _ _ _ _ c.fresh-fresh.ensures c.if-fresh-ne0.false c.form_in_turn-formed.ensures
-    c.if-formed-ne0.false c.begin.ensures
+pub returns-in-Ok-form_in_turn : goal.returns-in-Ok-form_in_turn
+returns-in-Ok-form_in_turn c =
+    let a = c.args in run-goes _ a.prices a.budget _ _ _ _ _ _ _ c.in-Ok.ensures c.in-Ok-form_in_turn.ensures c.begin.ensures

@@ -29,14 +29,14 @@ unfolding right kept_root sector_root sector
 right_is z bytes roots n e q = ap₂ same e q
 
 module _ (z : ℕ) (bytes roots : List ℕ) where
-  pub one-beside : (l : List ℕ) (i : ℕ) {n : ℕ} → Beside z bytes roots l → i < length l → n ≡ get_or l i 0 → Beside z bytes roots (n ∷ [])
+  pub one-beside : (l : List ℕ) (i d : ℕ) {n : ℕ} → Beside z bytes roots l → i < length l → n ≡ get_or l i d → Beside z bytes roots (n ∷ [])
   unfolding every
-  one-beside l i b lt e = record {
+  one-beside l i d b lt e = record {
     size = b.size;
     many = b.many;
     within = b.within;
     rooted = b.rooted;
-    each = both-join _ _ (ap (slot_in_order b.many) e ∙ every_get (slot_in_order b.many) l i 0 lt b.each) refl;
+    each = both-join _ _ (ap (slot_in_order b.many) e ∙ every_get (slot_in_order b.many) l i d lt b.each) refl;
   }
 
   -- a slot that there is

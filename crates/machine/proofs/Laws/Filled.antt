@@ -1,6 +1,7 @@
 -- Slots in an array with zeros behind them: kept ones, new ones behind those, and the final slots. z is the sector size. Assumes nothing.
-use Rattle.lists.proofs.Kit.{◌≡◌, refl, sym, ap, ◌∙◌, true, false, List, [], ◌∷◌, ◌++◌, append_assoc, ℕ, zero, suc, ◌+◌, ◌-◌, ◌/◌, ◌≤◌, min, arith, length}
-use Rattle.lists.proofs.Kit.{◌*◌, get_or, eqb, take, length-take, length-append}
+use Rattle.lists.proofs.Kit.{◌≡◌, refl, sym, ap, ◌∙◌, Bool, true, false, List, [], ◌∷◌, ◌++◌, append_assoc, ℕ, zero, suc, ◌+◌, ◌-◌, ◌/◌, ◌≤◌, min, arith, length}
+use Rattle.lists.proofs.Kit.{◌*◌, get_or, eqb, take, drop, length-take, length-drop, length-append, append-nil, drop_of_length-le}
+use borrow.Rule.Slice.PartMut.{put_mid}
 use Rattle.lists.specs.Pick.{pick}
 use Rattle.lists.proofs.Laws.Pick.{by, picks, skips}
 use Rattle.area.specs.Area.{part, put, zeros}
@@ -33,6 +34,18 @@ put-behind (x ∷ l) new k h = cons x (put-behind l new k h)
 pub filled-first : (l : List ℕ) → length l ≤ 64 → put (zeros 64) 0 l ≡ filled l
 unfolding filled
 filled-first l h = put-zeros 64 l h
+
+-- zeros written over what lies behind the first n
+pub filled-behind : {zs : List ℕ} (slots : List ℕ) (n : ℕ) → length slots ≡ 64 → n ≤ 64 → zs ≡ zeros (length (take (64 - n) (drop n slots)))
+    → put_mid n (64 - n) slots zs ≡ filled (take n slots)
+unfolding filled
+filled-behind slots n l h e =
+    let k : length (take (64 - n) (drop n slots)) ≡ 64 - length (take n slots) =
+    omega (arith, l, length-take (64 - n) (drop n slots), length-drop n slots, length-take n slots) in
+    let rest : drop (64 - n) (drop n slots) ≡ [] = drop_of_length-le (drop n slots) {i = 64 - n} (omega (arith, l, length-drop n slots)) in
+    ap (put_mid n (64 - n) slots) (e ∙ ap (λ (m : ℕ). zeros m) k)
+    ∙ ap (λ (r : List ℕ). take n slots ++ (zeros (64 - length (take n slots)) ++ r)) rest
+    ∙ ap (λ (r : List ℕ). take n slots ++ r) (append-nil (zeros (64 - length (take n slots))))
 
 -- more slots behind them
 pub filled_more : (l new : List ℕ) → length l + length new ≤ 64 → put (filled l) (length l) new ≡ filled (l ++ new)
@@ -71,19 +84,20 @@ first-committed z p =
 -- ---- the final slots
 
 -- kept slots in front, new ones behind them
-joined-slots : {flags : List ℕ} (used keep : List ℕ) (disk n : ℕ) → disk ≤ 64 → n ≤ 64 → length keep ≤ 64 → flags ≡ marks_of used
+joined-slots : {flags : List Bool} (used keep : List ℕ) (disk n : ℕ) → disk ≤ 64 → n ≤ 64 → length keep ≤ 64 → flags ≡ marks_of used
     → put (filled keep) (length keep) (new_from disk flags (n - length keep)) ≡ filled (keep ++ new_slots disk used (n - length keep))
 joined-slots {flags} used keep disk n few most long e =
     filled_more keep (new_from disk flags (n - length keep)) (omega (arith, length-new disk flags (n - length keep)))
     ∙ ap (λ (l : List ℕ). filled (keep ++ l))
-    (ap (λ (l : List ℕ). new_from disk l (n - length keep)) e ∙ new_told disk (marks_of used) used (n - length keep) few (marks-told used))
+    (ap (λ (l : List Bool). new_from disk l (n - length keep)) e ∙ new_told disk (marks_of used) used (n - length keep) few (marks-told used))
 
 -- as the code makes them, from the place with its positions past the size freed
-pub final-made : {r flags keep used : List ℕ} {kept : Place} {n : ℕ} (z disk : ℕ) (ps : List Place) (p : Place) (size : ℕ) → disk ≤ 64 → size / z ≤ 64
+pub final-made : {r keep used : List ℕ} {flags : List Bool} {kept : Place} {n : ℕ} (z disk : ℕ) (ps : List Place) (p : Place) (size : ℕ)
+    → disk ≤ 64 → size / z ≤ 64
     → kept ≡ cut size p → n ≡ length (committed z kept) → n ≤ 64 → flags ≡ marks_of used → used ≡ taken z (replaced p.id kept ps)
     → keep ≡ filled (take n kept.slots) → r ≡ put keep n (new_from disk flags (size / z - n)) → r ≡ filled (final_slots z disk ps p size)
 unfolding final_slots
-final-made {r} {flags} {keep} {used} {kept} {n} z disk ps p size few most k c long f u h w =
+final-made {r} {keep} {used} {flags} {kept} {n} z disk ps p size few most k c long f u h w =
     let own : keep ≡ filled (committed z kept) = h ∙ ap (λ (m : ℕ). filled (take m kept.slots)) c ∙ ap filled (first-committed z kept) in
     w
     ∙ ap (λ (m : ℕ). put keep m (new_from disk flags (size / z - m))) c

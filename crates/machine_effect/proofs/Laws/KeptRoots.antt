@@ -1,5 +1,6 @@
 -- Roots laid beside slots, as the code does it: of one position, of Swap's two, of the one that growth adds. z is the sector size.
 -- Assumes nothing.
+use Rattle.std.specs.Prelude.{Result, Ok, is_ok, IsOk}
 use Rattle.lists.proofs.Kit.{◌≡◌, refl, sym, ap, ◌∙◌, List, [], ◌∷◌, ℕ, ◌+◌, ◌-◌, ◌*◌, ◌/◌, ◌≤◌, ◌<◌, arith, length, take, drop, get_or, ltb, eqb, ltb-true}
 use Rattle.lists.proofs.Kit.{eq-eqb, ne_eqb}
 use Rattle.lists.specs.Pick.{pick}
@@ -8,23 +9,29 @@ use Rattle.area.specs.Area.{part, put, zeros}
 use Rattle.area.specs.Slots.{Size}
 use Rattle.area.proofs.Laws.Parts.{part-is, length_part, part-whole}
 use Rattle.tree.specs.Tree.{root}
-use Rattle.tree.specs.Answers.{root_given, rooted}
-use Rattle.tree.specs.declared.Rooted.{Rooted}
+use Rattle.tree.specs.Answers.{root_of, root_given, rooted}
+use Rattle.tree.specs.declared.TreeError.{TreeError}
 use Rattle.tree.proofs.Promise.{roots, calls}
 use Rattle.host.specs.Empty.{none}
 use Rattle.machine_rules.specs.Effect.{Staging, rehashed}
 
 -- ---- the root of a sector's bytes: `tree::root` of whole segments
 
-module _ (r : Rooted) (z : ℕ) (a : List ℕ) (from : ℕ) (size : Size z) (inside : from + z ≤ length a)
+module _ (r : Result (List ℕ) TreeError) (z : ℕ) (a : List ℕ) (from : ℕ) (size : Size z) (inside : from + z ≤ length a)
     (given : root_given r ≡ rooted (take (from + z - from) (drop from a))) where
-  pub slot-root : r.root ≡ root (part a from z)
-  slot-root =
+  told : r ≡ Ok (root (part a from z))
+  told =
       calls.root_told r (part a from z) (given ∙ ap rooted (part-is a from z (from + z) refl))
       (omega (arith, length_part a from z inside, size.segments))
 
-  pub slot-root-long : 32 ≤ length r.root
-  slot-root-long = omega (arith, ap length slot-root ∙ roots.root-long (part a from z))
+  pub slot-ok : IsOk r
+  slot-ok = ap is_ok told
+
+  pub slot-root : {x : List ℕ} → r ≡ Ok x → x ≡ root (part a from z)
+  slot-root e = ap root_of (sym e ∙ told)
+
+  pub slot-root-long : {x : List ℕ} → r ≡ Ok x → 32 ≤ length x
+  slot-root-long e = omega (arith, ap length (slot-root e) ∙ roots.root-long (part a from z))
 
 -- ---- one position
 

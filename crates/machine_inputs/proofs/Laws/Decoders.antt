@@ -1,21 +1,21 @@
 -- What the decoders tell of one input: a key, a number, or data behind their count. Assumes nothing.
 use Rattle.lists.proofs.Kit.{◌≡◌, refl, sym, ap, ◌∙◌, Bool, true, false, List, ℕ, ◌-◌, ◌≤◌, length, take, length-take-le, leb-true, le-leb, eq-eqb, ne_eqb}
+use Rattle.std.specs.Prelude.{Option}
 use Rattle.lists.specs.Pick.{pick}
 use Rattle.lists.proofs.Laws.Pick.{yes, no, by, picks, skips, both-join, both_left, both-not-right}
 use Rattle.area.specs.Area.{part}
 use Rattle.area.specs.Little.{value_of}
 use Rattle.sia.specs.Number.{Decoded, decoded, number, number_given}
 use Rattle.machine_rules.specs.Inputs.{is_told, told, is_number, is_key, is_data}
-use Rattle.sia.specs.declared.Number.{Number}
 use Rattle.machine_inputs.specs.Given.{key_of, data_of}
-use Rattle.machine_inputs.specs.declared.Key.{Key}
+use Rattle.machine_inputs.specs.Given.{Key}
 
 -- an answer that says whether the test held
 pub tells-test : {A : Type 0} (told : A → Bool) (b : Bool) (x y : A) → told x ≡ true → told y ≡ false → told (pick b x y) ≡ b
 tells-test told b x y u v = by b (λ e. ap told (picks b x y e) ∙ u ∙ sym e) (λ e. ap told (skips b x y e) ∙ v ∙ sym e)
 
 -- what a decoder's answer stands for
-pub tells : {r x : Number} {d : Decoded} → number_given r ≡ d → r ≡ x → d ≡ number_given x
+pub tells : {r x : Option ℕ} {d : Decoded} → number_given r ≡ d → r ≡ x → d ≡ number_given x
 tells e q = sym e ∙ ap number_given q
 
 -- ---- keys

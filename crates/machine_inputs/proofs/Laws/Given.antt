@@ -22,8 +22,8 @@ use Rattle.machine_inputs.specs.Ends.{ends_past}
 use Rattle.machine_inputs.specs.Given.{input_at, one, two, three, key_of, data_of, malformed, given, data_from, from_of}
 use Rattle.machine_inputs.proofs.Laws.Decoders.{tells-test, key-told, key-bytes, number-told, number-value, data-told, data-value, data-long}
 use Rattle.machine_rules.specs.declared.Args.{Args}
-use Rattle.machine_inputs.specs.declared.Given.{Given}
-use Rattle.machine_inputs.specs.declared.Key.{Key}
+use Rattle.machine_inputs.specs.Given.{Given}
+use Rattle.machine_inputs.specs.Given.{Key}
 
 -- ---- all inputs
 
@@ -38,7 +38,8 @@ accepted op l from a e q = yes _ _ _ e (ap (λ (x : Args). record { told = true;
 
 module _ (area : List ℕ) (os : List Operand) (m n : ℕ) where
   pub read-accepted : (k : Key) → k ≡ key_of (input_at area os 0) → k.told ≡ true
-      → number (input_at area os 1) ≡ decoded 0 m → number (input_at area os 2) ≡ decoded 0 n
+      → number (input_at area os 1) ≡ decoded 0 m
+      → number (input_at area os 2) ≡ decoded 0 n
       → record { told = true; args = record { key = k.bytes; first = m; second = 0; len = n }; from = 0 } ≡ given Read (three area os) 0
   unfolding well_formed three args_of read_args
   read-accepted k e t p q =
@@ -49,7 +50,8 @@ module _ (area : List ℕ) (os : List Operand) (m n : ℕ) where
       accepted Read (three area os) 0 _ (both-join _ _ right (both-join _ _ (number-told _ m p) (number-told _ n q)))
       (λ i. record { key = one i; first = two i; second = 0; len = last i })
 
-  pub span-accepted : (k : ℕ) → number (input_at area os 0) ≡ decoded 0 k → number (input_at area os 1) ≡ decoded 0 m → number (input_at area os 2) ≡ decoded 0 n
+  pub span-accepted : (k : ℕ) → number (input_at area os 0) ≡ decoded 0 k → number (input_at area os 1) ≡ decoded 0 m
+      → number (input_at area os 2) ≡ decoded 0 n
       → record { told = true; args = record { key = zeros 32; first = k; second = m; len = n }; from = 0 } ≡ given Copy (three area os) 0
   unfolding well_formed three args_of span_args
   span-accepted k e p q =

@@ -1,5 +1,5 @@
 -- What is read: a walk down the definition of each lookup. Assumes nothing.
-use Rattle.lists.proofs.Kit.{◌≡◌, refl, sym, ap, ◌∙◌, subst, true, false, not, List, [], ◌∷◌, ℕ, ◌+◌, ◌*◌, ◌≤◌, arith, length, leb-true}
+use Rattle.lists.proofs.Kit.{◌≡◌, refl, sym, ap, ◌∙◌, true, false, not, List, [], ◌∷◌, ℕ, ◌+◌, ◌*◌, ◌≤◌, arith, length, leb-true}
 use Rattle.lists.specs.Pick.{pick}
 use Rattle.lists.specs.Tests.{every}
 use Rattle.lists.proofs.Laws.Pick.{yes, no, both_left}
@@ -10,31 +10,32 @@ use Rattle.machine_rules.specs.View.{read_only_mode, parent, parent_spots, commi
 use Rattle.machine_rules.specs.declared.Setting.{Setting}
 use Rattle.machine_rules.specs.Roots.{kept_root}
 use Rattle.machine_rules.specs.Seats.{seats, all_seats, seats_of, first_seat}
-use Rattle.machine_rules.specs.Plan.{missing, seen, spots, is_there, contract_source, sought_source, sector_source}
+use Rattle.machine_rules.specs.Plan.{Source, missing, seen, spots, is_there, contract_source, sought_source, sector_source}
 use Rattle.machine_rules.proofs.Laws.Spots.{program-every, sought-every}
-use Rattle.machine_rules.specs.Plan as Says
 use Rattle.machine_sight.specs.Seen.{spots_of, holds, lies}
 use Rattle.machine_sight.specs.Lookup.{Narrow}
 use Rattle.host.specs.declared.Progress.{Progress}
 use Rattle.machine_rules.specs.declared.Spot.{Spot}
 use Rattle.machine_rules.specs.declared.Spot.TheVariants.{OnDisk, InStage}
 use Rattle.machine_rules.specs.declared.Seat.{Seat}
-use Rattle.machine_rules.specs.declared.Sought.{Sought}
-use Rattle.machine_rules.specs.declared.Sought.TheVariants.{At, Nowhere}
+use Rattle.std.specs.Prelude.{Option, Some, None}
 use Rattle.machine_sight.specs.declared.Seen.{Seen}
-use Rattle.machine_plan.specs.Source.{Sources, Shows}
-use Rattle.machine_plan.specs.declared.Source.{Source}
+use Rattle.machine_plan.specs.Source.{Sources}
 
-pub shows-as : (r : Source) (x y : Says.Source) → x ≡ y → Shows r x → Shows r y
-shows-as r x y e h = subst (λ (f : Says.Source). Shows r f) e h
+-- ---- what is seen
 
-pub shows-seen : (v : Seen) (l : List Spot) → spots_of v ≡ l → Shows (record { there = true; seen = v }) (seen l)
-unfolding is_there spots
-shows-seen v l e = record { there = refl; sectors = e }
+module _ (v : Seen) (x : Source) (e : seen (spots_of v) ≡ x) where
+  pub there-is : not (is_there x) ≡ false
+  unfolding is_there
+  there-is = ap (λ (s : Source). not (is_there s)) (sym e)
 
-pub shows-missing : (v : Seen) → spots_of v ≡ [] → Shows (record { there = false; seen = v }) missing
-unfolding is_there spots
-shows-missing v e = record { there = refl; sectors = e }
+  pub spots-are : spots_of v ≡ spots x
+  unfolding spots
+  spots-are = ap spots e
+
+pub gone : (x : Source) → missing ≡ x → not (is_there x) ≡ true
+unfolding is_there
+gone x e = ap (λ (s : Source). not (is_there s)) (sym e)
 
 -- ---- contracts
 
@@ -71,26 +72,25 @@ module _ (s : Setting) (diskroots stageroots : List ℕ) (p : Progress) (a : Sou
   f = kept_root diskroots stageroots
 
   -- what the look-up comes to is the source
-  module _ {r : Sought} (e : r ≡ first_seat f key (pick (read_only_mode s.terms) (all_seats s.sector s.places)
+  module _ {r : Option Seat} (e : r ≡ first_seat f key (pick (read_only_mode s.terms) (all_seats s.sector s.places)
       (seats s.sector (has_id s.terms.head.contract) (parent_spots s p) s.places))) where
     source_is : sought_source r ≡ sector_source s f p key
     unfolding sector_source seats_of
     source_is = ap sought_source e
 
     -- and the sector that is found is in a slot that a byte names
-    pub sought-narrow : (x : Seat) → r ≡ At x → Narrow x.spot
+    pub sought-narrow : (x : Seat) → r ≡ Some x → Narrow x.spot
     unfolding sought_source spots every lies seats_of parent_spots parent
     sought-narrow x q =
         let all = program-every (lies 32 diskroots stageroots) s p a.seeks.own a.seeks.stand.slots in
         let one = sought-every (lies 32 diskroots stageroots) f key _ all in
         narrow diskroots stageroots x.spot a.disk a.stage
-        (both_left _ _ (sym (ap (λ (s : Sought). every (lies 32 diskroots stageroots) (spots (sought_source s))) (sym e ∙ q)) ∙ one))
+        (both_left _ _ (sym (ap (λ (s : Option Seat). every (lies 32 diskroots stageroots) (spots (sought_source s))) (sym e ∙ q)) ∙ one))
 
-    pub shows-sought : (v : Seen) (x : Seat) → r ≡ At x → spots_of v ≡ x.spot ∷ []
-        → Shows (record { there = true; seen = v }) (sector_source s f p key)
+    pub sought-seen : (v : Seen) (x : Seat) → r ≡ Some x → spots_of v ≡ x.spot ∷ [] → seen (spots_of v) ≡ sector_source s f p key
     unfolding sought_source
-    shows-sought v x q one = shows-as _ _ _ (sym (ap sought_source q) ∙ source_is) (shows-seen v _ one)
+    sought-seen v x q one = ap seen one ∙ sym (ap sought_source q) ∙ source_is
 
-    pub not-sought : (v : Source) → r ≡ Nowhere → Shows v missing → Shows v (sector_source s f p key)
+    pub not-sought : r ≡ None → missing ≡ sector_source s f p key
     unfolding sought_source
-    not-sought v q none = shows-as v _ _ (sym (ap sought_source q) ∙ source_is) none
+    not-sought q = sym (ap sought_source q) ∙ source_is

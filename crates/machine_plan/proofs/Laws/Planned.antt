@@ -1,7 +1,7 @@
 -- Walking down checks 21 to 25, and on to the plan. Assumes nothing.
 use Rattle.lists.proofs.Laws.Pick.{yes, no}
 use Rattle.machine_rules.specs.declared.Args.{Args}
-use Rattle.lists.proofs.Kit.{◌≡◌, refl, sym, ap, ◌∙◌, true, false, not, List, suc, ℕ, ◌≤◌, arith, eq-eqb, ne_eqb}
+use Rattle.lists.proofs.Kit.{◌≡◌, refl, ap, ◌∙◌, true, false, not, List, ℕ, ◌≤◌, arith, eq-eqb, ne_eqb}
 use Rattle.sia.specs.Names.{op_of}
 use Rattle.sia.proofs.Laws.Limits.{within-is}
 use Rattle.host.proofs.Laws.Order.{terms-facts}
@@ -16,7 +16,10 @@ use Rattle.host.specs.declared.Progress.{Progress}
 use Rattle.machine_rules.specs.declared.Spot.{Spot}
 use Rattle.machine_inputs.specs.Given.{from_of}
 use Rattle.machine_plan.specs.Planned.{says, failed, argued, plan_of}
-use Rattle.machine_rules.specs.declared.Plan.{Plan}
+use Rattle.machine_rules.specs.Plan.{Plan}
+use Rattle.machine_rules.specs.Failure.{failure_number}
+use Rattle.machine_rules.specs.declared.failure.Failure.{Failure}
+use Rattle.machine_rules.specs.declared.failure.Failure.TheVariants as Why
 
 -- ---- limits, from the facts of a machine in order
 
@@ -37,6 +40,21 @@ pub says-can : (w : Plan) (op : Op) (a : Args) (from : ℕ) (l : List Spot) → 
 unfolding says
 says-can w op a from l e = yes _ _ _ (eq-eqb _ _ e) refl
 
+-- no failure has the number 0
+pub counted : (e : Failure) → failure_number e ≡ 0 → ⊥
+counted Why.Interrupted h = absurd (omega arith)
+counted Why.IllFormed h = absurd (omega arith)
+counted Why.PastEnd h = absurd (omega arith)
+counted Why.Malformed h = absurd (omega arith)
+counted Why.ReadOnly h = absurd (omega arith)
+counted Why.NotFound h = absurd (omega arith)
+counted Why.BadSpan h = absurd (omega arith)
+counted Why.BadProof h = absurd (omega arith)
+counted Why.OverBudget h = absurd (omega arith)
+counted Why.NoStageSlot h = absurd (omega arith)
+counted Why.NoDisk h = absurd (omega arith)
+counted Why.NoOutput h = absurd (omega arith)
+
 -- the checks before those of the inputs
 pub argued-is : (s : Setting) (f : Spot → List ℕ) (p : Progress) (i : Instruction) (area : List ℕ) → ill_formed i ≡ false
     → past_end s.terms.head.length i ≡ false → well_formed (op_of i.name) (inputs_of i area) ≡ true
@@ -48,8 +66,7 @@ argued-is s f p i area formed within told =
     (no _ _ _ formed (no _ _ _ within (no _ _ _ (ap not told) refl)))
 
 -- a check that applies
-pub fails : (w r : Plan) (op : Op) (a : Args) (from : ℕ) (l : List Spot) (n : ℕ) → w ≡ refused (suc n) → refused (suc n) ≡ r → failed op w ≡ says r op a from l
+pub fails : (r : Plan) (op : Op) (a : Args) (from : ℕ) (l : List Spot) (e : Failure) → refused (failure_number e) ≡ r
+    → failed op (refused (failure_number e)) ≡ says r op a from l
 unfolding refused
-fails w r op a from l n e q =
-    says-failed w op a from l (λ u. let bad : suc n ≡ 0 = sym (ap (λ (x : Plan). x.number) e) ∙ u in absurd (omega (arith, bad)))
-    ∙ ap (λ (x : Plan). says x op a from l) (e ∙ q)
+fails r op a from l e q = says-failed _ op a from l (counted e) ∙ ap (λ (x : Plan). says x op a from l) q

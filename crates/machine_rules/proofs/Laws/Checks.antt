@@ -16,7 +16,7 @@ use Rattle.sia.specs.declared.Op.TheVariants.{Read, ReadSector, Write, Copy, Swa
 use Rattle.sia.specs.declared.Instruction.{Instruction}
 use Rattle.host.specs.declared.Progress.{Progress}
 use Rattle.machine_rules.specs.declared.Spot.{Spot}
-use Rattle.machine_rules.specs.declared.Plan.{Plan}
+use Rattle.machine_rules.specs.Plan.{Plan}
 use Rattle.machine_rules.proofs.Laws.Readers.{agree, first-agree}
 
 -- ---- checks

@@ -23,7 +23,7 @@ use Rattle.machine_rules.proofs.Laws.Steps.{runs-go, runs-stop}
 use Rattle.machine_rules.proofs.Laws.Areas.{runs-alike}
 use Rattle.sia.specs.declared.Instruction.{Instruction}
 use Rattle.host.specs.declared.Host.{Host}
-use Rattle.machine_rules.specs.declared.Answer.{Answer}
+use Rattle.machine_rules.specs.Calls.{Answer}
 
 -- ---- arrays keep their lengths
 

@@ -20,8 +20,8 @@ use Rattle.host.specs.declared.Place.{Place}
 use Rattle.host.specs.declared.Progress.{Progress}
 use Rattle.machine_rules.specs.declared.Spot.{Spot}
 use Rattle.machine_rules.specs.declared.Spot.TheVariants.{OnDisk}
-use Rattle.machine_rules.specs.declared.Sought.{Sought}
-use Rattle.machine_rules.specs.declared.Sought.TheVariants.{At, Nowhere}
+use Rattle.std.specs.Prelude.{Option, Some, None}
+use Rattle.machine_rules.specs.declared.Seat.{Seat}
 use Rattle.machine_rules.proofs.Laws.Spots.{pick-spots}
 
 -- ---- and there are at most 64 of them
@@ -37,10 +37,10 @@ few-committed z p e =
 pub few-whose : (z : ℕ) (id : List ℕ) (ps : List Place) → every (place_in_order z) ps ≡ true → length (committed z (whose id ps)) ≤ 64
 few-whose z id ps h = few-committed z (whose id ps) (whose-order z id ps h)
 
-few-sought : (r : Sought) → length (spots (sought_source r)) ≤ 1
+few-sought : (r : Option Seat) → length (spots (sought_source r)) ≤ 1
 unfolding sought_source spots
-few-sought (At x) = omega arith
-few-sought Nowhere = omega arith
+few-sought (Some x) = omega arith
+few-sought None = omega arith
 
 few-pick : (b : Bool) (l m : List Spot) → length l ≤ 64 → length m ≤ 64 → length (pick b l m) ≤ 64
 unfolding pick

@@ -9,48 +9,47 @@ use Rattle.machine_rules.specs.Plan.{Source, seen, is_there, spots, sought_sourc
 use Rattle.host.specs.declared.Progress.{Progress}
 use Rattle.machine_rules.specs.declared.Spot.{Spot}
 use Rattle.machine_rules.specs.declared.Seat.{Seat}
-use Rattle.machine_rules.specs.declared.Sought.{Sought}
-use Rattle.machine_rules.specs.declared.Sought.TheVariants.{At, Nowhere}
+use Rattle.std.specs.Prelude.{Option, Some, None}
 
 -- ---- found or not
 
-unfoldable is_at : Sought → Bool
-is_at (At x) = true
-is_at Nowhere = false
+unfoldable is_at : Option Seat → Bool
+is_at (Some x) = true
+is_at None = false
 
-unfoldable seat_in : Seat → Sought → Seat
-seat_in d (At x) = x
-seat_in d Nowhere = d
+unfoldable seat_in : Seat → Option Seat → Seat
+seat_in d (Some x) = x
+seat_in d None = d
 
-pub nowhere-at : {C : Type 0} {x : Seat} → Nowhere ≡ At x → C
+pub nowhere-at : {C : Type 0} {x : Seat} → None ≡ Some x → C
 unfolding is_at
 nowhere-at e = never (sym (ap is_at e))
 
-pub at_same : {x y : Seat} → At x ≡ At y → x ≡ y
+pub at_same : {x y : Seat} → Some x ≡ Some y → x ≡ y
 unfolding seat_in
 at_same {x} e = ap (seat_in x) e
 
-pub cases : {C : Type 0} (r : Sought) → ((x : Seat) → r ≡ At x → C) → (r ≡ Nowhere → C) → C
-cases (At x) f g = f x refl
-cases Nowhere f g = g refl
+pub cases : {C : Type 0} (r : Option Seat) → ((x : Seat) → r ≡ Some x → C) → (r ≡ None → C) → C
+cases (Some x) f g = f x refl
+cases None f g = g refl
 
 -- the one, or else the other
-unfoldable pub or_else : Sought → Sought → Sought
-or_else (At x) r = At x
-or_else Nowhere r = r
+unfoldable pub or_else : Option Seat → Option Seat → Option Seat
+or_else (Some x) r = Some x
+or_else None r = r
 
 -- ---- in any list
 
 module _ (f : Spot → List ℕ) (key : List ℕ) where
-  pub first-here : (x : Seat) (l : List Seat) → same (f x.spot) key ≡ true → first_seat f key (x ∷ l) ≡ At x
+  pub first-here : (x : Seat) (l : List Seat) → same (f x.spot) key ≡ true → first_seat f key (x ∷ l) ≡ Some x
   unfolding first_seat
-  first-here x l e = picks (same (f x.spot) key) (At x) (first_seat f key l) e
+  first-here x l e = picks (same (f x.spot) key) (Some x) (first_seat f key l) e
 
   pub first-further : (x : Seat) (l : List Seat) → same (f x.spot) key ≡ false → first_seat f key (x ∷ l) ≡ first_seat f key l
   unfolding first_seat
-  first-further x l e = skips (same (f x.spot) key) (At x) (first_seat f key l) e
+  first-further x l e = skips (same (f x.spot) key) (Some x) (first_seat f key l) e
 
-  pub first-none : first_seat f key [] ≡ Nowhere
+  pub first-none : first_seat f key [] ≡ None
   unfolding first_seat
   first-none = refl
 
@@ -60,11 +59,11 @@ module _ (f : Spot → List ℕ) (key : List ℕ) where
   first-both [] m = refl
   first-both (x ∷ l) m =
       by (same (f x.spot) key)
-      (λ e. first-here x (l ++ m) e ∙ ap (λ (r : Sought). or_else r (first_seat f key m)) (sym (first-here x l e)))
-      (λ e. first-further x (l ++ m) e ∙ first-both l m ∙ ap (λ (r : Sought). or_else r (first_seat f key m)) (sym (first-further x l e)))
+      (λ e. first-here x (l ++ m) e ∙ ap (λ (r : Option Seat). or_else r (first_seat f key m)) (sym (first-here x l e)))
+      (λ e. first-further x (l ++ m) e ∙ first-both l m ∙ ap (λ (r : Option Seat). or_else r (first_seat f key m)) (sym (first-further x l e)))
 
 -- "Contract ids and sector roots are compared on all 32 bytes."
-pub sought-root : (f : Spot → List ℕ) (key : List ℕ) (l : List Seat) (x : Seat) → first_seat f key l ≡ At x → f x.spot ≡ key
+pub sought-root : (f : Spot → List ℕ) (key : List ℕ) (l : List Seat) (x : Seat) → first_seat f key l ≡ Some x → f x.spot ≡ key
 sought-root f key [] x e = nowhere-at (sym (first-none f key) ∙ e)
 sought-root f key (y ∷ l) x e =
     by (same (f y.spot) key)

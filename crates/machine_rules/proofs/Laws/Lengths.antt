@@ -15,7 +15,7 @@ use Rattle.sia.specs.Encode.{joined}
 use Rattle.machine_rules.specs.View.{Way, kept, worked, Turn, sector, parent, committed_spots, Volume}
 use Rattle.machine_rules.specs.declared.Setting.{Setting}
 use Rattle.machine_rules.specs.Roots.{sector_root, kept_root, root_by, root_of, contract_root, range_proof, root_at, root_on_disk}
-use Rattle.machine_rules.specs.declared.Plan.{Plan}
+use Rattle.machine_rules.specs.Plan.{Plan}
 use Rattle.machine_rules.proofs.Laws.Passed.{Passed, can, asked-reads, asked-right, stepped-either}
 use Rattle.machine_rules.proofs.Laws.Worked.{proof-counted}
 use Rattle.machine_rules.proofs.Laws.Areas.{rehashed-length, effect-bytes}

@@ -27,8 +27,7 @@ use Rattle.host.specs.declared.Host.{Host}
 use Rattle.machine_rules.specs.declared.Spot.{Spot}
 use Rattle.machine_rules.specs.declared.Spot.TheVariants.{OnDisk}
 use Rattle.machine_rules.specs.declared.Seat.{Seat}
-use Rattle.machine_rules.specs.declared.Sought.{Sought}
-use Rattle.machine_rules.specs.declared.Sought.TheVariants.{At, Nowhere}
+use Rattle.std.specs.Prelude.{Option, Some, None}
 
 -- ---- document 01's look-up
 
@@ -61,14 +60,14 @@ sought-first f key (x ∷ l) =
 -- ---- an instruction of a program that is open
 
 -- the same answer finds the same
-pub same-finds : (q : Search) (f : Spot → List ℕ) (key : List ℕ) {r s : Sought} → r ≡ s → Finds q f key r → Finds q f key s
+pub same-finds : (q : Search) (f : Spot → List ℕ) (key : List ℕ) {r s : Option Seat} → r ≡ s → Finds q f key r → Finds q f key s
 same-finds q f key e h = subst (Finds q f key) e h
 
 module _ (s : Setting) (f : Spot → List ℕ) (p : Progress) (key : List ℕ) where
   abbrev id : List ℕ
   id = s.terms.head.contract
 
-  abbrev pub found : Sought
+  abbrev pub found : Option Seat
   found = first_seat f key (seats_of s p)
 
   seats-reading : read_only_mode s.terms ≡ true → seats_of s p ≡ committed_seats s.sector nobody 0 s.places
@@ -125,10 +124,10 @@ module _ (s : Setting) (f : Spot → List ℕ) (p : Progress) (key : List ℕ) w
       has : same (f written.spot) key ≡ true
       has = eq-same _ _ root
 
-      is_found_lem : found ≡ Nowhere → ⊥
+      is_found_lem : found ≡ None → ⊥
       is_found_lem q = never (sym has ∙ look-writing.nowhere q written written-sits)
 
-      module _ (x : Seat) (q : found ≡ At x) where
+      module _ (x : Seat) (q : found ≡ Some x) where
         -- nothing that has the root is searched before what is found
         not_earlier : earlier (writing s p) written x ≡ true → ⊥
         not_earlier b = never (sym has ∙ (look-writing.found x q).first written written-sits b)
@@ -152,7 +151,8 @@ module _ (s : Setting) (f : Spot → List ℕ) (p : Progress) (key : List ℕ) w
   pub looks-in : apart twins s.places ≡ true → (read_only_mode s.terms ≡ false → (whose id s.places).held ≡ true) → Looks s f p key
   looks-in a held = record {
     writer = λ e. look-writing a (held e) e;
-    written = λ e j below root. (is_found_lem a (held e) e j below root, λ x q. (in-parent a (held e) e j below root x q, not-later a (held e) e j below root x q));
+    written = λ e j below root.
+        (is_found_lem a (held e) e j below root, λ x q. (in-parent a (held e) e j below root x q, not-later a (held e) e j below root x q));
     reader = all-reading;
     unchanged = look-reading;
   }

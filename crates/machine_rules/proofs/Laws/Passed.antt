@@ -17,7 +17,7 @@ use Rattle.sia.specs.declared.Instruction.{Instruction}
 use Rattle.host.specs.declared.Progress.{Progress}
 use Rattle.machine_rules.specs.declared.Setting.{Setting}
 use Rattle.machine_rules.specs.declared.Args.{Args}
-use Rattle.machine_rules.specs.declared.Plan.{Plan}
+use Rattle.machine_rules.specs.Plan.{Plan}
 use Rattle.machine_rules.specs.declared.Spot.{Spot}
 
 -- ---- the checks

@@ -32,8 +32,7 @@ use Rattle.host.specs.declared.Progress.{Progress}
 use Rattle.machine_rules.specs.declared.Spot.{Spot}
 use Rattle.machine_rules.specs.declared.Spot.TheVariants.{OnDisk, InStage}
 use Rattle.machine_rules.specs.declared.Seat.{Seat}
-use Rattle.machine_rules.specs.declared.Sought.{Sought}
-use Rattle.machine_rules.specs.declared.Sought.TheVariants.{At}
+use Rattle.std.specs.Prelude.{Option, Some}
 
 -- ---- readers that agree
 
@@ -55,14 +54,15 @@ pub proof-agree : (z : ℕ) (f g : Spot → List ℕ) (disk stage : List ℕ) (l
 unfolding range_proof
 proof-agree z f g disk stage [] at n h = refl
 proof-agree z f g disk stage (x ∷ xs) at n h =
-    ap (λ (r : List ℕ). proof_in r (at / z) (sector z disk stage (get_or (x ∷ xs) (at / z) x)) (at % z / 64) (at % z / 64 + n / 64)) (joined-agree f g (x ∷ xs) h)
+    ap (λ (r : List ℕ). proof_in r (at / z) (sector z disk stage (get_or (x ∷ xs) (at / z) x)) (at % z / 64) (at % z / 64 + n / 64))
+    (joined-agree f g (x ∷ xs) h)
 
 pub first-agree : (f g : Spot → List ℕ) (key : List ℕ) (l : List Seat) → every (λ x. agree f g x.spot) l ≡ true
     → first_seat f key l ≡ first_seat g key l
 unfolding first_seat every agree
 first-agree f g key [] h = refl
 first-agree f g key (x ∷ xs) h =
-    ap₂ (λ (r : List ℕ) (rest : Sought). pick (same r key) (At x) rest) (same-eq _ _ (both_left _ _ h)) (first-agree f g key xs (both_right _ _ h))
+    ap₂ (λ (r : List ℕ) (rest : Option Seat). pick (same r key) (Some x) rest) (same-eq _ _ (both_left _ _ h)) (first-agree f g key xs (both_right _ _ h))
 
 -- ---- what holds of every sector in use holds of all that is seen
 

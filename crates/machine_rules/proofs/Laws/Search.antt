@@ -15,7 +15,7 @@ use Rattle.machine_rules.proofs.Laws.Sought.{There, committed-at, committed-none
 use Rattle.host.specs.declared.Place.{Place}
 use Rattle.machine_rules.specs.declared.Spot.{Spot}
 use Rattle.machine_rules.specs.declared.Seat.{Seat}
-use Rattle.machine_rules.specs.declared.Sought.{Sought}
+use Rattle.std.specs.Prelude.{Option}
 use Rattle.machine_rules.proofs.Laws.Earlier.{Apart, no-sectors, past_end_lem, in-one-place, before-mine, before-other}
 
 module _ (q : Search) (f : Spot → List ℕ) (key : List ℕ) (apt : Apart q) where
@@ -29,10 +29,10 @@ module _ (q : Search) (f : Spot → List ℕ) (key : List ℕ) (apt : Apart q) w
   abbrev home : ℕ
   home = first_of q.mine q.places
 
-  abbrev fore : Sought
+  abbrev fore : Option Seat
   fore = first_seat f key (seated home 0 q.own)
 
-  abbrev aft : Sought
+  abbrev aft : Option Seat
   aft = first_seat f key (committed_seats z q.mine 0 q.places)
 
   mine-at : (i : ℕ) → is_mine q i ≡ true → sectors_at q i ≡ q.own
@@ -134,15 +134,15 @@ module _ (q : Search) (f : Spot → List ℕ) (key : List ℕ) (apt : Apart q) w
       let whole = first-both f key (seated home 0 q.own) (committed_seats z q.mine 0 q.places) in
       record {
         found = λ x e. cases fore
-            (λ y u. let here = seated-at f key home 0 q.own x (u ∙ sym (ap (λ (r : Sought). or_else r aft) u) ∙ sym whole ∙ e) in
+            (λ y u. let here = seated-at f key home 0 q.own x (u ∙ sym (ap (λ (r : Option Seat). or_else r aft) u) ∙ sym whole ∙ e) in
             record { sits = mine-sits x here; root = sought-root f key _ x e; first = mine-first x here })
             (λ u. let none = seated-none f key home 0 q.own u in
-            let there = committed-at f key z q.mine 0 q.places x (sym (ap (λ (r : Sought). or_else r aft) u) ∙ sym whole ∙ e) in
+            let there = committed-at f key z q.mine 0 q.places x (sym (ap (λ (r : Option Seat). or_else r aft) u) ∙ sym whole ∙ e) in
             record { sits = other-sits x none there; root = sought-root f key _ x e; first = other-first x none there });
         nowhere = λ e y s. cases fore
-            (λ x u. nowhere-at (sym e ∙ whole ∙ ap (λ (r : Sought). or_else r aft) u))
+            (λ x u. nowhere-at (sym e ∙ whole ∙ ap (λ (r : Option Seat). or_else r aft) u))
             (λ u. by (is_mine q y.place)
             (λ v. misses-in y s (mine-at y.place v) (seated-none f key home 0 q.own u))
             (λ v. misses-in y s (other_at y.place v)
-            (committed-none f key z q.mine 0 q.places (sym (ap (λ (r : Sought). or_else r aft) u) ∙ sym whole ∙ e) y.place (there-is y s v) v)));
+            (committed-none f key z q.mine 0 q.places (sym (ap (λ (r : Option Seat). or_else r aft) u) ∙ sym whole ∙ e) y.place (there-is y s v) v)));
       }

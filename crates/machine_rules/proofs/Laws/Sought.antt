@@ -10,8 +10,7 @@ use Rattle.host.specs.declared.Place.{Place}
 use Rattle.machine_rules.specs.declared.Spot.{Spot}
 use Rattle.machine_rules.specs.declared.Spot.TheVariants.{OnDisk}
 use Rattle.machine_rules.specs.declared.Seat.{Seat}
-use Rattle.machine_rules.specs.declared.Sought.{Sought}
-use Rattle.machine_rules.specs.declared.Sought.TheVariants.{At, Nowhere}
+use Rattle.std.specs.Prelude.{Option, Some, None}
 use Rattle.machine_rules.proofs.Laws.Found.{nowhere-at, at_same, cases, or_else, first-here, first-further, first-none, first-both}
 
 -- ---- among the sectors of one place
@@ -30,7 +29,7 @@ module _ (f : Spot → List ℕ) (key : List ℕ) where
     pub below : k < length l
     pub before : (j : ℕ) → j < k → Misses l j
 
-  pub seated-at : (i at : ℕ) (l : List Spot) (x : Seat) → first_seat f key (seated i at l) ≡ At x → Here i at l x
+  pub seated-at : (i at : ℕ) (l : List Spot) (x : Seat) → first_seat f key (seated i at l) ≡ Some x → Here i at l x
   unfolding seated
   seated-at i at [] x e = nowhere-at (sym (first-none f key) ∙ e)
   seated-at i at (y ∷ l) x e =
@@ -54,7 +53,7 @@ module _ (f : Spot → List ℕ) (key : List ℕ) where
       missed y l t k g zero h = t
       missed y l t k g (suc j) h = g j (omega arith)
 
-  pub seated-none : (i at : ℕ) (l : List Spot) → first_seat f key (seated i at l) ≡ Nowhere → (j : ℕ) → j < length l → Misses l j
+  pub seated-none : (i at : ℕ) (l : List Spot) → first_seat f key (seated i at l) ≡ None → (j : ℕ) → j < length l → Misses l j
   unfolding seated
   seated-none i at [] e j h = absurd (omega arith)
   seated-none i at (y ∷ l) e zero h =
@@ -99,7 +98,7 @@ module _ (f : Spot → List ℕ) (key : List ℕ) (z : ℕ) (mine : Place → Bo
         past = next p ps t.m first t.past;
       }
 
-  abbrev own : ℕ → Place → Sought
+  abbrev own : ℕ → Place → Option Seat
   own i p = first_seat f key (pick (mine p) [] (seated i 0 (committed_spots z p)))
 
   -- one place and those behind it
@@ -108,24 +107,24 @@ module _ (f : Spot → List ℕ) (key : List ℕ) (z : ℕ) (mine : Place → Bo
   unfolding committed_seats
   one_more i p ps = first-both f key (pick (mine p) [] (seated i 0 (committed_spots z p))) (committed_seats z mine (suc i) ps)
 
-  own_at : (i : ℕ) (p : Place) (x : Seat) → own i p ≡ At x → (mine p ≡ false) × Here f key i 0 (committed_spots z p) x
+  own_at : (i : ℕ) (p : Place) (x : Seat) → own i p ≡ Some x → (mine p ≡ false) × Here f key i 0 (committed_spots z p) x
   own_at i p x e =
       by (mine p)
       (λ t. nowhere-at (sym (ap (first_seat f key) (picks (mine p) [] (seated i 0 (committed_spots z p)) t) ∙ first-none f key) ∙ e))
       (λ t. (t, seated-at f key i 0 (committed_spots z p) x (sym (ap (first_seat f key) (skips (mine p) [] (seated i 0 (committed_spots z p)) t)) ∙ e)))
 
-  own-none : (i : ℕ) (p : Place) (ps : List Place) → own i p ≡ Nowhere → Passed (p ∷ ps) 0
+  own-none : (i : ℕ) (p : Place) (ps : List Place) → own i p ≡ None → Passed (p ∷ ps) 0
   own-none i p ps e t j h =
       seated-none f key i 0 (committed_spots z p) (sym (ap (first_seat f key) (skips (mine p) [] (seated i 0 (committed_spots z p)) t)) ∙ e) j h
 
-  pub committed-at : (i : ℕ) (ps : List Place) (x : Seat) → first_seat f key (committed_seats z mine i ps) ≡ At x → There i ps x
+  pub committed-at : (i : ℕ) (ps : List Place) (x : Seat) → first_seat f key (committed_seats z mine i ps) ≡ Some x → There i ps x
   unfolding committed_seats or_else
   committed-at i [] x e = nowhere-at (sym (first-none f key) ∙ e)
   committed-at i (p ∷ ps) x e =
       let rest = first_seat f key (committed_seats z mine (suc i) ps) in
       let r = sym (one_more i p ps) ∙ e in
       cases (own i p)
-      (λ y q. let found = own_at i p x (q ∙ sym (ap (λ (o : Sought). or_else o rest) q) ∙ r) in
+      (λ y q. let found = own_at i p x (q ∙ sym (ap (λ (o : Option Seat). or_else o rest) q) ∙ r) in
       let here : i ≡ i + 0 = omega arith in
       record {
         m = 0;
@@ -134,15 +133,15 @@ module _ (f : Spot → List ℕ) (key : List ℕ) (z : ℕ) (mine : Place → Bo
         here = subst (λ (n : ℕ). Here f key n 0 (committed_spots z p) x) here found.1;
         past = λ n h. absurd (omega arith);
       })
-      (λ q. further i p ps x (own-none i p ps q) (committed-at (suc i) ps x (sym (ap (λ (o : Sought). or_else o rest) q) ∙ r)))
+      (λ q. further i p ps x (own-none i p ps q) (committed-at (suc i) ps x (sym (ap (λ (o : Option Seat). or_else o rest) q) ∙ r)))
 
-  pub committed-none : (i : ℕ) (ps : List Place) → first_seat f key (committed_seats z mine i ps) ≡ Nowhere → (n : ℕ) → n < length ps → Passed ps n
+  pub committed-none : (i : ℕ) (ps : List Place) → first_seat f key (committed_seats z mine i ps) ≡ None → (n : ℕ) → n < length ps → Passed ps n
   unfolding committed_seats or_else
   committed-none i [] e n h = absurd (omega arith)
   committed-none i (p ∷ ps) e n h =
       let rest = first_seat f key (committed_seats z mine (suc i) ps) in
       let r = sym (one_more i p ps) ∙ e in
       cases (own i p)
-      (λ y q. nowhere-at (sym r ∙ ap (λ (o : Sought). or_else o rest) q))
+      (λ y q. nowhere-at (sym r ∙ ap (λ (o : Option Seat). or_else o rest) q))
       (λ q. next p ps (length ps) (own-none i p ps q)
-      (λ k l. committed-none (suc i) ps (sym (ap (λ (o : Sought). or_else o rest) q) ∙ r) k l) n h)
+      (λ k l. committed-none (suc i) ps (sym (ap (λ (o : Option Seat). or_else o rest) q) ∙ r) k l) n h)

@@ -27,7 +27,7 @@ use Rattle.host.specs.declared.Progress.{Progress}
 use Rattle.machine_rules.specs.declared.Spot.{Spot}
 use Rattle.machine_rules.specs.declared.Spot.TheVariants.{OnDisk, InStage}
 use Rattle.machine_rules.specs.declared.Seat.{Seat}
-use Rattle.machine_rules.specs.declared.Sought.TheVariants.{At}
+use Rattle.std.specs.Prelude.{Some}
 
 -- ---- spots are slots that there are
 
@@ -104,8 +104,8 @@ unfolding first_seat sought_source spots every
 sought-every P f key [] h = refl
 sought-every P f key (x ∷ xs) h =
     by (same (f x.spot) key)
-    (λ e. rw (picks (same (f x.spot) key) (At x) (first_seat f key xs) e) (both-join _ _ (both_left _ _ h) refl))
-    (λ e. rw (skips (same (f x.spot) key) (At x) (first_seat f key xs) e) (sought-every P f key xs (both_right _ _ h)))
+    (λ e. rw (picks (same (f x.spot) key) (Some x) (first_seat f key xs) e) (both-join _ _ (both_left _ _ h) refl))
+    (λ e. rw (skips (same (f x.spot) key) (Some x) (first_seat f key xs) e) (sought-every P f key xs (both_right _ _ h)))
 
 none-valid : (s : Setting) → every (valid s) [] ≡ true
 unfolding every

@@ -7,7 +7,7 @@ use Rattle.sia.specs.Decode.{Reading, value, fault, after, bytes, limited, instr
 use Rattle.sia.proofs.Laws.Honest.{read-of}
 use Rattle.sia.specs.declared.Head.{Head}
 use Rattle.sia.specs.declared.Instruction.{Instruction}
-use Rattle.sia.specs.declared.Told.{Told}
+use Rattle.sia.specs.Decode.{Told}
 
 -- the same head of another contract
 abbrev pub head_of : List ℕ → Head → Head

@@ -18,7 +18,7 @@ use Rattle.sia.specs.declared.Head.{Head}
 use Rattle.host.specs.declared.Place.{Place}
 use Rattle.host.specs.declared.Prices.{Prices}
 use Rattle.host.specs.declared.Host.{Host}
-use Rattle.machine_rules.specs.declared.Answer.{Answer}
+use Rattle.machine_rules.specs.Calls.{Answer}
 use Rattle.host.proofs.Renaming.Contracts.{active-as, whose-places}
 
 module _ (r : List ℕ → List ℕ) (new : Renaming r) where

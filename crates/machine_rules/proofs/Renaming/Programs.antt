@@ -25,7 +25,7 @@ use Rattle.machine_rules.proofs.Laws.Refusals.{past}
 use Rattle.host.specs.declared.Terms.{Terms}
 use Rattle.host.specs.declared.Host.{Host}
 use Rattle.machine_rules.specs.declared.Seat.{Seat}
-use Rattle.machine_rules.specs.declared.Reached.{Reached}
+use Rattle.machine_rules.specs.Calls.{Reached}
 
 -- the same answer
 abbrev still : Reached → Reached

@@ -20,7 +20,7 @@ use Rattle.sia.specs.declared.Op.{Op}
 use Rattle.sia.specs.declared.Op.TheVariants.{Read, ReadSector, Write, Copy, Swap, Truncate, Unknown}
 use Rattle.sia.specs.declared.Instruction.{Instruction}
 use Rattle.host.specs.declared.Progress.{Progress}
-use Rattle.machine_rules.specs.declared.Plan.{Plan}
+use Rattle.machine_rules.specs.Plan.{Plan}
 use Rattle.machine_rules.specs.declared.Spot.{Spot}
 use Rattle.machine_rules.proofs.Renaming.Sight.{setting_as, parent-as, starting-as, running-as}
 use Rattle.machine_rules.proofs.Renaming.Inputs.{with_key, touched-key, effect-key, output-key, key_as, source-as, well-as, args-as, data-as}

@@ -24,9 +24,9 @@ use Rattle.machine_rules.proofs.Sound.Parts.{sound-order, sound-disk}
 use Rattle.host.specs.declared.Host.{Host}
 use Rattle.host.specs.declared.Place.{Place}
 use Rattle.host.specs.declared.Prices.{Prices}
-use Rattle.host.specs.declared.Made.{Made}
+use Rattle.host.specs.Calls.{Made}
 use Rattle.sia.specs.declared.Head.{Head}
-use Rattle.machine_rules.specs.declared.Answer.{Answer}
+use Rattle.machine_rules.specs.Calls.{Answer}
 
 -- ---- the calls that look at no root
 

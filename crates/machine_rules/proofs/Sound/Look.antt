@@ -23,7 +23,8 @@ use Rattle.machine_rules.proofs.Sound.Parts.{sound-order, sound-disk, sound-stag
 use Rattle.host.specs.declared.Host.{Host}
 use Rattle.machine_rules.specs.declared.Spot.{Spot}
 use Rattle.machine_rules.specs.declared.Spot.TheVariants.{OnDisk}
-use Rattle.machine_rules.specs.declared.Sought.{Sought}
+use Rattle.std.specs.Prelude.{Option}
+use Rattle.machine_rules.specs.declared.Seat.{Seat}
 
 module _ (h : Host) (disk stage : List ℕ) (s : Sound h disk stage) where
   abbrev z : ℕ
@@ -75,4 +76,5 @@ module _ (h : Host) (disk stage : List ℕ) (s : Sound h disk stage) where
   pub located-alike : (key : List ℕ) → located_by kept disk h stage key ≡ located_by worked disk h stage key
   unfolding located_by
   located-alike key =
-      ap (λ (r : Sought). pick (not (in_order h)) (not_located 1) (located_at r)) (first-agree (roots_by kept) (roots_by worked) key (seats_in h) seats-known)
+      ap (λ (r : Option Seat). pick (not (in_order h)) (not_located 1) (located_at r))
+      (first-agree (roots_by kept) (roots_by worked) key (seats_in h) seats-known)

@@ -19,7 +19,7 @@ use Rattle.machine_rules.specs.Record.{pair_of, starting_pair, running_pair, rec
 use Rattle.machine_rules.specs.Run.{failed_progress, failing, ran_progress, succeeding, stepped, going, run, turned}
 use Rattle.machine_rules.specs.Facts.{Good, Solid}
 use Rattle.machine_rules.specs.Sound.{right, staged_right}
-use Rattle.machine_rules.specs.declared.Plan.{Plan}
+use Rattle.machine_rules.specs.Plan.{Plan}
 use Rattle.machine_rules.proofs.Laws.Passed.{plan_fine, Passed, can, stepped-ran, stepped-failed, stepped-either}
 use Rattle.machine_rules.proofs.Laws.Steps.{not-failed, left-going}
 use Rattle.machine_rules.proofs.Laws.Copies.{few-sectors}
@@ -96,7 +96,8 @@ module _ (s : Setting) (vol : Volume) (t : Turn) (solid : Solid s (with_way kept
 
   -- what is read is read with roots that are right
   source-after : (op : Op) (a : Args) (d : List ℕ) (r : Spot → List ℕ) (key : List ℕ)
-      → every (agree (root_of s (with_way kept vol) (after op a d).bytes (copies op a d)) (root_of s (with_way worked vol) (after op a d).bytes (copies op a d)))
+      → every (agree (root_of s (with_way kept vol) (after op a d).bytes (copies op a d))
+      (root_of s (with_way worked vol) (after op a d).bytes (copies op a d)))
       (spots (source_of s r t.progress op key)) ≡ true
   unfolding after copies effect touched rehashed with_way spots source_of
   source-after Read a d r key =

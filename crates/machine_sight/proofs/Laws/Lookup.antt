@@ -24,22 +24,21 @@ use Rattle.machine_sight.specs.Seen.{spots_of, holds, lies, Known}
 use Rattle.host.specs.declared.Place.{Place}
 use Rattle.machine_rules.specs.declared.Spot.{Spot}
 use Rattle.machine_rules.specs.declared.Seat.{Seat}
-use Rattle.machine_rules.specs.declared.Sought.{Sought}
-use Rattle.machine_rules.specs.declared.Sought.TheVariants.{At, Nowhere}
+use Rattle.std.specs.Prelude.{Option, Some, None, is_some}
 use Rattle.machine_sight.specs.declared.Seen.{Seen}
-use Rattle.machine_sight.specs.Lookup.{is_found, Stands, Stand, own_spots, Seeks}
+use Rattle.machine_sight.specs.Lookup.{Stands, Stand, own_spots, Seeks}
 
 -- ---- found here, or else behind
 
-pub found_first : (r s : Sought) → is_found r ≡ true → r ≡ or_else r s
-unfolding is_found or_else
-found_first (At x) s e = refl
-found_first Nowhere s e = never (sym e)
+pub found_first : (r s : Option Seat) → is_some r ≡ true → r ≡ or_else r s
+unfolding or_else
+found_first (Some x) s e = refl
+found_first None s e = never (sym e)
 
-pub found-second : (r s : Sought) → is_found r ≡ false → s ≡ or_else r s
-unfolding is_found or_else
-found-second (At x) s e = never e
-found-second Nowhere s e = refl
+pub found-second : (r s : Option Seat) → is_some r ≡ false → s ≡ or_else r s
+unfolding or_else
+found-second (Some x) s e = never e
+found-second None s e = refl
 
 -- ---- positions: i and those behind it are left, of n
 
@@ -57,7 +56,7 @@ module _ (f : Spot → List ℕ) (key : List ℕ) (place : ℕ) (g : ℕ → Spo
   abbrev here : Seat
   here = record { place = place; position = i; spot = g i }
 
-  pub position_here : i < n → same (f (g i)) key ≡ true → At here ≡ first_seat f key behind
+  pub position_here : i < n → same (f (g i)) key ≡ true → Some here ≡ first_seat f key behind
   unfolding seated tab
   position_here h e = sym (ap (first_seat f key) (one_left h) ∙ first-here f key here (seated place (suc i) (tab (suc i) (n - (i + 1)) g)) e)
 
@@ -69,7 +68,7 @@ module _ (f : Spot → List ℕ) (key : List ℕ) (place : ℕ) (g : ℕ → Spo
       ∙ first-further f key here (seated place (suc i) (tab (suc i) (n - (i + 1)) g)) e
       ∙ ap (λ (k : ℕ). first_seat f key (seated place k (tab k (n - (i + 1)) g))) (sym (add-one i))
 
-  pub position-none : n ≤ i → Nowhere ≡ first_seat f key behind
+  pub position-none : n ≤ i → None ≡ first_seat f key behind
   unfolding seated tab
   position-none h =
       let q : n - i ≡ 0 = omega arith in
@@ -91,37 +90,38 @@ module _ (f : Spot → List ℕ) (key : List ℕ) (z : ℕ) (out : Place → Boo
       ∙ ap (λ (k : ℕ). first_seat f key (own ++ committed_seats z out k (slice (i + 1) n l))) (sym (add-one i))
       ∙ first-both f key own (committed_seats z out (i + 1) (slice (i + 1) n l))
 
-  module _ {r : Sought} (e : r ≡ first_seat f key own) where
-    pub place_here : i < n → is_found r ≡ true → r ≡ first_seat f key left
-    place_here h q = found_first r _ q ∙ ap (λ (s : Sought). or_else s (first_seat f key (committed_seats z out (i + 1) (slice (i + 1) n l)))) e ∙ sym (left_is h)
+  module _ {r : Option Seat} (e : r ≡ first_seat f key own) where
+    pub place_here : i < n → is_some r ≡ true → r ≡ first_seat f key left
+    place_here h q =
+        found_first r _ q ∙ ap (λ (s : Option Seat). or_else s (first_seat f key (committed_seats z out (i + 1) (slice (i + 1) n l)))) e ∙ sym (left_is h)
 
-    pub place-further : i < n → is_found r ≡ false → first_seat f key left ≡ first_seat f key (committed_seats z out (i + 1) (slice (i + 1) n l))
+    pub place-further : i < n → is_some r ≡ false → first_seat f key left ≡ first_seat f key (committed_seats z out (i + 1) (slice (i + 1) n l))
     place-further h q =
-        left_is h ∙ sym (found-second r _ q ∙ ap (λ (s : Sought). or_else s (first_seat f key (committed_seats z out (i + 1) (slice (i + 1) n l)))) e)
+        left_is h ∙ sym (found-second r _ q ∙ ap (λ (s : Option Seat). or_else s (first_seat f key (committed_seats z out (i + 1) (slice (i + 1) n l)))) e)
 
-  pub place_none : n ≤ i → Nowhere ≡ first_seat f key left
+  pub place_none : n ≤ i → None ≡ first_seat f key left
   unfolding committed_seats
   place_none h = sym (ap (λ (m : List Place). first_seat f key (committed_seats z out i m)) (slice-none l i n h) ∙ first-none f key)
 
 -- ---- the sectors of one place, and then the others
 
 module _ (f : Spot → List ℕ) (key : List ℕ) (z : ℕ) (mine : Place → Bool) (own : List Spot) (ps : List Place) where
-  abbrev first : Sought
+  abbrev first : Option Seat
   first = first_seat f key (seated (first_of mine ps) 0 own)
 
-  abbrev rest : Sought
+  abbrev rest : Option Seat
   rest = first_seat f key (committed_seats z mine 0 ps)
 
   whole : first_seat f key (seats z mine own ps) ≡ or_else first rest
   unfolding seats
   whole = first-both f key (seated (first_of mine ps) 0 own) (committed_seats z mine 0 ps)
 
-  module _ {r : Sought} (e : r ≡ first) where
-    pub own-found : is_found r ≡ true → r ≡ first_seat f key (seats z mine own ps)
-    own-found q = found_first r rest q ∙ ap (λ (x : Sought). or_else x rest) e ∙ sym whole
+  module _ {r : Option Seat} (e : r ≡ first) where
+    pub own-found : is_some r ≡ true → r ≡ first_seat f key (seats z mine own ps)
+    own-found q = found_first r rest q ∙ ap (λ (x : Option Seat). or_else x rest) e ∙ sym whole
 
-    pub other-found : is_found r ≡ false → {s : Sought} → s ≡ rest → s ≡ first_seat f key (seats z mine own ps)
-    other-found q d = d ∙ found-second r rest q ∙ ap (λ (x : Sought). or_else x rest) e ∙ sym whole
+    pub other-found : is_some r ≡ false → {s : Option Seat} → s ≡ rest → s ≡ first_seat f key (seats z mine own ps)
+    other-found q d = d ∙ found-second r rest q ∙ ap (λ (x : Option Seat). or_else x rest) e ∙ sym whole
 
 -- ---- what is asked of one place, from what is asked of all
 

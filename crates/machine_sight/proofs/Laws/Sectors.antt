@@ -29,30 +29,28 @@ module _ (slots staged : List ℕ) (at n : ℕ) (long : length staged ≡ n) (h 
 
 -- ---- the bytes of a sector
 
-module _ (z : ℕ) (disk stage : List ℕ) {x : Spot} (n : ℕ) where
-  pub on-disk : x ≡ OnDisk n → lies z disk stage x ≡ true → n * z + z ≤ length disk
-  unfolding lies holds
-  on-disk e h = leb-true _ _ (ap (lies z disk stage) (sym e) ∙ h)
-
-  pub in-stage : x ≡ InStage n → lies z disk stage x ≡ true → n * z + z ≤ length stage
-  unfolding lies holds
-  in-stage e h = leb-true _ _ (ap (lies z disk stage) (sym e) ∙ h)
-
 -- slot n of an area, as code cuts it
-abbrev cut : ℕ → List ℕ → ℕ → List ℕ
-cut z l n = take (n * z + z - n * z) (drop (n * z) l)
+pub cut-is : (z : ℕ) (l : List ℕ) (n : ℕ) → n * z + z ≤ length l
+    → (take (n * z + z - n * z) (drop (n * z) l) ≡ part l (n * z) z) × (length (take (n * z + z - n * z) (drop (n * z) l)) ≡ z)
+cut-is z l n h = let e = part-is l (n * z) z (n * z + z) refl in (e, ap length e ∙ length_part l (n * z) z h)
 
-cut-is : (z : ℕ) (l : List ℕ) (n : ℕ) {y : List ℕ} → part l (n * z) z ≡ y → n * z + z ≤ length l → (cut z l n ≡ y) × (length (cut z l n) ≡ z)
-cut-is z l n q h = let e = part-is l (n * z) z (n * z + z) refl in (e ∙ q, ap length e ∙ length_part l (n * z) z h)
+-- the slot of a sector that lies within its area
+module _ (z : ℕ) (disk stage : List ℕ) {x : Spot} (n : ℕ) where
+  pub on-disk : x ≡ OnDisk n → lies z disk stage x ≡ true → holds z disk n ≡ true
+  unfolding lies
+  on-disk e h = ap (lies z disk stage) (sym e) ∙ h
 
-module _ (z : ℕ) (disk stage : List ℕ) (x : Spot) (n : ℕ) where
-  pub disk-sector : x ≡ OnDisk n → lies z disk stage x ≡ true → (cut z disk n ≡ sector z disk stage x) × (length (cut z disk n) ≡ z)
+  pub in-stage : x ≡ InStage n → lies z disk stage x ≡ true → holds z stage n ≡ true
+  unfolding lies
+  in-stage e h = ap (lies z disk stage) (sym e) ∙ h
+
+  pub disk-sector : x ≡ OnDisk n → part disk (n * z) z ≡ sector z disk stage x
   unfolding sector
-  disk-sector e h = cut-is z disk n (ap (sector z disk stage) (sym e)) (on-disk z disk stage n e h)
+  disk-sector e = ap (sector z disk stage) (sym e)
 
-  pub stage-sector : x ≡ InStage n → lies z disk stage x ≡ true → (cut z stage n ≡ sector z disk stage x) × (length (cut z stage n) ≡ z)
+  pub stage-sector : x ≡ InStage n → part stage (n * z) z ≡ sector z disk stage x
   unfolding sector
-  stage-sector e h = cut-is z stage n (ap (sector z disk stage) (sym e)) (in-stage z disk stage n e h)
+  stage-sector e = ap (sector z disk stage) (sym e)
 
 -- the bytes of a sector that lies within its area
 pub sector-long : (z : ℕ) (disk stage : List ℕ) (x : Spot) → lies z disk stage x ≡ true → length (sector z disk stage x) ≡ z

@@ -35,10 +35,11 @@ use Rattle.machine_step.proofs.Laws.Read.{few-read, read-valid, inside, ranged}
 use Rattle.sia.specs.declared.Instruction.{Instruction}
 use Rattle.host.specs.declared.Place.{Place}
 use Rattle.host.specs.declared.Progress.{Progress}
-use Rattle.machine_rules.specs.declared.Plan.{Plan}
+use Rattle.machine_rules.specs.Plan.{Plan}
 use Rattle.machine_rules.specs.declared.Setting.{Setting}
 use Rattle.machine_rules.specs.declared.Spot.{Spot}
 use Rattle.machine_plan.specs.declared.Task.{Task}
+use Rattle.machine_rules.specs.Failure.{plan_made}
 
 module _ (s : Setting) (vol : Volume) (t : Turn) (input : List ℕ) (i : Instruction) (r : Task) (x : Tasked s vol t input i r) where
   pub fit : Fits s vol t input i (said r)
@@ -53,7 +54,7 @@ module _ (s : Setting) (vol : Volume) (t : Turn) (input : List ℕ) (i : Instruc
   roots = rehashed s.sector after (touched s.sector t.progress.size r.op r.args) t.roots
 
   abbrev pub next : Progress
-  next = ran_progress t.progress r.plan after.staged
+  next = ran_progress t.progress (plan_made r.plan) after.staged
 
   -- ---- the effect
 
@@ -107,8 +108,8 @@ module _ (s : Setting) (vol : Volume) (t : Turn) (input : List ℕ) (i : Instruc
       (not-failed s t p.going) (left-going s t p.going).1
       (subst (λ (w : Plan). Passed s (root_at s vol t) t.progress r.op r.args w.count) fit.plan fit.passed) p.good)
 
-  pub next-is : {y : Staging} {g : Progress} → y ≡ after → g ≡ ran_progress t.progress r.plan y.staged → g ≡ next
-  next-is e p = p ∙ ap (λ (y : Staging). ran_progress t.progress r.plan y.staged) e
+  pub next-is : {y : Staging} {g : Progress} → y ≡ after → g ≡ ran_progress t.progress (plan_made r.plan) y.staged → g ≡ next
+  next-is e p = p ∙ ap (λ (y : Staging). ran_progress t.progress (plan_made r.plan) y.staged) e
 
   pub read-asks : {q : Place} {l : List ℕ} {g : Progress} → q ≡ parent s → l ≡ roots → g ≡ next → Reads s.sector vol.roots l q g
   read-asks {q} {l} {g} own k p =

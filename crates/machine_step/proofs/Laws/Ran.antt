@@ -26,6 +26,7 @@ use Rattle.host.specs.declared.Progress.{Progress}
 use Rattle.machine_rules.specs.declared.Setting.{Setting}
 use Rattle.machine_rules.specs.declared.Spot.{Spot}
 use Rattle.machine_plan.specs.declared.Task.{Task}
+use Rattle.machine_rules.specs.Failure.{plan_made}
 
 module _ (s : Setting) (vol : Volume) (t : Turn) (input : List ℕ) (i : Instruction) (r : Task) (x : Tasked s vol t input i r) where
   abbrev stage : Staging
@@ -59,7 +60,7 @@ module _ (s : Setting) (vol : Volume) (t : Turn) (input : List ℕ) (i : Instruc
       (pick rd r.args.len 0) (shown_bytes s.sector rd vol.disk y.bytes r.seen r.args.first r.args.len)
 
   record_is : laid (parent s) stage all ahead (reads r.op)
-      ≡ success_bytes s vol (root_of s vol stage.bytes all) r.plan ahead i.proof (spots_of r.seen) r.op r.args stage.bytes
+      ≡ success_bytes s vol (root_of s vol stage.bytes all) (plan_made r.plan) ahead i.proof (spots_of r.seen) r.op r.args stage.bytes
   unfolding success_bytes running_pair parent_spots shown_proof output_count ran_progress
   record_is =
       ap₂ (λ (f : Spot → List ℕ) (bs : List ℕ). record_bytes 0 r.plan.cost
@@ -70,7 +71,7 @@ module _ (s : Setting) (vol : Volume) (t : Turn) (input : List ℕ) (i : Instruc
   -- ---- the turn
 
   pub ran-is : {q : Place} {y : Staging} {l root out : List ℕ} {g : Progress} {rd : Bool} → q ≡ parent s → y ≡ stage → l ≡ all
-      → g ≡ ran_progress t.progress r.plan y.staged
+      → g ≡ ran_progress t.progress (plan_made r.plan) y.staged
       → root ≡ contract_root (kept_root vol.roots l) (tab 0 (g.size / s.sector) (spot_of q.slots g.staged)) → rd ≡ reads r.op
       → out ≡ put t.output t.progress.written (record_bytes 0 r.plan.cost (pairing r.plan.size root) r.plan.hashes
       (shown_proof s.sector i.proof (kept_root vol.roots l) vol.disk y.bytes r.seen r.args.first r.args.len)
@@ -78,7 +79,7 @@ module _ (s : Setting) (vol : Volume) (t : Turn) (input : List ℕ) (i : Instruc
       → turn g y.bytes out l ≡ stepped_turn s vol i input t
   unfolding turned succeeding after roots
   ran-is {q} {y} {l} {root} {out} {g} {rd} own e k p at b o =
-      let same : g ≡ ahead = p ∙ ap (λ (y : Staging). ran_progress t.progress r.plan y.staged) e in
+      let same : g ≡ ahead = p ∙ ap (λ (y : Staging). ran_progress t.progress (plan_made r.plan) y.staged) e in
       let bytes : laid q y l g rd ≡ laid (parent s) stage all ahead (reads r.op) = λ j. laid (own j) (e j) (k j) (same j) (b j) in
       (λ j. turn (same j) (e j).bytes
       ((o ∙ ap (λ (w : List ℕ). put t.output t.progress.written (record_bytes 0 r.plan.cost (pairing r.plan.size w) r.plan.hashes

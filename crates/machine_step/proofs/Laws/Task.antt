@@ -27,7 +27,7 @@ use Rattle.sia.specs.declared.Instruction.{Instruction}
 use Rattle.sia.specs.declared.Op.{Op}
 use Rattle.sia.specs.declared.Op.TheVariants.{Write}
 use Rattle.machine_rules.specs.declared.Args.{Args}
-use Rattle.machine_rules.specs.declared.Plan.{Plan}
+use Rattle.machine_rules.specs.Plan.{Plan}
 use Rattle.machine_rules.specs.declared.Setting.{Setting}
 use Rattle.machine_rules.specs.declared.Spot.{Spot}
 use Rattle.machine_plan.specs.declared.Task.{Task}
@@ -63,7 +63,7 @@ module _ (s : Setting) (vol : Volume) (t : Turn) (input : List ℕ) (i : Instruc
     pub steps : stepped s vol i (inputs_of i input) t
         ≡ succeeding s vol y.plan i.proof y.sectors y.op y.args (part input y.from y.args.len) t
 
-  plan-is : (r : Task) → said r ≡ plan_of s (root_at s vol t) t.progress i input
+  plan-is : (r : Said) → r ≡ plan_of s (root_at s vol t) t.progress i input
       → r.plan ≡ planned s (root_at s vol t) t.progress i (inputs_of i input)
   unfolding plan_of says failed
   plan-is r e =
@@ -73,7 +73,7 @@ module _ (s : Setting) (vol : Volume) (t : Turn) (input : List ℕ) (i : Instruc
       (λ u. ap (λ (y : Said). y.plan) (picks (eqb w.number 0) _ _ u))
       (λ u. ap (λ (y : Said). y.plan) (skips (eqb w.number 0) _ _ u))
 
-  pub number_is : (r : Task) → said r ≡ plan_of s (root_at s vol t) t.progress i input
+  pub number_is : (r : Said) → r ≡ plan_of s (root_at s vol t) t.progress i input
       → r.plan.number ≡ judged s (root_at s vol t) t.progress i (inputs_of i input)
   unfolding judged
   number_is r e = ap (λ (w : Plan). w.number) (plan-is r e)
@@ -134,7 +134,7 @@ module _ (s : Setting) (vol : Volume) (t : Turn) (input : List ℕ) (i : Instruc
 -- a task
 pub fits : (s : Setting) (vol : Volume) (t : Turn) (input : List ℕ) (i : Instruction) (r : Task) → Tasked s vol t input i r → Fits s vol t input i (said r)
 fits s vol t input i r x =
-    let zero = sym (number_is s vol t input i r x.told) ∙ x.zero in
+    let zero = sym (number_is s vol t input i (said r) x.told) in
     subst (Fits s vol t input i) (sym (x.told ∙ says_is s vol t input i x.operands x.steps.input zero))
     (done-fits s vol t input i x.operands x.steps.input zero)
 

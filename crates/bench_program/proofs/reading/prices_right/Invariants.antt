@@ -8,6 +8,3 @@ use Rattle.bench_program.proofs.reading.prices_right.Given as goal
 
 abbrev pub invariant-loop-i : goal.invariant-loop-i
 invariant-loop-i l = prices_right l.all ≡ every (λ n. leb n 65535) (tab l.i (7 - l.i) (λ k. number_at l.all (8 + k * 8)))
-
-abbrev pub decreases-loop-i : goal.decreases-loop-i
-decreases-loop-i l = 7 - l.i

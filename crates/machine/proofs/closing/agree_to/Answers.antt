@@ -1,4 +1,5 @@
 -- `machine::closing::agree_to` meets its contract: nothing changed, or the pair named is the running one, or the changes are dropped. Assumes nothing.
+use Rattle.std.proofs.Common.{Ok}
 use Rattle.lists.proofs.Kit.{◌≡◌, refl, sym, ap, ap₂, ◌∙◌}
 use Rattle.lists.proofs.Laws.Pick.{yes, no}
 use Rattle.machine_rules.specs.View.{setting_of, volume_of}
@@ -8,7 +9,7 @@ use Rattle.machine_rules.specs.Commit.{given_up, agreed_by}
 use Rattle.machine_rules.specs.declared.Pair.{Pair}
 use Rattle.machine_step.proofs.Laws.Hosts.{starting-any, running-any}
 use Rattle.machine.specs.Closes.{close_leaves}
-use Rattle.machine.specs.declared.closing.Closing.{Closing}
+use Rattle.machine.specs.declared.answers.Closing.{Closing}
 use Rattle.machine.proofs.closing.agree_to.Goals as goal
 use Rattle.machine.proofs.closing.agree_to.Goals.{After-running_pair-running, After-same_pair, After-same_pair-2, After-starting_pair-starting, Start}
 
@@ -28,29 +29,35 @@ reached : (c : After-running_pair-running) → c.running_pair-running.result ≡
 reached c = let a = c.args in c.running_pair-running.ensures ∙ running-any a.host a.disk.now a.stage.now
 
 same-1 : (c : After-same_pair) → same_pair (running (goal.at.After-same_pair c).Start) (starting (goal.at.After-same_pair c).Start) ≡ c.same_pair.result
-same-1 c = sym (c.same_pair.ensures ∙ ap₂ same_pair (reached (goal.at.After-same_pair c).After-running_pair-running) (started (goal.at.After-same_pair c).After-starting_pair-starting))
+same-1 c =
+    let at = goal.at.After-same_pair c in
+    sym (c.same_pair.ensures ∙ ap₂ same_pair (reached at.After-running_pair-running) (started at.After-starting_pair-starting))
 
 same-2 : (c : After-same_pair-2) → same_pair c.args.named (running (goal.at.After-same_pair-2 c).Start) ≡ c.same_pair-2.result
-same-2 c = sym (c.same_pair-2.ensures ∙ ap (same_pair c.args.named) (reached (goal.at.After-same_pair-2 c).After-running_pair-running))
+same-2 c =
+    let at = goal.at.After-same_pair-2 c in sym (c.same_pair-2.ensures ∙ ap (same_pair c.args.named) (reached at.After-running_pair-running))
 
 -- ---- the rules
 pub returns-then-same_pair : goal.returns-then-same_pair
 unfolding agreed_by given_up
 returns-then-same_pair c =
-    let disk = c.args.disk.now in
-    ap (λ (r : Closing). close_leaves r disk) c.give_up.ensures ∙ yes _ _ _ (same-1 (goal.at.returns-then-same_pair c).After-same_pair ∙ c.if-same_pair.true) refl
+    let disk = c.args.disk.now in let at = goal.at.returns-then-same_pair c in
+    ap (λ (r : Closing). close_leaves c.args.host (Ok r) disk) c.give_up.ensures ∙ yes _ _ _ (same-1 at.After-same_pair ∙ c.if-same_pair.true) refl
 
 pub returns-then-not-same_pair : goal.returns-then-not-same_pair
 unfolding agreed_by given_up
 returns-then-not-same_pair c =
-    let disk = c.args.disk.now in
-    ap (λ (r : Closing). close_leaves r disk) c.give_up-then-not-same_pair.ensures
-    ∙ no _ _ _ (same-1 (goal.at.returns-then-not-same_pair c).After-same_pair ∙ c.if-same_pair.false) (no _ _ _ (same-2 (goal.at.returns-then-not-same_pair c).After-same_pair-2 ∙ c.if-not-same_pair.true) refl)
+    let disk = c.args.disk.now in let at = goal.at.returns-then-not-same_pair c in
+    ap (λ (r : Closing). close_leaves c.args.host (Ok r) disk) c.give_up-then-not-same_pair.ensures
+    ∙ no _ _ _ (same-1 at.After-same_pair ∙ c.if-same_pair.false)
+    (no _ _ _ (same-2 at.After-same_pair-2 ∙ c.if-not-same_pair.true) refl)
 
 pub returns : goal.returns
 unfolding agreed_by
 returns c =
-    no _ _ _ (same-1 (goal.at.returns c).After-same_pair ∙ c.if-same_pair.false) (yes _ _ _ (same-2 (goal.at.returns c).After-same_pair-2 ∙ c.if-not-same_pair.false) c.commit.ensures)
+    let at = goal.at.returns c in
+    no _ _ _ (same-1 at.After-same_pair ∙ c.if-same_pair.false)
+    (yes _ _ _ (same-2 at.After-same_pair-2 ∙ c.if-not-same_pair.false) c.commit.ensures)
 
 pub starting_pair-starting-requires : goal.starting_pair-starting-requires
 starting_pair-starting-requires c = c.requires.order

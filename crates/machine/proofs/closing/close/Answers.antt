@@ -1,54 +1,47 @@
 -- `machine::closing::close` meets its contract: refused, given up, not ended, or what the pairs say. Assumes nothing.
-use Rattle.lists.proofs.Kit.{◌≡◌, sym, ap, ◌∙◌, ℕ, not}
+use Rattle.std.proofs.Common.{rules, Ok, Err}
+use Rattle.lists.proofs.Kit.{◌≡◌, refl, sym, ap, not}
 use lib.IntN.{pos}
 use Rattle.lists.proofs.Laws.Pick.{yes, no}
+use Rattle.host.proofs.Laws.Refusals.{number-not}
 use Rattle.machine_rules.specs.View.{disk_right, areas_right}
-use Rattle.machine_rules.specs.Calls.{refusal}
-use Rattle.machine_rules.specs.Commit.{Closed, closed, given_up, close_by}
-use Rattle.machine_rules.proofs.Laws.Refusals.{Past, past-zero}
+use Rattle.machine_rules.specs.Commit.{closed, given_up, close_by}
+use Rattle.machine_rules.proofs.Laws.Refusals.{past-zero}
 use Rattle.machine.specs.Closes.{close_leaves}
-use Rattle.machine.specs.declared.closing.Closing.{Closing}
 use Rattle.machine.proofs.Laws.Hosts.{refusal-told, stops, goes_on}
 use Rattle.machine.proofs.closing.close.Goals as goal
-use Rattle.machine.proofs.closing.close.Goals.{After-refusal-number, Else-number-ne0, Start}
 
-abbrev leaves : Start → Closing → Closed
-leaves s r = close_leaves r s.args.disk.now
-
--- ---- what the tests told
-number : (c : After-refusal-number) → let a = c.args in c.refusal-number.result ≡ refusal a.host (areas_right a.host a.disk.now a.stage.now)
-unfolding areas_right disk_right
-number c = refusal-told c.args.host c.refusal-number.ensures c.in_order-ordered.ensures c.areas_right-lent.ensures
-
-past : (c : Else-number-ne0) → let a = c.args in Past a.host (areas_right a.host a.disk.now a.stage.now)
-past c = past-zero _ _ (sym (number (goal.at.Else-number-ne0 c).After-refusal-number) ∙ c.if-number-ne0.false)
-
--- ---- the rules
-pub returns-then-number-ne0 : goal.returns-then-number-ne0
-unfolding close_by
-returns-then-number-ne0 c =
-    stops (λ (n : ℕ). closed n 0 (pos 0) c.args.host c.args.disk.now) _ (number (goal.at.returns-then-number-ne0 c).After-refusal-number) c.if-number-ne0.true
-    (ap (leaves (goal.at.returns-then-number-ne0 c).Start) c.refused.ensures)
+pub returns-in_err-refusal : goal.returns-in_err-refusal
+unfolding close_by areas_right disk_right
+returns-in_err-refusal c =
+    let a = c.args in
+    let why = c.in_err-refusal.field-0.0 in
+    let is : c.from_residual.result ≡ Err why = search rules in
+    stops (λ n. closed n 0 (pos 0) a.host a.disk.now) _
+    (refusal-told a.host c.in_err-refusal.ensures c.in_order-ordered.ensures c.areas_right-lent.ensures)
+    (number-not why) (ap (λ r. close_leaves a.host r a.disk.now) is)
 
 pub returns-then-not-agree : goal.returns-then-not-agree
-unfolding close_by given_up
+unfolding close_by given_up areas_right disk_right
 returns-then-not-agree c =
-    goes_on _ _ (number (goal.at.returns-then-not-agree c).After-refusal-number) c.if-number-ne0.false
-    (yes _ _ _ (ap not c.if-not-agree.true) (ap (leaves (goal.at.returns-then-not-agree c).Start) c.give_up.ensures))
+    goes_on _ _ (refusal-told c.args.host c.in_ok-refusal.ensures c.in_order-ordered.ensures c.areas_right-lent.ensures) refl
+    (yes _ _ _ (ap not c.if-not-agree.true) (ap (λ r. close_leaves c.args.host (Ok r) c.args.disk.now) c.give_up.ensures))
 
 pub returns-then-unfinished : goal.returns-then-unfinished
-unfolding close_by
+unfolding close_by areas_right disk_right
 returns-then-unfinished c =
-    goes_on _ _ (number (goal.at.returns-then-unfinished c).After-refusal-number) c.if-number-ne0.false (no _ _ _ (ap not c.if-not-agree.false)
-    (yes _ _ _ (sym c.unfinished.ensures ∙ c.if-unfinished.true) (ap (leaves (goal.at.returns-then-unfinished c).Start) c.refused-then-unfinished.ensures)))
+    goes_on _ _ (refusal-told c.args.host c.in_ok-refusal.ensures c.in_order-ordered.ensures c.areas_right-lent.ensures) refl
+    (no _ _ _ (ap not c.if-not-agree.false) (yes _ _ _ (sym c.if-unfinished.ensures) refl))
 
 pub agree_to-requires : goal.agree_to-requires
+unfolding areas_right disk_right
 agree_to-requires c =
-    let p = past (goal.at.agree_to-requires c).Else-number-ne0 in
+    let p = past-zero c.args.host _
+    (sym (refusal-told c.args.host c.in_ok-refusal.ensures c.in_order-ordered.ensures c.areas_right-lent.ensures)) in
     record { order = p.order; areas = p.areas; live = p.live }
 
 pub returns : goal.returns
-unfolding close_by
+unfolding close_by areas_right disk_right
 returns c =
-    goes_on _ _ (number (goal.at.returns c).After-refusal-number) c.if-number-ne0.false (no _ _ _ (ap not c.if-not-agree.false)
-    (no _ _ _ (sym c.unfinished.ensures ∙ c.if-unfinished.false) c.agree_to.ensures))
+    goes_on _ _ (refusal-told c.args.host c.in_ok-refusal.ensures c.in_order-ordered.ensures c.areas_right-lent.ensures) refl
+    (no _ _ _ (ap not c.if-not-agree.false) (no _ _ _ (sym c.if-unfinished.ensures) c.agree_to.ensures))

@@ -1,20 +1,15 @@
--- `machine::commit::marked` meets its contract. The loop's invariant: the first i slots that are listed have marks. Assumes nothing.
-use Rattle.lists.proofs.Kit.{refl, sym, ◌∙◌, arith}
-use Rattle.host.proofs.Laws.Lengths.{listing}
+-- `machine::commit::marked` meets its contract. The loop's invariant: the slots that are left to mark. Assumes nothing.
+use Rattle.lists.proofs.Kit.{sym, ap, ◌∙◌, ℕ, true, arith, set}
 use Rattle.machine.proofs.Laws.Marks.{marks-are}
 use Rattle.machine.proofs.Laws.Turns.{mark-one, mark-done}
 use Rattle.machine.proofs.commit.marked.Goals as goal
 
-pub loop-i-preserved : goal.loop-i-preserved
-loop-i-preserved c =
-    let l = c.loop-i in
-    let n = listing c.args.all _ c.well_formed.0 in
-    (omega arith, l.invariant.1 ∙ mark-one l.flags c.args.all.items l.i c.args.all.count n (omega arith) c.requires c.mark-next.ensures)
+pub loop-slot-preserved : goal.loop-slot-preserved
+loop-slot-preserved c =
+    let l = c.loop-slot in
+    l.invariant ∙ mark-one l.taken _ l.slot-index c.loop-slot-test.true (c.mark.ensures ∙ ap (λ (x : ℕ). set l.taken x true) c.from.ensures)
 
 pub returns : goal.returns
 returns c =
-    let l = c.loop-i in
-    sym (l.invariant.1 ∙ mark-done l.flags c.args.all.items l.i c.args.all.count (omega arith)) ∙ marks-are _
-
-pub loop-i-init : goal.loop-i-init
-loop-i-init c = (omega arith, refl)
+    let l = c.loop-slot in
+    sym (l.invariant ∙ mark-done l.taken _ l.slot-index (omega arith)) ∙ marks-are _

@@ -1,10 +1,7 @@
--- `machine::commit::marked` meets its contract. The loop's invariant: the first i slots that are listed have marks. Assumes nothing.
-use Rattle.lists.proofs.Kit.{◌≡◌, ◌-◌, ◌≤◌, take, slice}
+-- `machine::commit::marked` meets its contract. The loop's invariant: the slots that are left to mark. Assumes nothing.
+use Rattle.lists.proofs.Kit.{◌≡◌, drop}
 use Rattle.machine.proofs.Laws.Marks.{marks}
 use Rattle.machine.proofs.commit.marked.Given as goal
 
-abbrev pub invariant-loop-i : goal.invariant-loop-i
-invariant-loop-i l = (l.i ≤ l.count) × (marks l.initial.flags (take l.count l.items) ≡ marks l.flags (slice l.i l.count l.items))
-
-abbrev pub decreases-loop-i : goal.decreases-loop-i
-decreases-loop-i l = l.count - l.i
+abbrev pub invariant-loop-slot : goal.invariant-loop-slot
+invariant-loop-slot l = marks l.initial.taken l.slots ≡ marks l.taken (drop l.slot-index l.slots)

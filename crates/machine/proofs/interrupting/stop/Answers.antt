@@ -30,4 +30,6 @@ returns c =
     let e = c.fail-failed.ensures in
     let out : Setting → List ℕ = λ x. put a.output.now a.host.program.progress.written (failure_bytes x (volume [] a.host.diskroots) 20) in
     let left : Progress → List ℕ → Interrupted = λ p o. interrupted 0 p.tally (with_run a.host a.host.program.came p a.host.stageroots) o in
-    ap₂ left e.0 (e.1 ∙ ap out c.setting_of-setting.ensures)
+    let wrote : ℕ → List ℕ =
+    λ n. put a.output.now a.host.program.progress.written (failure_bytes c.setting_of-setting.result (volume [] a.host.diskroots) n) in
+    ap₂ left e.0 (e.1 ∙ ap wrote c.number-number.ensures ∙ ap out c.setting_of-setting.ensures)

@@ -1,5 +1,5 @@
 -- `locate` meets its contract: a walk down the definition. Assumes nothing.
-use Rattle.lists.proofs.Kit.{◌≡◌, sym, ap, ◌∙◌, true, not}
+use Rattle.lists.proofs.Kit.{◌≡◌, refl, sym, ap, ◌∙◌, true, not}
 use Rattle.lists.proofs.Laws.Pick.{yes, no}
 use Rattle.host.specs.Order.{in_order}
 use Rattle.machine_rules.specs.View.{volume_by}
@@ -13,7 +13,7 @@ in_order_lem c = sym c.in_order.ensures ∙ c.if-not-in_order.false
 
 pub returns-then-not-in_order : goal.returns-then-not-in_order
 unfolding located_by
-returns-then-not-in_order c = yes _ _ _ (ap not (sym c.in_order.ensures ∙ c.if-not-in_order.true)) c.not_located.ensures
+returns-then-not-in_order c = yes _ _ _ (ap not (sym c.in_order.ensures ∙ c.if-not-in_order.true)) refl
 
 pub returns : goal.returns
 unfolding located_by root_of root_by volume_by

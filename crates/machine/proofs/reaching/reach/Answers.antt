@@ -1,22 +1,20 @@
 -- `machine::reaching::reach` meets its contract: the starting pair after a failure, else the running one. Assumes nothing.
-use Rattle.lists.proofs.Kit.{refl, ap, ◌∙◌, []}
+use Rattle.lists.proofs.Kit.{refl, ◌∙◌, []}
 use Rattle.lists.proofs.Laws.Pick.{yes, no}
-use Rattle.machine_rules.specs.Calls.{reached_at, reached_pair_by}
+use Rattle.machine_rules.specs.Calls.{reached_pair_by}
 use Rattle.machine_step.proofs.Laws.Hosts.{running-any}
 use Rattle.machine.proofs.reaching.reach.Goals as goal
 
-pub returns-then-progress : goal.returns-then-progress
+pub returns-then-host : goal.returns-then-host
 unfolding reached_pair_by
-returns-then-progress c = ap (reached_at 0) (c.starting_pair-starting.ensures ∙ yes _ _ _ c.if-progress.true refl)
+returns-then-host c = c.starting_pair.ensures ∙ yes _ _ _ c.if-host.true refl
 
 pub returns : goal.returns
 unfolding reached_pair_by
-returns c =
-    let h = c.args.host in
-    ap (reached_at 0) (c.running_pair-running.ensures ∙ running-any h [] [] ∙ no _ _ _ c.if-progress.false refl)
+returns c = c.running_pair.ensures ∙ running-any c.args.host [] [] ∙ no _ _ _ c.if-host.false refl
 
-pub starting_pair-starting-requires : goal.starting_pair-starting-requires
-starting_pair-starting-requires c = c.requires.host_value
+pub starting_pair-requires : goal.starting_pair-requires
+starting_pair-requires c = c.requires.host_value
 
-pub running_pair-running-requires : goal.running_pair-running-requires
-running_pair-running-requires c = c.requires
+pub running_pair-requires : goal.running_pair-requires
+running_pair-requires c = c.requires

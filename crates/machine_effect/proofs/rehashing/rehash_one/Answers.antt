@@ -1,23 +1,18 @@
 -- `machine_effect::rehashing::rehash_one` meets its contract: a sector is whole segments, and a root is 32 bytes. Assumes nothing.
 use Rattle.lists.proofs.Kit.{arith}
-use Rattle.machine_effect.proofs.Laws.KeptRoots.{slot-root, slot-root-long, one-laid}
+use Rattle.lists.proofs.Laws.Entries.{any-default}
+use Rattle.machine_effect.proofs.Laws.KeptRoots.{slot-ok, slot-root, one-laid}
 use Rattle.machine_effect.proofs.Laws.Asked.{slot-lies}
 use Rattle.machine_effect.proofs.rehashing.rehash_one.Goals as goal
 
-pub copy_between-requires : goal.copy_between-requires
-copy_between-requires c = let inside = slot-lies _ _ _ _ c.slot_of-slot.ensures c.requires.beside in record { n_in_bounds = slot-root-long c.root-rooted.result _ _ _ c.requires.size inside c.root-rooted.ensures; n_in_bounds_2 = omega (arith, c.slot_of-slot.ensures, c.requires.beside.near.kept) }
+pub unwrap-root-requires : goal.unwrap-root-requires
+unwrap-root-requires c =
+    let slot = any-default c.args.staged c.args.at 0 255 (omega (arith, c.requires.beside.near.entry)) in
+    slot-ok c.root.result _ _ _ c.requires.size (slot-lies _ _ _ _ slot c.requires.beside) c.root.ensures.answer
 
 pub returns : goal.returns
 returns c =
-    let inside = slot-lies _ _ _ _ c.slot_of-slot.ensures c.requires.beside in
-    one-laid c.args.z _ c.args.at _ c.slot_of-slot.ensures
-    (slot-root c.root-rooted.result _ _ _ c.requires.size inside c.root-rooted.ensures) c.copy_between.ensures
-
-pub overflow_mul-from : goal.overflow_mul-from
-overflow_mul-from c = omega (arith, slot-lies _ _ _ _ c.slot_of-slot.ensures c.requires.beside)
-
-pub overflow_add-from : goal.overflow_add-from
-overflow_add-from c = omega (arith, slot-lies _ _ _ _ c.slot_of-slot.ensures c.requires.beside)
-
-pub slice_bounds-root-end : goal.slice_bounds-root-end
-slice_bounds-root-end c = omega (arith, slot-lies _ _ _ _ c.slot_of-slot.ensures c.requires.beside)
+    let slot = any-default c.args.staged c.args.at 0 255 (omega (arith, c.requires.beside.near.entry)) in
+    one-laid c.args.z _ c.args.at _ slot
+    (slot-root c.root.result _ _ _ c.requires.size (slot-lies _ _ _ _ slot c.requires.beside) c.root.ensures.answer c.unwrap-root.ensures)
+    c.copy_between.ensures

@@ -10,8 +10,10 @@ use Rattle.machine_inputs.specs.Ends.{ends_past}
 use Rattle.machine_inputs.specs.Given.{input_at, one, two, three, given, from_of}
 use Rattle.machine_inputs.proofs.Laws.Given.{count-right, reads-alike, swaps-alike, name-known, within_count, inputs_are}
 use Rattle.sia.specs.declared.Op.{Op}
+use Rattle.sia.specs.declared.Op.TheVariants.{Read, ReadSector, Copy, Swap}
+use mathlib.Core.Logic.{⊎_elim}
 use Rattle.sia.specs.declared.Instruction.{Instruction}
-use Rattle.machine_inputs.specs.declared.Given.{Given}
+use Rattle.machine_inputs.specs.Given.{Given}
 use Rattle.sia.proofs.Laws.Known.{known-instruction}
 use Rattle.machine_inputs.proofs.decoding.decoded.Goals as goal
 
@@ -38,11 +40,10 @@ none-such input i is formed q e = never (sym (name-known i _ is formed) ∙ ap k
 
 pub read_args-requires : goal.read_args-requires
 unfolding kind from_of one two three tab
-read_args-requires c = within c.args.input.now c.args.i c.requires.op_value c.requires.i_value c.requires.i_value_2 c.in-Read.is
-
-pub read_args-requires-in-ReadSector : goal.read_args-requires-in-ReadSector
-unfolding kind from_of one two three tab
-read_args-requires-in-ReadSector c = within c.args.input.now c.args.i c.requires.op_value c.requires.i_value c.requires.i_value_2 c.in-ReadSector.is
+read_args-requires c =
+    let r = c.requires in
+    ⊎_elim (λ (q : c.args.op ≡ Read). within c.args.input.now c.args.i r.op_value r.i_value r.i_value_2 q)
+    (λ (q : c.args.op ≡ ReadSector). within c.args.input.now c.args.i r.op_value r.i_value r.i_value_2 q) c.in-Read.is
 
 pub write_args-requires : goal.write_args-requires
 unfolding kind from_of one two three tab
@@ -50,11 +51,10 @@ write_args-requires c = within c.args.input.now c.args.i c.requires.op_value c.r
 
 pub span_args-requires : goal.span_args-requires
 unfolding kind from_of one two three tab
-span_args-requires c = within c.args.input.now c.args.i c.requires.op_value c.requires.i_value c.requires.i_value_2 c.in-Copy.is
-
-pub span_args-requires-in-Swap : goal.span_args-requires-in-Swap
-unfolding kind from_of one two three tab
-span_args-requires-in-Swap c = within c.args.input.now c.args.i c.requires.op_value c.requires.i_value c.requires.i_value_2 c.in-Swap.is
+span_args-requires c =
+    let r = c.requires in
+    ⊎_elim (λ (q : c.args.op ≡ Copy). within c.args.input.now c.args.i r.op_value r.i_value r.i_value_2 q)
+    (λ (q : c.args.op ≡ Swap). within c.args.input.now c.args.i r.op_value r.i_value r.i_value_2 q) c.in-Copy.is
 
 pub size_args-requires : goal.size_args-requires
 unfolding kind from_of one two three tab
@@ -65,14 +65,12 @@ size_args-requires c = within c.args.input.now c.args.i c.requires.op_value c.re
 pub returns-in-Read : goal.returns-in-Read
 unfolding kind from_of one two three tab
 returns-in-Read c =
-    c.read_args.ensures ∙ arm c.args.input.now c.args.i (known-instruction c.args.i _ c.well_formed.1.0).1 c.requires.op_value
-    c.requires.i_value c.in-Read.is (omega arith)
-
-pub returns-in-ReadSector : goal.returns-in-ReadSector
-unfolding kind from_of one two three tab
-returns-in-ReadSector c =
-    c.read_args-in-ReadSector.ensures ∙ reads-alike _ ∙ arm c.args.input.now c.args.i (known-instruction c.args.i _ c.well_formed.1.0).1 c.requires.op_value
-    c.requires.i_value c.in-ReadSector.is (omega arith)
+    let r = c.requires in
+    let long = (known-instruction c.args.i _ c.well_formed.1.0).1 in
+    c.read_args.ensures
+    ∙ ⊎_elim (λ (q : c.args.op ≡ Read). arm c.args.input.now c.args.i long r.op_value r.i_value q (omega arith))
+    (λ (q : c.args.op ≡ ReadSector). reads-alike _ ∙ arm c.args.input.now c.args.i long r.op_value r.i_value q (omega arith))
+    c.in-Read.is
 
 pub returns-in-Write : goal.returns-in-Write
 unfolding kind from_of one two three tab
@@ -83,14 +81,12 @@ returns-in-Write c =
 pub returns-in-Copy : goal.returns-in-Copy
 unfolding kind from_of one two three tab
 returns-in-Copy c =
-    c.span_args.ensures ∙ arm c.args.input.now c.args.i (known-instruction c.args.i _ c.well_formed.1.0).1 c.requires.op_value
-    c.requires.i_value c.in-Copy.is (omega arith)
-
-pub returns-in-Swap : goal.returns-in-Swap
-unfolding kind from_of one two three tab
-returns-in-Swap c =
-    c.span_args-in-Swap.ensures ∙ swaps-alike _ ∙ arm c.args.input.now c.args.i (known-instruction c.args.i _ c.well_formed.1.0).1 c.requires.op_value
-    c.requires.i_value c.in-Swap.is (omega arith)
+    let r = c.requires in
+    let long = (known-instruction c.args.i _ c.well_formed.1.0).1 in
+    c.span_args.ensures
+    ∙ ⊎_elim (λ (q : c.args.op ≡ Copy). arm c.args.input.now c.args.i long r.op_value r.i_value q (omega arith))
+    (λ (q : c.args.op ≡ Swap). swaps-alike _ ∙ arm c.args.input.now c.args.i long r.op_value r.i_value q (omega arith))
+    c.in-Copy.is
 
 pub returns-in-Truncate : goal.returns-in-Truncate
 unfolding kind from_of one two three tab

@@ -1,41 +1,45 @@
 -- `machine_inputs::decoding::write_args` meets its contract: the two inputs in turn. Assumes nothing.
-use Rattle.lists.proofs.Kit.{◌∙◌, arith, get_or}
+use Rattle.lists.proofs.Kit.{sym, ap, ◌∙◌, arith, get_or}
 use Rattle.lists.proofs.Laws.Pick.{both-not-left, both-not-right}
-use Rattle.area.proofs.Laws.Parts.{length_part}
 use Rattle.sia.specs.Empty.{no_operand}
+use Rattle.area.proofs.Laws.Parts.{length_part}
+use Rattle.sia.specs.Number.{number}
 use Rattle.machine_rules.specs.Inputs.{well_formed}
-use Rattle.machine_inputs.specs.Given.{input_at, two}
-use Rattle.machine_inputs.proofs.Laws.Decoders.{tells, number-refused, data-refused, data-told, data-long}
+use Rattle.machine_inputs.specs.Given.{two, data_of, input_at}
+use Rattle.machine_inputs.proofs.Laws.Decoders.{number-refused, data-refused, data-told, data-long}
 use Rattle.machine_inputs.proofs.Laws.Given.{write-accepted, refused, ends-within}
 use Rattle.sia.specs.declared.Op.TheVariants.{Write}
 use Rattle.machine_inputs.proofs.decoding.write_args.Goals as goal
 
-pub number_at-requires : goal.number_at-requires
-number_at-requires c = ends-within _ c.args.list 2 0 c.well_formed.1.0.1.0.1 c.requires (omega arith) (omega arith)
+pub part_of-requires : goal.part_of-requires
+part_of-requires c = ends-within _ c.args.list 2 0 c.well_formed.1.0.1.0.1 c.requires (omega arith) (omega arith)
 
-pub data_at-requires : goal.data_at-requires
-data_at-requires c = ends-within _ c.args.list 2 1 c.well_formed.1.0.1.0.1 c.requires (omega arith) (omega arith)
+pub part_of-requires-2 : goal.part_of-requires-2
+part_of-requires-2 c = ends-within _ c.args.list 2 1 c.well_formed.1.0.1.0.1 c.requires (omega arith) (omega arith)
 
 -- ---- the first that is refused, or both
-pub returns-in_default : goal.returns-in_default
+pub returns-in_err-first : goal.returns-in_err-first
 unfolding well_formed two
-returns-in_default c =
-    c.malformed.ensures ∙ refused Write _ _ (both-not-left _ _ (number-refused _ (tells c.number_at.ensures c.in_default.is)))
+returns-in_err-first c =
+    let none = sym (c.in_err-first.ensures ∙ ap number c.part_of.ensures) in
+    rw c.from_residual.ensures (refused Write _ _ (both-not-left _ _ (number-refused _ none)))
 
-pub returns-in_default-data_at : goal.returns-in_default-data_at
+pub returns-in_err-len : goal.returns-in_err-len
 unfolding well_formed two
-returns-in_default-data_at c =
-    c.malformed-in_default-data_at.ensures ∙ refused Write _ _ (both-not-right _ _ (data-refused _ (tells c.data_at.ensures
-    c.in_default-data_at.is)))
+returns-in_err-len c =
+    let none = sym (c.in_err-len.ensures ∙ ap data_of c.part_of-2.ensures) in
+    rw c.from_residual-in_err-len.ensures (refused Write _ _ (both-not-right _ _ (data-refused _ none)))
 
 pub overflow_add-from : goal.overflow_add-from
 overflow_add-from c =
     let o = get_or c.args.list 1 no_operand in
     let within = ends-within _ c.args.list 2 1 c.well_formed.1.0.1.0.1 c.requires (omega arith) (omega arith) in
-    let eight = data-long _ (data-told (input_at c.args.input.now c.args.list 1) _ (tells c.data_at.ensures c.in-Is-data_at.is)) in
+    let told = sym (c.in_ok-len.ensures ∙ ap data_of c.part_of-2.ensures) in
+    let eight = data-long _ (data-told (input_at c.args.input.now c.args.list 1) _ told) in
     omega (arith, c.well_formed.0.0, within, length_part c.args.input.now o.offset o.len within, eight)
 
 pub returns : goal.returns
 returns c =
-    write-accepted c.args.input.now c.args.list _ _ (tells c.number_at.ensures c.in-Is.is)
-    (tells c.data_at.ensures c.in-Is-data_at.is)
+    write-accepted c.args.input.now c.args.list _ _
+    (sym (c.in_ok-first.ensures ∙ ap number c.part_of.ensures))
+    (sym (c.in_ok-len.ensures ∙ ap data_of c.part_of-2.ensures))

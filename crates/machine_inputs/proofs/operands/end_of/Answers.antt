@@ -6,5 +6,5 @@ use Rattle.machine_inputs.proofs.operands.end_of.Goals as goal
 pub returns-then-o-eq0 : goal.returns-then-o-eq0
 returns-then-o-eq0 c = yes _ _ _ (eq-eqb _ _ c.if-o-eq0.true) refl
 
-pub returns : goal.returns
-returns c = no _ _ _ (ne_eqb _ _ c.if-o-eq0.false) refl
+pub returns-else-o-eq0 : goal.returns-else-o-eq0
+returns-else-o-eq0 c = no _ _ _ (ne_eqb _ _ c.if-o-eq0.false) refl

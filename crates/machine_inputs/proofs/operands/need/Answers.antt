@@ -16,9 +16,9 @@ returns-then-past_end c =
 pub largest_end-requires : goal.largest_end-requires
 unfolding past_end
 largest_end-requires c = record {
-  n_bound = c.listed-n.ensures.1;
+  n_bound = c.listed.ensures.1;
   list_value = ap (some (ends_past c.args.declared)) (listed-all c.args.i.count c.args.i.operands (known-instruction c.args.i _ c.well_formed.1.0).1 _
-      c.listed-n.ensures.0)
+      c.listed.ensures.0)
       ∙ sym c.past_end.ensures ∙ c.if-past_end.false;
 }
 
@@ -28,7 +28,7 @@ returns c =
     no _ _ _ (sym c.ill_formed.ensures ∙ c.if-ill_formed.false)
     (no _ _ _ (sym c.past_end.ensures ∙ c.if-past_end.false)
     (c.largest_end.ensures ∙ ap largest (listed-all c.args.i.count c.args.i.operands (known-instruction c.args.i _ c.well_formed.1.0).1 _
-    c.listed-n.ensures.0)))
+    c.listed.ensures.0)))
 
 pub returns-then-ill_formed : goal.returns-then-ill_formed
 unfolding need

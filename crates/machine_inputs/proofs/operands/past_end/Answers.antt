@@ -11,4 +11,4 @@ pub returns : goal.returns
 unfolding past_end
 returns c =
     c.some_past.ensures ∙ ap (some (ends_past c.args.declared))
-    (listed-all c.args.i.count c.args.i.operands (known-instruction c.args.i _ c.well_formed.1.0).1 _ c.listed-n.ensures.0)
+    (listed-all c.args.i.count c.args.i.operands (known-instruction c.args.i _ c.well_formed.1.0).1 _ c.listed.ensures.0)

@@ -4,6 +4,8 @@ use Rattle.machine_rules.specs.Plan.{read_price, write_price, own}
 use Rattle.machine_plan.specs.Numbers.{Small}
 use Rattle.machine_plan.proofs.Laws.Costs.{small-as}
 use Rattle.sia.specs.declared.Op.{Op}
+use Rattle.sia.specs.declared.Op.TheVariants.{Read, ReadSector}
+use mathlib.Core.Logic.{⊎_elim}
 use Rattle.machine_plan.proofs.charge.own.Goals as goal
 use Rattle.machine_plan.proofs.charge.own.Goals.{Start}
 
@@ -37,11 +39,9 @@ returns-in-Swap c =
 
 pub read_price-requires : goal.read_price-requires
 unfolding own Small
-read_price-requires c = small (goal.at.read_price-requires c).Start c.in-Read.is
-
-pub read_price-requires-in-ReadSector : goal.read_price-requires-in-ReadSector
-unfolding own Small
-read_price-requires-in-ReadSector c = small (goal.at.read_price-requires-in-ReadSector c).Start c.in-ReadSector.is
+read_price-requires c =
+    let s = (goal.at.read_price-requires c).Start in
+    ⊎_elim (λ (e : c.args.op ≡ Read). small s e) (λ (e : c.args.op ≡ ReadSector). small s e) c.in-Read.is
 
 pub write_price-requires : goal.write_price-requires
 unfolding own Small
@@ -65,11 +65,12 @@ write_price-requires-in-Swap c = small (goal.at.write_price-requires-in-Swap c).
 
 pub returns-in-Read : goal.returns-in-Read
 unfolding own Small
-returns-in-Read c = (arm (goal.at.returns-in-Read c).Start c.in-Read.is c.read_price.ensures.0, omega (arith, c.read_price.ensures.1))
-
-pub returns-in-ReadSector : goal.returns-in-ReadSector
-unfolding own Small
-returns-in-ReadSector c = (arm (goal.at.returns-in-ReadSector c).Start c.in-ReadSector.is c.read_price-in-ReadSector.ensures.0, omega (arith, c.read_price-in-ReadSector.ensures.1))
+returns-in-Read c =
+    let s = (goal.at.returns-in-Read c).Start in (
+      ⊎_elim (λ (e : c.args.op ≡ Read). arm s e c.read_price.ensures.0)
+          (λ (e : c.args.op ≡ ReadSector). arm s e c.read_price.ensures.0) c.in-Read.is,
+      omega (arith, c.read_price.ensures.1),
+    )
 
 pub returns-in-Write : goal.returns-in-Write
 unfolding own Small
@@ -77,7 +78,7 @@ returns-in-Write c = (arm (goal.at.returns-in-Write c).Start c.in-Write.is c.wri
 
 pub returns-in-Truncate : goal.returns-in-Truncate
 unfolding own Small
-returns-in-Truncate c = (sym (ap (own_at (goal.at.returns-in-Truncate c).Start) c.in-Truncate.is), omega arith)
+returns-in-Truncate c = (arm (goal.at.returns-in-Truncate c).Start c.in-Truncate.is c.from.ensures, omega arith)
 
 pub returns-in-Unknown : goal.returns-in-Unknown
 unfolding own Small

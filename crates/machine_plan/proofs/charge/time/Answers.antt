@@ -18,5 +18,5 @@ most Unknown = omega arith
 
 pub returns : goal.returns
 returns c =
-    let e = ap (λ (k : Kind). k.time) c.kind-kind.ensures in
+    let e = ap (λ (k : Kind). k.time) c.kind.ensures in
     (e, omega (arith, e, most c.args.op))

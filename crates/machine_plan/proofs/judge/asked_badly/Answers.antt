@@ -1,10 +1,10 @@
 -- `machine_plan::judge::asked_badly` meets its contract. Assumes nothing.
-use Rattle.lists.proofs.Kit.{refl}
-use Rattle.lists.proofs.Laws.Pick.{yes, no}
+use Rattle.lists.proofs.Kit.{◌∙◌}
+use Rattle.machine_inputs.proofs.Laws.Or.{and-left, and-right}
 use Rattle.machine_plan.proofs.judge.asked_badly.Goals as goal
 
-pub returns-then-not-asked : goal.returns-then-not-asked
-returns-then-not-asked c = no _ _ _ (c.if-not-asked.true) refl
+pub returns-then-asked : goal.returns-then-asked
+returns-then-asked c = c.bad_proof.ensures ∙ and-right _ _ c.if-asked.true
 
-pub returns : goal.returns
-returns c = yes _ _ _ (c.if-not-asked.false) c.bad_proof.ensures
+pub returns-else-asked : goal.returns-else-asked
+returns-else-asked c = and-left _ _ c.if-asked.false

@@ -1,5 +1,5 @@
 -- `machine_plan::judge::fitted` meets its contract: a walk down the definition. Assumes nothing.
-use Rattle.lists.proofs.Kit.{◌≡◌, sym, ap, ap₂, ◌∙◌, not, false, ℕ, ◌+◌, ◌*◌, ◌≤◌, arith, ltb, ltb-false}
+use Rattle.lists.proofs.Kit.{◌≡◌, refl, sym, ap, ap₂, ◌∙◌, not, false, ℕ, ◌+◌, ◌*◌, ◌≤◌, arith, ltb, ltb-false}
 use Rattle.lists.proofs.Laws.Pick.{yes, no}
 use Rattle.host.specs.Places.{others}
 use Rattle.machine_rules.specs.View.{free_copies}
@@ -50,13 +50,15 @@ enough c = slots (goal.at.Else-too_few c).After-too_few ∙ c.if-too_few.false
 pub returns-then-not-fits : goal.returns-then-not-fits
 unfolding fitted
 returns-then-not-fits c =
-    no _ _ _ (enough (goal.at.returns-then-not-fits c).Else-too_few) (yes _ _ _ (disk (goal.at.returns-then-not-fits c).Start ∙ (ap not c.if-not-fits.true)) c.refused-then-not-fits.ensures)
+    no _ _ _ (enough (goal.at.returns-then-not-fits c).Else-too_few)
+    (yes _ _ _ (disk (goal.at.returns-then-not-fits c).Start ∙ (ap not c.if-not-fits.true)) refl)
 
 pub returns-then-record_above : goal.returns-then-record_above
 unfolding fitted
 returns-then-record_above c =
-    no _ _ _ (enough (goal.at.returns-then-record_above c).Else-too_few) (no _ _ _ (disk (goal.at.returns-then-record_above c).Start ∙ (ap not c.if-not-fits.false))
-    (yes _ _ _ (room (goal.at.returns-then-record_above c).After-record_above ∙ c.if-record_above.true) c.refused-then-record_above.ensures))
+    no _ _ _ (enough (goal.at.returns-then-record_above c).Else-too_few)
+    (no _ _ _ (disk (goal.at.returns-then-record_above c).Start ∙ (ap not c.if-not-fits.false))
+    (yes _ _ _ (room (goal.at.returns-then-record_above c).After-record_above ∙ c.if-record_above.true) refl))
 
 pub returns : goal.returns
 unfolding fitted record_count
@@ -73,7 +75,7 @@ returns c =
 
 pub returns-then-too_few : goal.returns-then-too_few
 unfolding fitted
-returns-then-too_few c = yes _ _ _ (slots (goal.at.returns-then-too_few c).After-too_few ∙ c.if-too_few.true) c.refused.ensures
+returns-then-too_few c = yes _ _ _ (slots (goal.at.returns-then-too_few c).After-too_few ∙ c.if-too_few.true) refl
 
 pub overflow_mul-count : goal.overflow_mul-count
 unfolding fitted

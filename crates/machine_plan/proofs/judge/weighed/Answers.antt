@@ -1,5 +1,5 @@
 -- `machine_plan::judge::weighed` meets its contract: a walk down the definition. Assumes nothing.
-use Rattle.lists.proofs.Kit.{◌≡◌, sym, ap, ◌∙◌, false, ℕ, ◌+◌, ◌*◌, mul-le-mul, arith, leb, ltb}
+use Rattle.lists.proofs.Kit.{◌≡◌, refl, sym, ap, ◌∙◌, false, ℕ, ◌+◌, ◌*◌, mul-le-mul, arith, leb, ltb}
 use Rattle.lists.specs.Pick.{both}
 use Rattle.lists.proofs.Laws.Pick.{yes, no}
 use Rattle.host.specs.Places.{others}
@@ -29,22 +29,30 @@ budget c =
 pub returns-then-asked_badly : goal.returns-then-asked_badly
 unfolding weighed
 returns-then-asked_badly c =
-    no _ _ _ (right-spans (goal.at.returns-then-asked_badly c).Else-bad_spans) (yes _ _ _ (sym c.asked_badly.ensures ∙ c.if-asked_badly.true) c.refused-then-asked_badly.ensures)
+    no _ _ _ (right-spans (goal.at.returns-then-asked_badly c).Else-bad_spans) (yes _ _ _ (sym c.asked_badly.ensures ∙ c.if-asked_badly.true) refl)
 
 pub cost-cost-requires : goal.cost-cost-requires
-cost-cost-requires c = record { declared_bound = c.requires.length_bound; small = charged _ c.requires.lent.size _ c.args.seen c.args.op c.args.args (right-spans (goal.at.cost-cost-requires c).Else-bad_spans) }
+cost-cost-requires c =
+    let spans = right-spans (goal.at.cost-cost-requires c).Else-bad_spans in
+    record {
+      declared_bound = c.requires.length_bound;
+      small = charged _ c.requires.lent.size _ c.args.seen c.args.op c.args.args spans;
+    }
 
 pub returns-then-above : goal.returns-then-above
 unfolding weighed
 returns-then-above c =
-    no _ _ _ (right-spans (goal.at.returns-then-above c).Else-bad_spans) (no _ _ _ (asked-well (goal.at.returns-then-above c).Else-asked_badly) (yes _ _ _ (budget (goal.at.returns-then-above c).After-above ∙ c.if-above.true) c.refused-then-above.ensures))
+    no _ _ _ (right-spans (goal.at.returns-then-above c).Else-bad_spans)
+    (no _ _ _ (asked-well (goal.at.returns-then-above c).Else-asked_badly)
+    (yes _ _ _ (budget (goal.at.returns-then-above c).After-above ∙ c.if-above.true) refl))
 
-pub overflow_mul-sectors : goal.overflow_mul-sectors
-overflow_mul-sectors c = omega (arith, mul-le-mul c.requires.lent.most c.requires.lent.size.most)
+pub overflow_mul-limit : goal.overflow_mul-limit
+overflow_mul-limit c = omega (arith, mul-le-mul c.requires.lent.most c.requires.lent.size.most)
 
 pub fitted-requires : goal.fitted-requires
 fitted-requires c = let a = c.args in
-    let ranged = provable _ c.requires.lent.size a.p.size a.seen a.op a.args a.asked (right-spans (goal.at.fitted-requires c).Else-bad_spans) (asked-well (goal.at.fitted-requires c).Else-asked_badly) in
+    let ranged = provable _ c.requires.lent.size a.p.size a.seen a.op a.args a.asked
+    (right-spans (goal.at.fitted-requires c).Else-bad_spans) (asked-well (goal.at.fitted-requires c).Else-asked_badly) in
     let rest = others a.setting.terms.head.contract a.setting.places in
     let fits = c.sizes_fit-fits.ensures ∙ ap (λ (k : ℕ). leb (k + rest) (a.setting.disksectors * a.setting.sector)) c.new_size-size.ensures in
     record { lent = c.requires.lent; seen_bound = c.requires.seen_bound; room_bound = c.requires.room_bound; ranged = ranged; fits_value = fits }
@@ -53,9 +61,11 @@ pub returns : goal.returns
 unfolding weighed
 returns c =
     let a = c.args in
-    no _ _ _ (right-spans (goal.at.returns c).Else-bad_spans) (no _ _ _ (asked-well (goal.at.returns c).Else-asked_badly) (no _ _ _ (budget (goal.at.returns c).After-above ∙ c.if-above.false)
+    no _ _ _ (right-spans (goal.at.returns c).Else-bad_spans)
+    (no _ _ _ (asked-well (goal.at.returns c).Else-asked_badly)
+    (no _ _ _ (budget (goal.at.returns c).After-above ∙ c.if-above.false)
     (c.fitted.ensures ∙ ap (fitted a.setting a.p a.asked a.seen a.op a.args) c.cost-cost.ensures)))
 
 pub returns-then-bad_spans : goal.returns-then-bad_spans
 unfolding weighed
-returns-then-bad_spans c = yes _ _ _ (sym c.bad_spans.ensures ∙ c.if-bad_spans.true) c.refused.ensures
+returns-then-bad_spans c = yes _ _ _ (sym c.bad_spans.ensures ∙ c.if-bad_spans.true) refl

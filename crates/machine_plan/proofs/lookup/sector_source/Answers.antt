@@ -4,27 +4,39 @@ use Rattle.lists.specs.Pick.{pick}
 use Rattle.host.specs.Places.{has_id}
 use Rattle.machine_rules.specs.View.{read_only_mode, parent, parent_spots}
 use Rattle.machine_rules.specs.Roots.{kept_root}
+use Rattle.std.specs.Prelude.{Option}
+use Rattle.area.specs.Area.{same}
+use Rattle.sia.specs.Names.{read_only}
+use Rattle.machine_sight.specs.Lookup.{own_spots}
+use Rattle.machine_rules.specs.declared.Seat.{Seat}
 use Rattle.machine_rules.specs.Seats.{seats, all_seats, first_seat}
-use Rattle.machine_plan.proofs.Laws.Lookup.{sought-narrow, shows-sought, not-sought}
+use Rattle.machine_plan.proofs.Laws.Lookup.{sought-narrow, sought-seen, not-sought}
 use Rattle.machine_plan.proofs.lookup.sector_source.Goals as goal
-use Rattle.machine_plan.proofs.lookup.sector_source.Goals.{After-find_for-found}
+use Rattle.machine_plan.proofs.lookup.sector_source.Goals.{Start}
 
 -- what is looked through, in the definitions' words
-found : (c : After-find_for-found) → let a = c.args in
-    c.find_for-found.result ≡ first_seat (kept_root a.diskroots.now a.stageroots.now) a.key (pick (read_only_mode a.setting.terms)
+found : (s : Start) {r : Option Seat} → let a = s.args in
+    r ≡ first_seat (kept_root a.diskroots.now a.stageroots.now) a.key (pick (same a.setting.terms.head.contract read_only)
+    (all_seats a.setting.sector a.setting.places)
+    (seats a.setting.sector (has_id a.setting.terms.head.contract)
+    (own_spots a.setting.sector a.setting.places a.setting.terms.head.contract a.p.staged a.p.size) a.setting.places))
+    → r ≡ first_seat (kept_root a.diskroots.now a.stageroots.now) a.key (pick (read_only_mode a.setting.terms)
     (all_seats a.setting.sector a.setting.places)
     (seats a.setting.sector (has_id a.setting.terms.head.contract) (parent_spots a.setting a.p) a.setting.places))
 unfolding read_only_mode parent_spots parent
-found c = c.find_for-found.ensures
+found s e = e
 
-pub returns-in_default : goal.returns-in_default
-returns-in_default c =
-    not-sought _ _ _ _ c.requires c.args.key (found (goal.at.returns-in_default c).After-find_for-found) _ c.in_default.is c.missing.ensures
+pub returns-in_err-seat : goal.returns-in_err-seat
+returns-in_err-seat c =
+    let s = (goal.at.returns-in_err-seat c).Start in
+    rw c.from_residual.ensures (not-sought _ _ _ _ c.requires c.args.key (found s c.find_for.ensures) c.in_err-seat.was)
 
-pub one-seen-requires : goal.one-seen-requires
-one-seen-requires c =
-    sought-narrow _ _ _ _ c.requires c.args.key (found (goal.at.one-seen-requires c).After-find_for-found) _ c.in-At.is
+pub one-requires : goal.one-requires
+one-requires c =
+    let s = (goal.at.one-requires c).Start in
+    sought-narrow _ _ _ _ c.requires c.args.key (found s c.find_for.ensures) _ c.in_ok-seat.was
 
 pub returns : goal.returns
 returns c =
-    shows-sought _ _ _ _ c.requires c.args.key (found (goal.at.returns c).After-find_for-found) _ _ c.in-At.is c.one-seen.ensures
+    let s = (goal.at.returns c).Start in
+    sought-seen _ _ _ _ c.requires c.args.key (found s c.find_for.ensures) _ _ c.in_ok-seat.was c.one.ensures

@@ -5,7 +5,5 @@ use Rattle.lists.specs.Tests.{count, unused}
 use Rattle.machine_plan.proofs.room.free_copies.Given as goal
 
 abbrev pub invariant-loop-i : goal.invariant-loop-i
-invariant-loop-i l = (l.free ≤ l.i) × (l.i ≤ l.copies) × (l.free + count (unused l.staged) l.i (l.copies - l.i) ≡ count (unused l.staged) 0 l.copies)
-
-abbrev pub decreases-loop-i : goal.decreases-loop-i
-decreases-loop-i l = l.copies - l.i
+invariant-loop-i l =
+    (l.free ≤ l.i) × (l.free + count (unused l.staged) l.i (l.copies - l.i) ≡ count (unused l.staged) 0 l.copies)

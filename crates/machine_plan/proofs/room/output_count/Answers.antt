@@ -7,8 +7,8 @@ use Rattle.machine_plan.proofs.room.output_count.Goals as goal
 
 pub returns-then-kind : goal.returns-then-kind
 unfolding output_count
-returns-then-kind c = yes _ _ _ (ap (λ (k : Kind). k.reads) (sym c.kind-kind.ensures) ∙ c.if-kind.true) refl
+returns-then-kind c = yes _ _ _ (ap (λ (k : Kind). k.reads) (sym c.kind.ensures) ∙ c.if-kind.true) refl
 
-pub returns : goal.returns
+pub returns-else-kind : goal.returns-else-kind
 unfolding output_count
-returns c = no _ _ _ (ap (λ (k : Kind). k.reads) (sym c.kind-kind.ensures) ∙ c.if-kind.false) refl
+returns-else-kind c = no _ _ _ (ap (λ (k : Kind). k.reads) (sym c.kind.ensures) ∙ c.if-kind.false) refl

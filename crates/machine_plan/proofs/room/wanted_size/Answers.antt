@@ -13,8 +13,8 @@ returns-then-p-args c =
     c.lacks.ensures.0 ∙ one-those (λ at. eqb (get_or c.args.p.staged at none) none) _
     ∙ ap (λ (l : List ℕ). length (those (λ at. eqb (get_or c.args.p.staged at none) none) l)) (yes _ _ _ (lt-ltb _ _ c.if-p-args.true) refl)
 
-pub returns : goal.returns
+pub returns-else-p-args : goal.returns-else-p-args
 unfolding wanted touched
-returns c =
+returns-else-p-args c =
     none-those (λ at. eqb (get_or c.args.p.staged at none) none)
     ∙ ap (λ (l : List ℕ). length (those (λ at. eqb (get_or c.args.p.staged at none) none) l)) (no _ _ _ (le-ltb _ _ c.if-p-args.false) refl)

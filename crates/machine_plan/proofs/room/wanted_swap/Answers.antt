@@ -13,11 +13,11 @@ returns-then-one-two c =
     c.lacks.ensures.0 ∙ one-those (λ at. eqb (get_or c.args.p.staged at none) none) _
     ∙ ap (λ (l : List ℕ). length (those (λ at. eqb (get_or c.args.p.staged at none) none) l)) (yes _ _ _ (eq-eqb _ _ c.if-one-two.true) refl)
 
-pub returns : goal.returns
+pub returns-else-one-two : goal.returns-else-one-two
 unfolding wanted touched
-returns c =
-    ap₂ (λ (a b : ℕ). a + b) c.lacks-2.ensures.0 c.lacks-3.ensures.0 ∙ two-those (λ at. eqb (get_or c.args.p.staged at none) none) _ _
+returns-else-one-two c =
+    ap₂ (λ (a b : ℕ). a + b) c.lacks-else-one-two.ensures.0 c.lacks-else-one-two-2.ensures.0 ∙ two-those (λ at. eqb (get_or c.args.p.staged at none) none) _ _
     ∙ ap (λ (l : List ℕ). length (those (λ at. eqb (get_or c.args.p.staged at none) none) l)) (no _ _ _ (ne_eqb _ _ c.if-one-two.false) refl)
 
 pub overflow_add-result : goal.overflow_add-result
-overflow_add-result c = omega (arith, c.lacks-2.ensures.1, c.lacks-3.ensures.1)
+overflow_add-result c = omega (arith, c.lacks-else-one-two.ensures.1, c.lacks-else-one-two-2.ensures.1)

@@ -2,6 +2,8 @@
 use Rattle.lists.proofs.Kit.{◌≡◌, Bool, sym, ap, ◌∙◌, mul-le-mul, arith}
 use Rattle.machine_rules.specs.Plan.{bad_spans}
 use Rattle.sia.specs.declared.Op.{Op}
+use Rattle.sia.specs.declared.Op.TheVariants.{Read, ReadSector, Copy, Swap}
+use mathlib.Core.Logic.{⊎_elim}
 use Rattle.machine_plan.proofs.spans.bad_spans.Goals as goal
 use Rattle.machine_plan.proofs.spans.bad_spans.Goals.{Start}
 
@@ -17,17 +19,12 @@ pub overflow_mul-seen : goal.overflow_mul-seen
 unfolding bad_spans
 overflow_mul-seen c = omega (arith, mul-le-mul c.requires.seen_bound c.requires.size.most)
 
-pub overflow_mul-seen-in-ReadSector : goal.overflow_mul-seen-in-ReadSector
-unfolding bad_spans
-overflow_mul-seen-in-ReadSector c = omega (arith, mul-le-mul c.requires.seen_bound c.requires.size.most)
-
 pub returns-in-Read : goal.returns-in-Read
 unfolding bad_spans
-returns-in-Read c = arm (goal.at.returns-in-Read c).Start c.in-Read.is c.bad_span.ensures
-
-pub returns-in-ReadSector : goal.returns-in-ReadSector
-unfolding bad_spans
-returns-in-ReadSector c = arm (goal.at.returns-in-ReadSector c).Start c.in-ReadSector.is c.bad_span-in-ReadSector.ensures
+returns-in-Read c =
+    let s = (goal.at.returns-in-Read c).Start in
+    ⊎_elim (λ (e : c.args.op ≡ Read). arm s e c.bad_span.ensures) (λ (e : c.args.op ≡ ReadSector). arm s e c.bad_span.ensures)
+    c.in-Read.is
 
 pub returns-in-Write : goal.returns-in-Write
 unfolding bad_spans
@@ -35,11 +32,10 @@ returns-in-Write c = arm (goal.at.returns-in-Write c).Start c.in-Write.is c.bad_
 
 pub returns-in-Copy : goal.returns-in-Copy
 unfolding bad_spans
-returns-in-Copy c = arm (goal.at.returns-in-Copy c).Start c.in-Copy.is c.bad_pair.ensures
-
-pub returns-in-Swap : goal.returns-in-Swap
-unfolding bad_spans
-returns-in-Swap c = arm (goal.at.returns-in-Swap c).Start c.in-Swap.is c.bad_pair-in-Swap.ensures
+returns-in-Copy c =
+    let s = (goal.at.returns-in-Copy c).Start in
+    ⊎_elim (λ (e : c.args.op ≡ Copy). arm s e c.bad_pair.ensures) (λ (e : c.args.op ≡ Swap). arm s e c.bad_pair.ensures)
+    c.in-Copy.is
 
 pub returns-in-Truncate : goal.returns-in-Truncate
 unfolding bad_spans

@@ -12,16 +12,15 @@ use Rattle.machine_sight.proofs.contract_roots.kept_roots.Goals.{In-loop-i}
 
 -- this root has its place in the array
 room : (c : In-loop-i) → 32 * c.loop-i.i + 32 ≤ length c.loop-i.roots
-room c = omega (arith, c.loop-i.invariant.1, c.loop-i-test.true, c.requires.few)
+room c = omega (arith, c.loop-i.invariant.0, c.requires.few)
 
 pub loop-i-preserved : goal.loop-i-preserved
 loop-i-preserved c =
     let l = c.loop-i in let root = c.kept_root-root.ensures in
     let f = kept_root c.args.diskroots.now c.args.stageroots.now in (
-      omega (arith, c.loop-i-test.true),
-      c.copy_between.auto.dst ∙ l.invariant.1,
+      c.copy_between.auto.dst ∙ l.invariant.0,
       one-gathered f (spot_of c.args.seen.slots c.args.seen.staged) l.roots 32 l.i root.1
-          (omega (arith, room (goal.at.loop-i-preserved c).In-loop-i)) (root.0 ∙ ap f c.spot_of-spot.ensures) l.invariant.2
+          (omega (arith, room (goal.at.loop-i-preserved c).In-loop-i)) (root.0 ∙ ap f c.spot-spot.ensures) l.invariant.1
           c.copy_between.ensures,
     )
 
@@ -29,33 +28,21 @@ pub returns : goal.returns
 unfolding spots_of
 returns c =
     let l = c.loop-i in let f = kept_root c.args.diskroots.now c.args.stageroots.now in
-    let e : c.args.seen.count ≡ l.i = omega (arith, c.loop-i-test.false, l.invariant.0) in
-    ap (λ (n : ℕ). take (32 * n) l.roots) e ∙ l.invariant.2
+    let e : c.args.seen.count ≡ l.i = omega arith in
+    ap (λ (n : ℕ). take (32 * n) l.roots) e ∙ l.invariant.1
     ∙ ap (λ (n : ℕ). joined f (tab 0 n (spot_of c.args.seen.slots c.args.seen.staged))) (sym e)
 
 pub loop-i-init : goal.loop-i-init
-loop-i-init c = (omega arith, refl, none-gathered _ _)
-
-pub spot_of-spot-requires : goal.spot_of-spot-requires
-spot_of-spot-requires c = omega (arith, c.requires.few)
+loop-i-init c = (refl, none-gathered _ _)
 
 pub kept_root-root-requires : goal.kept_root-root-requires
-kept_root-root-requires c = seen-lies _ _ _ _ _ c.requires.spots c.loop-i-test.true c.spot_of-spot.ensures
-
-pub slice_bounds-copy_between-end : goal.slice_bounds-copy_between-end
-slice_bounds-copy_between-end c = sym c.loop-i.invariant.1
+kept_root-root-requires c = seen-lies _ _ _ _ _ c.requires.spots (omega arith) c.spot-spot.ensures
 
 pub overflow_mul-i : goal.overflow_mul-i
-overflow_mul-i c = omega (arith, room (goal.at.overflow_mul-i c).In-loop-i, c.loop-i.invariant.1)
+overflow_mul-i c = omega (arith, room (goal.at.overflow_mul-i c).In-loop-i, c.loop-i.invariant.0)
 
 pub copy_between-requires-clause-n_in_bounds : goal.copy_between-requires-clause-n_in_bounds
 copy_between-requires-clause-n_in_bounds c = omega (arith, c.kept_root-root.ensures.1)
 
 pub copy_between-requires-clause-n_in_bounds_2 : goal.copy_between-requires-clause-n_in_bounds_2
 copy_between-requires-clause-n_in_bounds_2 c = omega (arith, room (goal.at.copy_between-requires-clause-n_in_bounds_2 c).In-loop-i)
-
-pub overflow_add-i : goal.overflow_add-i
-overflow_add-i c = omega (arith, c.loop-i-test.true, c.requires.few)
-
-pub loop-i-smaller : goal.loop-i-smaller
-loop-i-smaller c = omega (arith, c.loop-i-test.true)

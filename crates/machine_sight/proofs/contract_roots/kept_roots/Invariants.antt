@@ -1,5 +1,5 @@
 -- `kept_roots` meets its contract. The loop's invariant: the roots kept beside the first i sectors stand in the array. Assumes nothing.
-use Rattle.lists.proofs.Kit.{◌≡◌, ◌-◌, ◌*◌, ◌≤◌, length, take}
+use Rattle.lists.proofs.Kit.{◌≡◌, ◌*◌, length, take}
 use Rattle.lists.specs.Tab.{tab}
 use Rattle.sia.specs.Encode.{joined}
 use Rattle.machine_rules.specs.View.{spot_of}
@@ -8,7 +8,6 @@ use Rattle.machine_sight.proofs.contract_roots.kept_roots.Given as goal
 
 abbrev pub invariant-loop-i : goal.invariant-loop-i
 invariant-loop-i l =
-    (l.i ≤ l.count) × (length l.roots ≡ 2048) × (take (32 * l.i) l.roots ≡ joined (kept_root l.diskroots l.stageroots) (tab 0 l.i (spot_of l.slots l.staged)))
-
-abbrev pub decreases-loop-i : goal.decreases-loop-i
-decreases-loop-i l = l.count - l.i
+    (length l.roots ≡ 2048)
+    × (take (32 * l.i) l.roots
+    ≡ joined (kept_root l.diskroots l.stageroots) (tab 0 l.i (spot_of l.seen.slots l.seen.staged)))

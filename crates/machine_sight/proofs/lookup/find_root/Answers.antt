@@ -38,10 +38,10 @@ first_in-own-requires c =
       spots = ap (every (lies 32 c.args.diskroots.now c.args.stageroots.now)) (own-seen c) ∙ c.requires.own;
     }
 
-pub returns-then-is_found : goal.returns-then-is_found
-returns-then-is_found c =
-    own-found _ _ _ _ _ _ (own_first (goal.at.returns-then-is_found c).After-first_in-own) (sym c.is_found.ensures ∙ c.if-is_found.true)
+pub returns-then-is_some : goal.returns-then-is_some
+returns-then-is_some c =
+    own-found _ _ _ _ _ _ (own_first (goal.at.returns-then-is_some c).After-first_in-own) (sym c.is_some.ensures ∙ c.if-is_some.true)
 
 pub returns : goal.returns
 returns c =
-    other-found _ _ _ _ _ _ (own_first (goal.at.returns c).After-first_in-own) (sym c.is_found.ensures ∙ c.if-is_found.false) c.first_of_others.ensures
+    other-found _ _ _ _ _ _ (own_first (goal.at.returns c).After-first_in-own) (sym c.is_some.ensures ∙ c.if-is_some.false) c.first_of_others.ensures

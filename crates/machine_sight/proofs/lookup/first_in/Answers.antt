@@ -7,7 +7,7 @@ use Rattle.machine_rules.specs.Roots.{kept_root}
 use Rattle.machine_sight.specs.Seen.{spots_of}
 use Rattle.machine_sight.proofs.Laws.Sectors.{seen-lies}
 use Rattle.machine_rules.specs.declared.Spot.{Spot}
-use Rattle.machine_rules.specs.declared.Sought.TheVariants.{At}
+use Rattle.std.specs.Prelude.{Some}
 use Rattle.machine_sight.proofs.Laws.Lookup.{position-all, position_here, position-further, position-none}
 use Rattle.machine_sight.proofs.lookup.first_in.Goals as goal
 use Rattle.machine_sight.proofs.lookup.first_in.Goals.{After-has_root, Start}
@@ -19,40 +19,38 @@ root s = kept_root s.args.diskroots.now s.args.stageroots.now
 abbrev spot : Start → ℕ → Spot
 spot s = spot_of s.args.seen.slots s.args.seen.staged
 
-has : (c : After-has_root) → same (root (goal.at.After-has_root c).Start (spot (goal.at.After-has_root c).Start c.loop-position.position)) c.args.key ≡ c.has_root.result
-has c = ap (λ (x : Spot). same (root (goal.at.After-has_root c).Start x) c.args.key) (sym c.spot_of-spot.ensures) ∙ sym c.has_root.ensures
+has : (c : After-has_root) → let s = (goal.at.After-has_root c).Start in
+    same (root s (spot s c.loop-position.position)) c.args.key ≡ c.has_root.result
+has c =
+    let s = (goal.at.After-has_root c).Start in
+    ap (λ (x : Spot). same (root s x) c.args.key) (sym c.spot-spot.ensures) ∙ sym c.has_root.ensures
 
 -- ---- the answers
 pub returns-then-has_root : goal.returns-then-has_root
 unfolding spots_of
 returns-then-has_root c =
-    ap (λ (x : Spot). At (record { place = c.args.place; position = c.loop-position.position; spot = x })) c.spot_of-spot.ensures
-    ∙ position_here (root (goal.at.returns-then-has_root c).Start) c.args.key c.args.place (spot (goal.at.returns-then-has_root c).Start) c.args.seen.count c.loop-position.position c.loop-position-test.true
+    let s = (goal.at.returns-then-has_root c).Start in
+    ap (λ (x : Spot). Some (record { place = c.args.place; position = c.loop-position.position; spot = x })) c.spot-spot.ensures
+    ∙ position_here (root s) c.args.key c.args.place (spot s) c.args.seen.count c.loop-position.position (omega arith)
     (has (goal.at.returns-then-has_root c).After-has_root ∙ c.if-has_root.true)
     ∙ sym c.loop-position.invariant
 
 pub loop-position-preserved : goal.loop-position-preserved
 loop-position-preserved c =
-    c.loop-position.invariant ∙ position-further (root (goal.at.loop-position-preserved c).Start) c.args.key c.args.place (spot (goal.at.loop-position-preserved c).Start) c.args.seen.count c.loop-position.position
-    c.loop-position-test.true (has (goal.at.loop-position-preserved c).After-has_root ∙ c.if-has_root.false)
+    let s = (goal.at.loop-position-preserved c).Start in
+    c.loop-position.invariant
+    ∙ position-further (root s) c.args.key c.args.place (spot s) c.args.seen.count c.loop-position.position
+    (omega arith) (has (goal.at.loop-position-preserved c).After-has_root ∙ c.if-has_root.false)
 
 pub returns : goal.returns
 unfolding spots_of
 returns c =
-    position-none (root (goal.at.returns c).Start) c.args.key c.args.place (spot (goal.at.returns c).Start) c.args.seen.count c.loop-position.position (omega (arith, c.loop-position-test.false))
+    let s = (goal.at.returns c).Start in
+    position-none (root s) c.args.key c.args.place (spot s) c.args.seen.count c.loop-position.position (omega arith)
     ∙ sym c.loop-position.invariant
 
 pub loop-position-init : goal.loop-position-init
 loop-position-init c = position-all _ _ _ _ _
 
-pub spot_of-spot-requires : goal.spot_of-spot-requires
-spot_of-spot-requires c = omega (arith, c.loop-position-test.true, c.requires.few)
-
 pub has_root-requires : goal.has_root-requires
-has_root-requires c = seen-lies 32 _ _ c.args.seen c.loop-position.position c.requires.spots c.loop-position-test.true c.spot_of-spot.ensures
-
-pub overflow_add-position : goal.overflow_add-position
-overflow_add-position c = omega (arith, c.loop-position-test.true)
-
-pub loop-position-smaller : goal.loop-position-smaller
-loop-position-smaller c = omega (arith, c.loop-position-test.true)
+has_root-requires c = seen-lies 32 _ _ c.args.seen c.loop-position.position c.requires.spots (omega arith) c.spot-spot.ensures

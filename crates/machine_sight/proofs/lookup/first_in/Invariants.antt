@@ -10,8 +10,6 @@ use Rattle.machine_sight.proofs.lookup.first_in.Given as goal
 abbrev pub invariant-loop-position : goal.invariant-loop-position
 invariant-loop-position l =
     let f = kept_root l.diskroots l.stageroots in
-    let g = spot_of l.slots l.staged in
-    first_seat f l.key (seated l.place 0 (tab 0 l.count g)) ≡ first_seat f l.key (seated l.place l.position (tab l.position (l.count - l.position) g))
-
-abbrev pub decreases-loop-position : goal.decreases-loop-position
-decreases-loop-position l = l.count - l.position
+    let g = spot_of l.seen.slots l.seen.staged in
+    first_seat f l.key (seated l.place 0 (tab 0 l.seen.count g))
+    ≡ first_seat f l.key (seated l.place l.position (tab l.position (l.seen.count - l.position) g))

@@ -20,19 +20,21 @@ loop-i-init c =
 
 pub first_unless-found-requires : goal.first_unless-found-requires
 first_unless-found-requires c =
-    stands_at _ _ c.args.places c.loop-i.i blank (omega (arith, long (goal.at.first_unless-found-requires c).Start, c.loop-i-test.true)) c.requires
+    stands_at _ _ c.args.places c.loop-i.i blank (omega (arith, long (goal.at.first_unless-found-requires c).Start)) c.requires
 
-pub returns-then-is_found : goal.returns-then-is_found
-returns-then-is_found c =
-    place_here _ _ c.args.z (has_id c.args.id) c.args.places c.loop-i.i 8 (long (goal.at.returns-then-is_found c).Start) c.first_unless-found.ensures (omega arith)
-    (sym c.is_found.ensures ∙ c.if-is_found.true)
+pub returns-then-is_some : goal.returns-then-is_some
+returns-then-is_some c =
+    place_here _ _ c.args.z (has_id c.args.id) c.args.places c.loop-i.i 8 (long (goal.at.returns-then-is_some c).Start)
+    c.first_unless-found.ensures (omega arith)
+    (sym c.is_some.ensures ∙ c.if-is_some.true)
     ∙ sym c.loop-i.invariant
 
 pub loop-i-preserved : goal.loop-i-preserved
 loop-i-preserved c =
     c.loop-i.invariant
-    ∙ place-further _ _ c.args.z (has_id c.args.id) c.args.places c.loop-i.i 8 (long (goal.at.loop-i-preserved c).Start) c.first_unless-found.ensures (omega arith)
-    (sym c.is_found.ensures ∙ c.if-is_found.false)
+    ∙ place-further _ _ c.args.z (has_id c.args.id) c.args.places c.loop-i.i 8 (long (goal.at.loop-i-preserved c).Start)
+    c.first_unless-found.ensures (omega arith)
+    (sym c.is_some.ensures ∙ c.if-is_some.false)
 
 pub returns : goal.returns
 returns c =

@@ -16,13 +16,11 @@ on-disk c = subst Narrow c.in-OnDisk.is c.requires
 in-stage : (c : In-InStage) → Narrow (InStage c.in-InStage.n)
 in-stage c = subst Narrow c.in-InStage.is c.requires
 
-pub overflow_cast-slots : goal.overflow_cast-slots
-unfolding spots_of tab
-overflow_cast-slots c = omega (arith, on-disk c)
+pub overflow_cast-result : goal.overflow_cast-result
+overflow_cast-result c = omega (arith, on-disk c)
 
-pub overflow_cast-staged : goal.overflow_cast-staged
-unfolding spots_of tab
-overflow_cast-staged c = omega (arith, in-stage c)
+pub overflow_cast-result-in-InStage : goal.overflow_cast-result-in-InStage
+overflow_cast-result-in-InStage c = omega (arith, in-stage c)
 
 pub returns-in-OnDisk : goal.returns-in-OnDisk
 unfolding spots_of tab

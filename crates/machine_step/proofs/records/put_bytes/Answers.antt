@@ -9,21 +9,21 @@ use Rattle.machine_step.specs.Shown.{shown_bytes}
 use Rattle.machine_step.proofs.records.put_bytes.Goals as goal
 
 pub span-bytes-requires : goal.span-bytes-requires
-span-bytes-requires c = record { lies = c.requires.lies; inside = c.requires.inside c.if-reads.true }
+span-bytes-requires c = record { lies = c.requires.lies; inside = c.requires.inside c.if-shown.true }
 
 pub copy_between-requires : goal.copy_between-requires
 copy_between-requires c = let read = c.span-bytes.ensures.1 in
-    let reads = picks c.args.reads c.args.n 0 c.if-reads.true in
+    let reads = picks c.args.shown.now.reads c.args.shown.now.n 0 c.if-shown.true in
     let room = subst (λ (k : ℕ). k ≤ length c.args.out.now) reads c.requires.n_in_bounds in
     record { n_in_bounds = omega arith; n_in_bounds_2 = omega arith }
 
-pub returns-then-reads : goal.returns-then-reads
+pub returns-then-shown : goal.returns-then-shown
 unfolding shown_bytes
-returns-then-reads c =
+returns-then-shown c =
     let read = c.span-bytes.ensures in
     lay-same _ 0 _ c.copy_between.ensures
-    (part-whole _ _ (sym read.1) ∙ read.0 ∙ sym (picks _ _ [] c.if-reads.true))
+    (part-whole _ _ (sym read.1) ∙ read.0 ∙ sym (picks _ _ [] c.if-shown.true))
 
-pub returns-else-reads : goal.returns-else-reads
+pub returns-else-shown : goal.returns-else-shown
 unfolding shown_bytes
-returns-else-reads c = sym (ap (put _ 0) (skips _ _ [] c.if-reads.false) ∙ put-nil _ 0)
+returns-else-shown c = sym (ap (put _ 0) (skips _ _ [] c.if-shown.false) ∙ put-nil _ 0)

@@ -9,16 +9,16 @@ use Rattle.machine_step.proofs.records.put_proof.Goals as goal
 
 pub range_proof-requires : goal.range_proof-requires
 unfolding shown_proof
-range_proof-requires c = let asked = c.if-asked.true in
+range_proof-requires c = let asked = c.if-shown.true in
     let out = c.args.out.now in
-    let room = subst (λ (l : List ℕ). length l ≤ length out) (picks c.args.asked _ [] asked) c.requires.n_in_bounds in
+    let room = subst (λ (l : List ℕ). length l ≤ length out) (picks c.args.shown.now.asked _ [] asked) c.requires.n_in_bounds in
     record { known = c.requires.known; lies = c.requires.lies; ranged = c.requires.ranged asked; n_in_bounds = room }
 
-pub returns-then-asked : goal.returns-then-asked
+pub returns-then-shown : goal.returns-then-shown
 unfolding shown_proof
-returns-then-asked c =
-    lay-same _ 0 _ c.range_proof.ensures (sym (picks _ _ [] c.if-asked.true))
+returns-then-shown c =
+    lay-same _ 0 _ c.range_proof.ensures (sym (picks _ _ [] c.if-shown.true))
 
-pub returns-else-asked : goal.returns-else-asked
+pub returns-else-shown : goal.returns-else-shown
 unfolding shown_proof
-returns-else-asked c = sym (ap (put _ 0) (skips _ _ [] c.if-asked.false) ∙ put-nil _ 0)
+returns-else-shown c = sym (ap (put _ 0) (skips _ _ [] c.if-shown.false) ∙ put-nil _ 0)

@@ -20,7 +20,7 @@ pub returns : goal.returns
 returns c =
     let shows = c.requires in
     let p = pairing c.args.size c.args.root in
-    let long : length p.root ≡ 32 = c.well_formed.1.1.1.0.1.0.1 in
+    let long : length p.root ≡ 32 = c.well_formed.1.1.0.1.0.1 in
     lay-same _ 0 _
     (behind _ _ _ (64 + 32 * c.args.hashes + 8)
     (lay-behind _ _ _ (64 + 32 * c.args.hashes)

@@ -1,7 +1,0 @@
--- `machine_effect::staging::is_bare` meets its contract: there is an entry for the position. Assumes nothing.
-use Rattle.lists.proofs.Kit.{ap, ℕ, arith, eqb}
-use Rattle.lists.proofs.Laws.Entries.{any-default}
-use Rattle.machine_effect.proofs.staging.is_bare.Goals as goal
-
-pub returns : goal.returns
-returns c = ap (λ (n : ℕ). eqb n 255) (any-default c.args.staged c.args.at 0 255 (omega (arith, c.well_formed.0.1.0.1)))
