@@ -3,7 +3,7 @@
 // ahead of it are lowered, so that an input of any length has its answer. Rests on `bench_program` for what an input means, and on `stdin`.
 #![tactic(auto)]
 
-ghost use Rattle.std.specs.Prelude.{◌≡◌, ◌-◌, ◌<◌, min, length, [], ◌∷◌, IfOk, MatchResult};
+ghost use Rattle.std.specs.Prelude.{◌≡◌, ◌^◌, ◌≤◌, ◌<◌, length, [], ◌∷◌, IfOk, MatchResult};
 ghost use Rattle.bench_input.specs.Reader as Says;
 ghost use Rattle.bench_input.specs.Reader.{state, fresh, ids_from, head_from, data_from, number_to, fed_byte, in_data};
 ghost use Rattle.bench_input.specs.Gathered.{reads_on, Feeds, Gathered};
@@ -12,6 +12,7 @@ use std::io;
 use std::io::{Read, Write};
 
 // Which section the next byte belongs to.
+// Kept: `Clone` and `Copy` alone, here and below: nothing compares or prints these.
 #[derive(Clone, Copy)]
 pub enum Section {
     Front,
@@ -23,6 +24,7 @@ pub enum Section {
 
 // Where a reader stands: how many ids are to come behind this one, how many bytes of this section (of this id), how many of the section's
 // bytes are still kept, and how many bytes stand in the area.
+// Kept: how many bytes stand in the area beside it, since nothing here is on the heap, and since definitions (`state`, `holds`) see the field.
 #[derive(Clone, Copy)]
 pub struct Reader {
     pub section: Section,
@@ -96,7 +98,7 @@ impl Reader {
             section: Section::Head,
             ids: 0,
             left: n,
-            room: least(n, Reader::HEAD),
+            room: n.min(Reader::HEAD),
             at,
         }
     }
@@ -119,12 +121,11 @@ impl Reader {
         ensures { state result all.new ≡ Says.next (state self all.old) }
     {
         let at = self.at;
-        let section = self.section;
-        match section {
+        match self.section {
             Section::Front => {
                 let n = number_to(&*all, at);
                 lower(all, at, Reader::IDS);
-                Reader::ids_from(n, least(n, Reader::IDS) * Reader::ID, at)
+                Reader::ids_from(n, n.min(Reader::IDS) * Reader::ID, at)
             }
             Section::Ids => Reader::ids_from(self.ids, self.room, at),
             Section::Length => {
@@ -143,8 +144,8 @@ impl Reader {
     {
         let at = self.at;
         let room = self.room;
-        self.left = less_one(self.left);
-        self.room = less_one(room);
+        self.left = self.left.saturating_sub(1);
+        self.room = room.saturating_sub(1);
         if room == 0 {
             return self;
         }
@@ -172,10 +173,8 @@ impl Reader {
         ensures { state result all.new ≡ Says.fed (state self all.old) bytes.now }
     {
         let mut reader = self;
-        let mut i: usize = 0;
-        while i < bytes.len() {
-            reader = reader.feed_byte(bytes[i], all);
-            i += 1;
+        for byte in bytes {
+            reader = reader.feed_byte(*byte, all);
         }
         reader
     }
@@ -184,8 +183,7 @@ impl Reader {
     pub fn held(self) -> usize
         ensures { result ≡ Says.held self }
     {
-        let section = self.section;
-        if in_data(section) {
+        if in_data(self.section) {
             return self.at;
         }
         0
@@ -195,11 +193,7 @@ impl Reader {
     pub fn full(self) -> bool
         ensures { result ≡ Says.full self }
     {
-        let section = self.section;
-        if in_data(section) {
-            return self.room == 0;
-        }
-        false
+        in_data(self.section) && self.room == 0
     }
 }
 
@@ -207,31 +201,7 @@ impl Reader {
 fn in_data(section: Section) -> bool
     ensures { result ≡ in_data section }
 {
-    match section {
-        Section::Front => false,
-        Section::Ids => false,
-        Section::Length => false,
-        Section::Head => false,
-        Section::Data => true,
-    }
-}
-
-fn less_one(n: u64) -> u64
-    ensures { result ≡ n - 1 }
-{
-    if n == 0 {
-        return 0;
-    }
-    n - 1
-}
-
-fn least(n: u64, most: u64) -> u64
-    ensures { result ≡ min n most }
-{
-    if n < most {
-        return n;
-    }
-    most
+    matches!(section, Section::Data)
 }
 
 // The number that ends at a place, or 0 where none does.
@@ -269,14 +239,7 @@ struct Turn {
 fn more(turn: Turn, follows: bool) -> bool
     ensures { result ≡ reads_on turn.left follows turn.reader }
 {
-    if turn.left == 0 {
-        return false;
-    }
-    if follows {
-        return true;
-    }
-    let reader = turn.reader;
-    !reader.full()
+    0 < turn.left && (follows || !turn.reader.full())
 }
 
 // A piece of the input, fed.
@@ -312,13 +275,42 @@ pub fn gather(source: &mut impl Read, left: u64, follows: bool, all: &mut [u8]) 
     if all.len() != Reader::KEPT {
         return Ok(0);
     }
-    let reader = Reader::new();
-    let mut turn = Turn { reader, left };
+    let mut turn = Turn {
+        reader: Reader::new(),
+        left,
+    };
+    // Kept: no plainer, each turn takes as many bytes off `turn.left` as a read brought.
     while more(turn, follows) {
         turn = read_once(source, turn, all)?;
     }
-    let last = turn.reader;
-    Ok(last.held())
+    Ok(turn.reader.held())
+}
+
+// Reads one input, plays it on a host with sectors of that size and on fresh areas of these lengths, and writes what it comes to: the records,
+// or a refusal's number in 8 bytes.
+pub fn answer<const DISK: usize, const STAGE: usize, const OUTPUT: usize>(
+    source: &mut impl Read,
+    sink: &mut impl Write,
+    sector: u64,
+) -> io::Result<()>
+    requires room { 8 ≤ OUTPUT }
+    requires sizes { (DISK < 2 ^ 63) × (STAGE < 2 ^ 63) × (OUTPUT < 2 ^ 63) }
+{
+    let mut all = [0u8; Reader::KEPT];
+    let n = gather(source, u64::MAX, false, &mut all)?;
+    let mut disk = [0u8; DISK];
+    let mut stage = [0u8; STAGE];
+    let mut input = [0u8; 65_536];
+    let mut output = [0u8; OUTPUT];
+    let shown = bench_program::play(
+        sector,
+        &all[0..n],
+        &mut disk,
+        &mut stage,
+        &mut input,
+        &mut output,
+    );
+    show(sink, &output, shown)
 }
 
 // Writes the first n bytes of what is to be written out.

@@ -2,10 +2,6 @@
 // It stops at the end of input and at the first malformed item, for which it writes nothing.
 #![tactic(auto)]
 
-ghost use Rattle.std.specs.Prelude.{◌≤◌, IfOk};
-
-use host::Host;
-use script::Played;
 use std::io;
 use std::io::{Read, Write};
 
@@ -30,7 +26,10 @@ fn main(rt: HostRuntime) -> io::Result<()> {
     )
 }
 
-// Item after item, up to one that is malformed or missing. No input has more bytes than `left` counts at first, nor more items than `turns`.
+// Kept: the areas are parameters, as `script::play_next` takes them.
+
+// Item after item, up to one that is malformed or missing. No input has more bytes than `left` counts at first, nor more items than turns
+// are counted.
 fn play_all(
     source: &mut impl Read,
     sink: &mut impl Write,
@@ -43,37 +42,16 @@ fn play_all(
 ) -> io::Result<()> {
     let mut host = script::no_host();
     let mut left: u64 = u64::MAX;
-    let mut turns: u64 = u64::MAX;
-    while 0 < turns {
-        let played = play_next(
-            source, sink, left, item, host, disk, stage, input, output, report,
+    for _ in 0..u64::MAX {
+        let played = script::play_next(
+            source, left, item, host, disk, stage, input, output, report,
         )?;
-        let after = played.host;
-        host = after;
+        let Some(done) = played.done else {
+            break;
+        };
+        sink.write_all(&report[0..done.written])?;
+        host = done.host;
         left = played.left;
-        turns = stdin::still(played.fine, turns);
     }
     Ok(())
-}
-
-// Reads the next item, plays it, and writes its report. Where the read fails nothing was played; where the write fails the item was, and its
-// report may be out in part.
-fn play_next(
-    source: &mut impl Read,
-    sink: &mut impl Write,
-    left: u64,
-    item: &mut [u8],
-    host: Host,
-    disk: &mut [u8],
-    stage: &mut [u8],
-    input: &mut [u8],
-    output: &mut [u8],
-    report: &mut [u8],
-) -> io::Result<Played>
-    ensures { IfOk result (λ p. p.left ≤ left) }
-{
-    let played = script::play_next(source, left, item, host, disk, stage, input, output, report)?;
-    let written = played.written;
-    sink.write_all(&report[0..written])?;
-    Ok(played)
 }

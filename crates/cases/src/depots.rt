@@ -25,27 +25,32 @@ pub fn play(source: &mut impl Read, many: u64, shown: &mut [u8]) -> io::Result<u
         &mut input,
         &mut output,
     );
-    Ok(written(done.number, done.written, &output, shown))
+    Ok(written(done.number(), done.written, &output, shown))
 }
 
-// A refusal's number in 8 bytes, or the records.
+// A refusal's number in 8 bytes, or the records; nothing where there is no room for them.
 fn written(number: u64, count: u64, output: &[u8], shown: &mut [u8]) -> usize
     ensures { result ≤ length shown.new }
 {
     if number != 0 {
-        if shown.len() < 8 {
-            return 0;
+        return laid(&number.to_le_bytes(), shown);
+    }
+    match output.get(..count as usize) {
+        Some(records) => laid(records, shown),
+        None => 0,
+    }
+}
+
+// Bytes at the front of an area; answers how many, none where it is shorter.
+fn laid(bytes: &[u8], shown: &mut [u8]) -> usize
+    ensures { result ≤ length shown.new }
+{
+    let n = bytes.len();
+    match shown.get_mut(..n) {
+        Some(front) => {
+            front.copy_from_slice(bytes);
+            n
         }
-        area::store(shown, 0, 8, number);
-        return 8;
+        None => 0,
     }
-    if (output.len() as u64) < count {
-        return 0;
-    }
-    let n = count as usize;
-    if shown.len() < n {
-        return 0;
-    }
-    area::copy_between(output, 0, shown, 0, n);
-    n
 }

@@ -7,7 +7,7 @@ mod scripts; // scripts.rt: a script of `calls`
 
 use std::io;
 use std::io::{Read, Write};
-use stdout::{decimal, hex, text};
+use stdout::hex;
 
 fn main(rt: HostRuntime) -> io::Result<()> {
     let mut source = rt.stdin();
@@ -16,13 +16,12 @@ fn main(rt: HostRuntime) -> io::Result<()> {
     all_cases(&mut source, &mut sink, &mut shown)
 }
 
-// Case after case. No input has more than `turns` counts.
+// Case after case. No input has more than there are places to count.
 fn all_cases(source: &mut impl Read, sink: &mut impl Write, shown: &mut [u8]) -> io::Result<()> {
-    let mut turns: u64 = u64::MAX;
-    while 0 < turns {
-        let place = u64::MAX - turns;
-        let whole = one_case(source, sink, place, shown)?;
-        turns = stdin::still(whole, turns);
+    for place in 0..u64::MAX {
+        if !one_case(source, sink, place, shown)? {
+            break;
+        }
     }
     Ok(())
 }
@@ -40,29 +39,26 @@ fn one_case(
         return Ok(false);
     }
     let length = area::load(&ahead, 1);
-    let kind = ahead[0];
-    if kind == b'd' {
-        let n = depots::play(source, length, shown)?;
-        line(sink, place, b"depot", &shown[0..n])?;
-        return Ok(true);
+    match ahead[0] {
+        b'd' => {
+            let n = depots::play(source, length, shown)?;
+            line(sink, place, "depot", &shown[0..n])?;
+            Ok(true)
+        }
+        b'c' => {
+            let n = scripts::play(source, length, shown)?;
+            line(sink, place, "calls", &shown[0..n])?;
+            Ok(true)
+        }
+        _ => Ok(false),
     }
-    if kind == b'c' {
-        let n = scripts::play(source, length, shown)?;
-        line(sink, place, b"calls", &shown[0..n])?;
-        return Ok(true);
-    }
-    Ok(false)
 }
 
-fn line(sink: &mut impl Write, place: u64, kind: &[u8], shown: &[u8]) -> io::Result<()> {
-    decimal(sink, place)?;
-    text(sink, b" ")?;
-    text(sink, kind)?;
-    text(sink, b" ")?;
-    decimal(sink, shown.len() as u64)?;
-    text(sink, b" ")?;
+fn line(sink: &mut impl Write, place: u64, kind: &str, shown: &[u8]) -> io::Result<()> {
+    let count = shown.len();
+    write!(sink, "{place} {kind} {count} ")?;
     let mut digest = [0u8; 32];
-    blake2b::digest(b"", shown, &mut digest);
+    blake2b::digest(b"", shown, &mut digest).unwrap();
     hex(sink, &digest)?;
-    text(sink, b"\n")
+    writeln!(sink)
 }

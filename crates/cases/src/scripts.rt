@@ -1,7 +1,6 @@
 // A script of `calls`, read as `calls` reads it.
 ghost use Rattle.std.specs.Prelude.{◌≡◌, ◌≤◌, length, MatchResult};
 
-use host::Host;
 use std::io;
 use std::io::Read;
 
@@ -20,16 +19,9 @@ pub fn play(source: &mut impl Read, many: u64, shown: &mut [u8]) -> io::Result<u
     items(source, many, &mut item, &mut disk, &mut stage, &mut input, &mut output, shown)
 }
 
-// Where a script stands: it may use `left` bytes more, and the reports of the items played end at `end`.
-#[derive(Clone, Copy)]
-struct Stands {
-    fine: bool,
-    left: u64,
-    end: usize,
-    host: Host,
-}
+// Kept: the areas are parameters, as `script::play_next` takes them.
 
-// Item after item, up to one that is malformed or the end.
+// Item after item, up to one that is malformed or the end; the reports of the items played end at `end`.
 #[rattlefmt::skip]
 fn items(
     source: &mut impl Read, many: u64, item: &mut [u8],
@@ -40,42 +32,15 @@ fn items(
     let mut host = script::no_host();
     let mut left = many;
     let mut end: usize = 0;
-    let mut turns: u64 = u64::MAX;
-    while 0 < turns {
-        let stands = next(source, left, end, item, host, disk, stage, input, output, shown)?;
-        let after = stands.host;
-        host = after;
-        left = stands.left;
-        end = stands.end;
-        turns = stdin::still(stands.fine, turns);
+    for _ in 0..u64::MAX {
+        let played = script::play_next(source, left, item, host, disk, stage, input, output, &mut shown[end..])?;
+        left = played.left;
+        let Some(done) = played.done else {
+            break;
+        };
+        host = done.host;
+        end += done.written;
     }
     stdin::skip(source, left)?;
     Ok(end)
-}
-
-// One item, from where the script stands.
-#[rattlefmt::skip]
-fn next(
-    source: &mut impl Read, left: u64, end: usize, item: &mut [u8], host: Host,
-    disk: &mut [u8], stage: &mut [u8], input: &mut [u8], output: &mut [u8], shown: &mut [u8],
-) -> io::Result<Stands>
-    requires { end ≤ length shown.old }
-    ensures { MatchResult result (λ stands. stands.end ≤ length shown.new) (λ _. length shown.new ≡ length shown.old) }
-{
-    let played = script::play_next(source, left, item, host, disk, stage, input, output, &mut shown[end..])?;
-    let after = played.host;
-    Ok(Stands { fine: played.fine, left: played.left, end: further(end, played.written, shown.len()), host: after })
-}
-
-// A place so many bytes further on, within a length.
-fn further(at: usize, by: usize, within: usize) -> usize
-    ensures { result ≤ within }
-{
-    if within < at {
-        return within;
-    }
-    if within - at < by {
-        return within;
-    }
-    at + by
 }

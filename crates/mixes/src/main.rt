@@ -6,13 +6,12 @@
 // number of the first refusal if there was one, and the digests of the disk and of the records of the last visit.
 #![tactic(auto)]
 
-ghost use Rattle.std.specs.Prelude.{◌+◌, ◌≤◌, length};
+ghost use Rattle.std.specs.Prelude.{◌+◌, ◌≤◌, length, IfOk, IfSome};
 
-use machine::{Host, Prices};
-use sia::Number;
+use machine::{Host, Prices, Refusal};
 use std::io;
 use std::io::{Read, Write};
-use stdout::{decimal, hex, text};
+use stdout::hex;
 
 // The bytes ahead of the visits.
 const AHEAD: usize = 96;
@@ -20,12 +19,36 @@ const AHEAD: usize = 96;
 // The most visits that are counted.
 const MOST: u64 = 1_000_000_000;
 
-// Where the visits stand: whether another may follow, the number of a refusal (0: none), the visits done, the bytes of records that the
-// last one wrote, and the host.
+// The four areas.
+#[derive(Drop)]
+struct Areas {
+    disk: [u8; 262_144],
+    stage: [u8; 65_536],
+    input: [u8; 65_536],
+    output: [u8; 65_536],
+}
+
+// What all visits are opened on.
+// Kept: `Clone` and `Copy` alone, here and below: nothing compares or prints these.
+#[derive(Clone, Copy)]
+struct Terms {
+    budget: u64,
+    prices: Prices,
+}
+
+// A visit: the empty pieces ahead of it, its head and its data.
+#[derive(Clone, Copy)]
+struct Visit<'a> {
+    empty: u64,
+    head: &'a [u8],
+    bytes: &'a [u8],
+}
+
+// Where the visits stand: the refusal, if there was one, the visits done, the bytes of records that the last one wrote, and the
+// host.
 #[derive(Clone, Copy)]
 struct Course {
-    on: bool,
-    number: u64,
+    refusal: Option<Refusal>,
     visits: u64,
     written: u64,
     host: Host,
@@ -37,251 +60,236 @@ fn main(rt: HostRuntime) -> io::Result<()> {
     let mut front = [0u8; 96];
     let came = stdin::full(&mut source, &mut front)?;
     if came != AHEAD {
-        return text(&mut sink, b"bytes missing ahead of the visits\n");
+        return writeln!(&mut sink, "bytes missing ahead of the visits");
     }
-    let mut disk = [0u8; 262_144];
-    let mut output = [0u8; 65536];
-    let start = formed(&front);
-    let end = each(&mut source, start, &front, &mut disk, &mut output)?;
-    show(&mut sink, end, &disk, &output)
+    let mut areas = Areas {
+        disk: [0u8; 262_144],
+        stage: [0u8; 65_536],
+        input: [0u8; 65_536],
+        output: [0u8; 65_536],
+    };
+    let end = each(&mut source, formed(&front), terms_of(&front), &mut areas)?;
+    show(&mut sink, end, &areas)
 }
 
 // A host of the largest areas, with the contract whose id stands in front.
-#[rattlefmt::skip]
 fn formed(front: &[u8; 96]) -> Course {
     let mut id = [0u8; 32];
-    area::copy_between(front, 0, &mut id, 0, 32);
-    let made = machine::fresh(Host::LEAST, 262_144, 65_536);
-    let bare = made.host;
-    let told = machine::form(bare, id);
-    let host = told.host;
-    Course { on: told.number == 0, number: told.number, visits: 0, written: 0, host }
-}
-
-// The visits of the input.
-fn each(
-    source: &mut impl Read,
-    start: Course,
-    front: &[u8; 96],
-    disk: &mut [u8],
-    output: &mut [u8],
-) -> io::Result<Course> {
-    let mut course = start;
-    let mut left = MOST;
-    while 0 < left {
-        course = next(source, course, front, disk, output)?;
-        left = fewer(course.on, left - 1);
-    }
-    Ok(course)
-}
-
-// How many are left, where more may follow.
-fn fewer(on: bool, left: u64) -> u64
-    ensures { result ≤ left }
-{
-    if on {
-        return left;
-    }
-    0
-}
-
-// The next visit of the input.
-#[rattlefmt::skip]
-fn next(source: &mut impl Read, course: Course, front: &[u8; 96], disk: &mut [u8], output: &mut [u8]) -> io::Result<Course> {
-    let Number::Is(times) = number(source)? else {
-        return Ok(stopped(course));
+    id.copy_from_slice(&front[0..32]);
+    let bare = machine::fresh(Host::LEAST, 262_144, 65_536).unwrap_or(machine::unmade());
+    let (refusal, host) = match machine::form(bare, id) {
+        Ok(host) => (None, host),
+        Err(why) => (Some(why), bare),
     };
-    let Number::Is(empty) = number(source)? else {
-        return Ok(stopped(course));
-    };
-    let mut head = [0u8; 4096];
-    let Number::Is(n) = counted(source, &mut head)? else {
-        return Ok(stopped(course));
-    };
-    let mut bytes = [0u8; 65536];
-    let Number::Is(m) = counted(source, &mut bytes)? else {
-        return Ok(stopped(course));
-    };
-    let h = within(n, head.len());
-    let b = within(m, bytes.len());
-    let mut stage = [0u8; 65536];
-    let mut input = [0u8; 65536];
-    Ok(repeated(course, front, times, empty, &head[0..h], &bytes[0..b], disk, &mut stage, &mut input, output))
-}
-
-fn stopped(course: Course) -> Course {
-    let mut after = course;
-    after.on = false;
-    after
-}
-
-// The next number of the input.
-fn number(source: &mut impl Read) -> io::Result<Number> {
-    let mut bytes = [0u8; 8];
-    let came = stdin::full(source, &mut bytes)?;
-    if came != 8 {
-        return Ok(Number::Refused);
-    }
-    Ok(sia::number_of(&bytes))
-}
-
-// The next length of the input, and that many bytes into the front of the area.
-fn counted(source: &mut impl Read, area: &mut [u8]) -> io::Result<Number> {
-    let Number::Is(n) = number(source)? else {
-        return Ok(Number::Refused);
-    };
-    let length = n as usize;
-    if area.len() < length {
-        return Ok(Number::Refused);
-    }
-    let came = stdin::full(source, &mut area[0..length])?;
-    if came != length {
-        return Ok(Number::Refused);
-    }
-    Ok(Number::Is(n))
-}
-
-// As much of a length as there is.
-fn within(n: u64, most: usize) -> usize
-    ensures { result ≤ most }
-{
-    if (most as u64) < n {
-        return most;
-    }
-    n as usize
-}
-
-// One visit so many times.
-#[rattlefmt::skip]
-fn repeated(
-    start: Course, front: &[u8; 96], times: u64, empty: u64, head: &[u8], bytes: &[u8],
-    disk: &mut [u8], stage: &mut [u8], input: &mut [u8], output: &mut [u8],
-) -> Course {
-    let mut course = start;
-    let mut left = fewer(start.on, times);
-    while 0 < left {
-        course = visit(course, front, empty, head, bytes, disk, stage, input, output);
-        left = fewer(course.on, left - 1);
-    }
-    course
-}
-
-// A program that is opened, given so many empty pieces, and given up; where it is refused, the visit is too.
-#[rattlefmt::skip]
-fn idle(host: Host, front: &[u8; 96], empty: u64, head: &[u8], disk: &mut [u8], stage: &mut [u8], input: &mut [u8], output: &mut [u8]) -> Host {
-    if empty == 0 {
-        return host;
-    }
-    let prices = prices_of(front);
-    let budget = area::load(front, 32);
-    let opened = machine::open(host, head, budget, prices, output.len() as u64);
-    let waiting = waited(opened.host, empty, &*disk, stage, input, output);
-    let done = machine::close(waiting, disk, &*stage, false, 0, [0u8; 32]);
-    done.host
-}
-
-// So many empty pieces, as long as they are accepted.
-#[rattlefmt::skip]
-fn waited(start: Host, empty: u64, disk: &[u8], stage: &mut [u8], input: &mut [u8], output: &mut [u8]) -> Host {
-    let program = start.program;
-    let terms = program.terms;
-    let head = terms.head;
-    let n = within(head.length, input.len());
-    let mut host = start;
-    let mut left = empty;
-    while 0 < left {
-        let taken = machine::piece(host, disk, stage, &mut input[0..n], output, b"");
-        host = taken.host;
-        left = fewer(taken.number == 0, left - 1);
-    }
-    host
-}
-
-// The empty pieces, and then the visit itself.
-#[rattlefmt::skip]
-fn visit(
-    course: Course, front: &[u8; 96], empty: u64, head: &[u8], bytes: &[u8],
-    disk: &mut [u8], stage: &mut [u8], input: &mut [u8], output: &mut [u8],
-) -> Course {
-    let start = course.host;
-    let host = idle(start, front, empty, head, disk, stage, input, output);
-    played(host, course.visits, front, head, bytes, disk, stage, input, output)
-}
-
-#[rattlefmt::skip]
-fn played(
-    host: Host, visits: u64, front: &[u8; 96], head: &[u8], bytes: &[u8],
-    disk: &mut [u8], stage: &mut [u8], input: &mut [u8], output: &mut [u8],
-) -> Course {
-    let prices = prices_of(front);
-    let budget = area::load(front, 32);
-    let done = bench_program::begin(host, prices, budget, head, bytes, disk, stage, input, output);
-    let after = done.host;
     Course {
-        on: done.number == 0,
-        number: done.number,
-        visits: more(visits, done.number),
-        written: done.written,
-        host: after,
+        refusal,
+        visits: 0,
+        written: 0,
+        host,
     }
 }
 
-// A visit more, unless it was refused.
-fn more(visits: u64, number: u64) -> u64 {
-    if number != 0 {
-        return visits;
-    }
-    if visits < MOST {
-        return visits + 1;
-    }
-    visits
-}
-
-// The prices, behind the id and the budget.
-fn prices_of(front: &[u8; 96]) -> Prices {
-    Prices {
-        init: price(front, 40),
-        memory: price(front, 48),
-        readbase: price(front, 56),
-        readlength: price(front, 64),
-        writebase: price(front, 72),
-        writelength: price(front, 80),
-        truncatebase: price(front, 88),
+// The budget and the prices, behind the id.
+fn terms_of(front: &[u8; 96]) -> Terms {
+    Terms {
+        budget: area::load(front, 32),
+        prices: Prices {
+            init: price(front, 40),
+            memory: price(front, 48),
+            readbase: price(front, 56),
+            readlength: price(front, 64),
+            writebase: price(front, 72),
+            writelength: price(front, 80),
+            truncatebase: price(front, 88),
+        },
     }
 }
 
 fn price(front: &[u8], at: usize) -> u16
     requires { at + 8 ≤ length front.now }
 {
-    let n = area::load(front, at);
-    if 65_535 < n {
-        return 65_535;
+    u16::try_from(area::load(front, at)).unwrap_or(u16::MAX)
+}
+
+// Kept: course, terms and areas are parameters, here and below: one is answered anew, one read and one written.
+
+// The visits of the input, up to its end or a refusal.
+fn each(
+    source: &mut impl Read,
+    start: Course,
+    terms: Terms,
+    areas: &mut Areas,
+) -> io::Result<Course> {
+    let mut course = start;
+    for _ in 0..MOST {
+        let Some(after) = next(source, course, terms, areas)? else {
+            break;
+        };
+        course = after;
+        if course.refusal.is_some() {
+            break;
+        }
     }
-    n as u16
+    Ok(course)
+}
+
+// The next visit of the input; none where it is not whole.
+fn next(
+    source: &mut impl Read,
+    course: Course,
+    terms: Terms,
+    areas: &mut Areas,
+) -> io::Result<Option<Course>> {
+    let Some(times) = number(source)? else {
+        return Ok(None);
+    };
+    let Some(empty) = number(source)? else {
+        return Ok(None);
+    };
+    let mut head = [0u8; 4096];
+    let Some(h) = counted(source, &mut head)? else {
+        return Ok(None);
+    };
+    let mut bytes = [0u8; 65_536];
+    let Some(b) = counted(source, &mut bytes)? else {
+        return Ok(None);
+    };
+    areas.stage.fill(0);
+    areas.input.fill(0);
+    let visit = Visit {
+        empty,
+        head: &head[0..h],
+        bytes: &bytes[0..b],
+    };
+    Ok(Some(repeated(course, times, visit, terms, areas)))
+}
+
+// The next number of the input.
+fn number(source: &mut impl Read) -> io::Result<Option<u64>> {
+    let mut bytes = [0u8; 8];
+    let came = stdin::full(source, &mut bytes)?;
+    Ok((came == 8).then_some(u64::from_le_bytes(bytes)))
+}
+
+// The next length of the input, and that many bytes into the front of the area.
+fn counted(source: &mut impl Read, area: &mut [u8]) -> io::Result<Option<usize>>
+    ensures { IfOk result (λ o. IfSome o (λ n. n ≤ length area.old)) }
+{
+    let Some(n) = number(source)? else {
+        return Ok(None);
+    };
+    let length = n as usize;
+    if area.len() < length {
+        return Ok(None);
+    }
+    let came = stdin::full(source, &mut area[0..length])?;
+    Ok((came == length).then_some(length))
+}
+
+// One visit so many times, up to a refusal.
+fn repeated(
+    start: Course,
+    times: u64,
+    visit: Visit<'_>,
+    terms: Terms,
+    areas: &mut Areas,
+) -> Course {
+    let mut course = start;
+    for _ in 0..times {
+        if course.refusal.is_some() {
+            break;
+        }
+        course = visited(course, visit, terms, areas);
+    }
+    course
+}
+
+// The empty pieces, and then the visit itself.
+fn visited(course: Course, visit: Visit<'_>, terms: Terms, areas: &mut Areas) -> Course {
+    let host = match visit.empty {
+        0 => course.host,
+        _ => idle(course.host, visit, terms, areas),
+    };
+    let done = bench_program::begin(
+        host,
+        terms.prices,
+        terms.budget,
+        visit.head,
+        visit.bytes,
+        &mut areas.disk,
+        &mut areas.stage,
+        &mut areas.input,
+        &mut areas.output,
+    );
+    Course {
+        refusal: done.refused,
+        visits: more(course.visits, done.refused),
+        written: done.written,
+        host: done.host,
+    }
+}
+
+// A program that is opened, given so many empty pieces, and given up; where it is refused, the visit is too.
+fn idle(host: Host, visit: Visit<'_>, terms: Terms, areas: &mut Areas) -> Host {
+    let room = areas.output.len() as u64;
+    let start = match machine::open(host, visit.head, terms.budget, terms.prices, room) {
+        Ok(opened) => opened.host,
+        Err(_) => host,
+    };
+    let waiting = waited(start, visit.empty, areas);
+    match machine::close(waiting, &mut areas.disk, &areas.stage, false, 0, [0u8; 32]) {
+        Ok(closed) => closed.host,
+        Err(_) => waiting,
+    }
+}
+
+// So many empty pieces, as long as they are accepted.
+fn waited(start: Host, empty: u64, areas: &mut Areas) -> Host {
+    let n = (start.program.terms.head.length as usize).min(areas.input.len());
+    let mut host = start;
+    for _ in 0..empty {
+        match machine::piece(
+            host,
+            &areas.disk,
+            &mut areas.stage,
+            &mut areas.input[0..n],
+            &mut areas.output,
+            b"",
+        ) {
+            Ok(taken) => host = taken.host,
+            Err(_) => break,
+        }
+    }
+    host
+}
+
+// A visit more, unless it was refused.
+fn more(visits: u64, refused: Option<Refusal>) -> u64 {
+    if refused.is_none() && visits < MOST {
+        return visits + 1;
+    }
+    visits
 }
 
 // The line.
-fn show(sink: &mut impl Write, end: Course, disk: &[u8], output: &[u8]) -> io::Result<()> {
-    text(sink, b"visits ")?;
-    decimal(sink, end.visits)?;
-    if end.number != 0 {
-        text(sink, b" refused ")?;
-        decimal(sink, end.number)?;
+fn show(sink: &mut impl Write, end: Course, areas: &Areas) -> io::Result<()> {
+    let visits = end.visits;
+    write!(sink, "visits {visits}")?;
+    if let Some(why) = end.refusal {
+        let number = why.number();
+        write!(sink, " refused {number}")?;
     }
-    text(sink, b" disk ")?;
-    show_digest(sink, disk)?;
-    text(sink, b" records ")?;
-    let n = within(end.written, output.len());
-    show_digest(sink, &output[0..n])?;
-    text(sink, b"\n")
+    write!(sink, " disk ")?;
+    show_digest(sink, &areas.disk)?;
+    write!(sink, " records ")?;
+    let n = (end.written as usize).min(areas.output.len());
+    show_digest(sink, &areas.output[0..n])?;
+    writeln!(sink)
 }
 
 // The digest of 32 bytes, with no key.
 fn show_digest(sink: &mut impl Write, bytes: &[u8]) -> io::Result<()> {
     let mut digest = [0u8; 32];
-    let answer = blake2b::digest(b"", bytes, &mut digest);
-    match answer {
-        blake2b::Answer::Done => hex(sink, &digest),
-        blake2b::Answer::Refused => text(sink, b"refused"),
-    }
+    blake2b::digest(b"", bytes, &mut digest).unwrap();
+    hex(sink, &digest)
 }

@@ -1,379 +1,251 @@
 // Each kind of item, and its call. An item is malformed where it lends more than an area has, or where a number does not fit: then no call
 // is made.
-ghost use Rattle.std.specs.Prelude.{◌≡◌, ◌+◌, ◌≤◌, ◌<◌, length};
-
-use machine::{Host, Prices};
-use script_report::Made;
+use crate::shapes::Kind;
+use machine::{End, Host, Prices, Refusal};
+use script_report::{Behind, Made};
 
 // The most bytes of segments and hashes that are given to the checker.
 const PROOF: usize = 131_072;
 
-fn malformed(host: Host) -> Made {
-    with_rest(false, 0, 0, 0, 0, [0u8; 32], host)
-}
-
 fn answered(number: u64, tally: u64, growth: i64, host: Host) -> Made {
-    with_rest(true, number, tally, growth, 0, [0u8; 32], host)
-}
-
-// What a call on a host and its contracts answered, and what a call of a program did.
-fn made_of(made: machine::Made) -> Made {
-    let after = made.host;
-    answered(made.number, 0, 0, after)
-}
-
-fn told(answer: machine::Answer) -> Made {
-    let after = answer.host;
-    answered(answer.number, answer.tally, 0, after)
-}
-
-#[rattlefmt::skip]
-fn with_rest(fine: bool, number: u64, tally: u64, growth: i64, more: usize, rest: [u8; 32], host: Host) -> Made {
-    Made { fine, number, tally, growth, more, rest, host }
-}
-
-// The lengths of two areas that an item lends; where they do not fit, none is.
-#[derive(Clone, Copy)]
-struct Lent {
-    fits: bool,
-    one: usize,
-    two: usize,
-}
-
-fn none_lent() -> Lent
-    ensures { (result.one ≡ 0) × (result.two ≡ 0) }
-{
-    Lent {
-        fits: false,
-        one: 0,
-        two: 0,
+    Made {
+        number,
+        tally,
+        growth,
+        behind: Behind::Nothing,
+        host,
     }
 }
 
-// The two lengths from byte `at` on, of areas that have so many bytes.
-fn lends(item: &[u8], at: usize, one: usize, two: usize) -> Lent
-    requires { at ≤ 17 }
-    ensures { (result.one ≤ one) × (result.two ≤ two) }
-{
-    if item.len() < at + 16 {
-        return none_lent();
-    }
-    let first = area::load(item, at);
-    let second = area::load(item, at + 8);
-    if (one as u64) < first {
-        return none_lent();
-    }
-    if (two as u64) < second {
-        return none_lent();
-    }
-    Lent {
-        fits: true,
-        one: first as usize,
-        two: second as usize,
+// A refusal, which leaves this host.
+fn refused(why: Refusal, host: Host) -> Made {
+    answered(why.number(), 0, 0, host)
+}
+
+// What a call on a host and its contracts answered, and what a call of a program did; where it is refused, `before` stands.
+fn made_of(made: Result<Host, Refusal>, before: Host) -> Made {
+    match made {
+        Ok(after) => answered(0, 0, 0, after),
+        Err(why) => refused(why, before),
     }
 }
+
+fn told(answer: Result<machine::Done, Refusal>, before: Host) -> Made {
+    match answer {
+        Ok(done) => answered(0, done.tally, 0, done.host),
+        Err(why) => refused(why, before),
+    }
+}
+
+// Kept: the areas are parameters, here and below, since `machine`'s calls take them so, and each item lends other parts of them.
 
 // Makes the call of an item that is whole: a head, a piece or a proof stands at its end.
 #[rattlefmt::skip]
-pub fn make(item: &[u8], host: Host, disk: &mut [u8], stage: &mut [u8], input: &mut [u8], output: &mut [u8]) -> Made {
-    if item.len() < 1 {
-        return malformed(host);
-    }
-    match item[0] {
-        b'F' => fresh_usual(item, host, disk, stage, input, output),
-        b'N' => fresh_of(item, host, disk, stage, input, output),
-        b'f' => form(item, host),
-        b'd' => drop(item, host),
-        b'o' => open(item, host),
-        b'p' => piece(item, host, &*disk, stage, input, output),
-        b'i' => interrupt(item, host, &*disk, output),
-        b'g' => give_up(item, host, disk, &*stage),
-        b'a' => agree(item, host, disk, &*stage),
-        b'r' => reached(item, host, &*disk, &*stage),
-        b's' => sound(item, host, &*disk, &*stage),
-        b'l' => locate(item, host),
-        b'x' => poke(item, host),
-        b'k' => check(item, host),
-        _ => malformed(host),
+pub fn make(item: &[u8], host: Host, disk: &mut [u8], stage: &mut [u8], input: &mut [u8], output: &mut [u8]) -> Option<Made> {
+    match Kind::try_from(*item.first()?).ok()? {
+        Kind::Fresh => fresh(Host::LEAST, item, 1, disk, stage, input, output),
+        Kind::FreshOf => fresh(number(item, 1)?, item, 9, disk, stage, input, output),
+        Kind::Form => Some(made_of(machine::form(host, bytes(item, 1)?), host)),
+        Kind::Drop => Some(made_of(machine::drop(host, bytes(item, 1)?), host)),
+        Kind::Open => open(item, host),
+        Kind::Piece => piece(item, host, &*disk, stage, input, output),
+        Kind::Interrupt => interrupt(item, host, &*disk, output),
+        Kind::GiveUp => close(item, host, disk, &*stage, false, 0, [0u8; 32]),
+        Kind::Agree => close(item, host, disk, &*stage, true, number(item, 17)?, bytes(item, 25)?),
+        Kind::Reached => reached(item, host, &*disk, &*stage),
+        Kind::Sound => sound(item, host, &*disk, &*stage),
+        Kind::Locate => locate(item, host),
+        Kind::Poke => poke(item, host),
+        Kind::Check => check(item, host),
     }
 }
 
-// Yes or no as a number.
-fn as_number(yes: bool) -> u64 {
-    if yes {
-        return 1;
-    }
-    0
+// ---- the parts of an item
+
+// The number, and the 32 bytes, that stand from `at` on.
+fn number(item: &[u8], at: usize) -> Option<u64> {
+    Some(u64::from_le_bytes(*item.get(at..)?.first_chunk()?))
 }
 
-// The 32 bytes from `at` on.
-fn bytes_at(item: &[u8], at: usize) -> [u8; 32]
-    requires { at + 32 ≤ length item.now }
-{
-    let mut bytes = [0u8; 32];
-    area::copy_between(item, at, &mut bytes, 0, 32);
-    bytes
+fn bytes(item: &[u8], at: usize) -> Option<[u8; 32]> {
+    Some(*item.get(at..)?.first_chunk()?)
+}
+
+// The front part of an area that is lent, whose length stands at `at`; none where the area is shorter.
+fn lent<'a>(item: &[u8], at: usize, area: &'a [u8]) -> Option<&'a [u8]> {
+    area.get(..number(item, at)? as usize)
+}
+
+fn lent_mut<'a>(item: &[u8], at: usize, area: &'a mut [u8]) -> Option<&'a mut [u8]> {
+    area.get_mut(..number(item, at)? as usize)
 }
 
 // ---- contracts
 
-// Disk length, stage length, fill: a host of the usual sector size, 4,096.
-#[rattlefmt::skip]
-fn fresh_usual(item: &[u8], host: Host, disk: &mut [u8], stage: &mut [u8], input: &mut [u8], output: &mut [u8]) -> Made {
-    if item.len() < 18 {
-        return malformed(host);
-    }
-    fresh(Host::LEAST, item, 1, disk, stage, input, output)
-}
-
-// Sector size, disk length, stage length, fill.
-#[rattlefmt::skip]
-fn fresh_of(item: &[u8], host: Host, disk: &mut [u8], stage: &mut [u8], input: &mut [u8], output: &mut [u8]) -> Made {
-    if item.len() < 26 {
-        return malformed(host);
-    }
-    fresh(area::load(item, 1), item, 9, disk, stage, input, output)
-}
-
-// Makes the host for areas of the lengths that stand from byte `at` on, and fills all four areas with the byte behind them.
+// Disk length, stage length, fill, from `at` on: makes the host for areas of these lengths, and fills all four areas with the byte behind
+// them.
 #[rattlefmt::skip]
 fn fresh(
     sector: u64, item: &[u8], at: usize, disk: &mut [u8], stage: &mut [u8], input: &mut [u8], output: &mut [u8],
-) -> Made
-    requires { (at ≤ 9) × (at + 17 ≤ length item.now) }
-{
-    fill_all(item[at + 16], disk, stage, input, output);
-    made_of(machine::fresh(sector, area::load(item, at), area::load(item, at + 8)))
-}
-
-fn fill_all(byte: u8, disk: &mut [u8], stage: &mut [u8], input: &mut [u8], output: &mut [u8]) {
-    area::fill(disk, 0, disk.len(), byte);
-    area::fill(stage, 0, stage.len(), byte);
-    area::fill(input, 0, input.len(), byte);
-    area::fill(output, 0, output.len(), byte);
-}
-
-fn form(item: &[u8], host: Host) -> Made {
-    if item.len() < 33 {
-        return malformed(host);
-    }
-    let id = bytes_at(item, 1);
-    made_of(machine::form(host, id))
-}
-
-fn drop(item: &[u8], host: Host) -> Made {
-    if item.len() < 33 {
-        return malformed(host);
-    }
-    let id = bytes_at(item, 1);
-    made_of(machine::drop(host, id))
+) -> Option<Made> {
+    let byte = *item.get(at..)?.get(16)?;
+    let made = machine::fresh(sector, number(item, at)?, number(item, at + 8)?);
+    disk.fill(byte);
+    stage.fill(byte);
+    input.fill(byte);
+    output.fill(byte);
+    Some(made_of(made, machine::unmade()))
 }
 
 // ---- opening
 
-// The price at place k of the seven.
-fn price(item: &[u8], k: usize) -> u64
-    requires { (73 ≤ length item.now) × (k < 7) }
-{
-    area::load(item, 17 + 8 * k)
+// The price that stands at `at`.
+fn price(item: &[u8], at: usize) -> Option<u16> {
+    u16::try_from(number(item, at)?).ok()
 }
 
-fn prices_fit(item: &[u8]) -> bool
-    requires { 73 ≤ length item.now }
-{
-    let mut k: usize = 0;
-    while k < 7 {
-        if 65_535 < price(item, k) {
-            return false;
-        }
-        k += 1;
-    }
-    true
-}
-
-fn prices_of(item: &[u8]) -> Prices
-    requires { 73 ≤ length item.now }
-{
-    Prices {
-        init: script_damage::low16(price(item, 0)),
-        memory: script_damage::low16(price(item, 1)),
-        readbase: script_damage::low16(price(item, 2)),
-        readlength: script_damage::low16(price(item, 3)),
-        writebase: script_damage::low16(price(item, 4)),
-        writelength: script_damage::low16(price(item, 5)),
-        truncatebase: script_damage::low16(price(item, 6)),
-    }
+fn prices(item: &[u8]) -> Option<Prices> {
+    Some(Prices {
+        init: price(item, 17)?,
+        memory: price(item, 25)?,
+        readbase: price(item, 33)?,
+        readlength: price(item, 41)?,
+        writebase: price(item, 49)?,
+        writelength: price(item, 57)?,
+        truncatebase: price(item, 65)?,
+    })
 }
 
 // Output length, budget, seven prices, head length, head.
-fn open(item: &[u8], host: Host) -> Made {
-    if item.len() < 81 {
-        return malformed(host);
-    }
-    if !prices_fit(item) {
-        return malformed(host);
-    }
-    let room = area::load(item, 1);
-    let budget = area::load(item, 9);
-    let prices = prices_of(item);
-    told(machine::open(host, &item[81..], budget, prices, room))
+fn open(item: &[u8], host: Host) -> Option<Made> {
+    let room = number(item, 1)?;
+    let budget = number(item, 9)?;
+    let prices = prices(item)?;
+    let head = item.get(81..)?;
+    Some(told(machine::open(host, head, budget, prices, room), host))
 }
 
 // ---- an open program
 
 // Lent lengths of disk, stage, input and output; piece length; piece.
 #[rattlefmt::skip]
-fn piece(item: &[u8], host: Host, disk: &[u8], stage: &mut [u8], input: &mut [u8], output: &mut [u8]) -> Made {
-    if item.len() < 41 {
-        return malformed(host);
-    }
-    let sectors = lends(item, 1, disk.len(), stage.len());
-    let streams = lends(item, 17, input.len(), output.len());
-    if !sectors.fits {
-        return malformed(host);
-    }
-    if !streams.fits {
-        return malformed(host);
-    }
-    let d = sectors.one;
-    let s = sectors.two;
-    let i = streams.one;
-    let o = streams.two;
-    told(machine::piece(host, &disk[0..d], &mut stage[0..s], &mut input[0..i], &mut output[0..o], &item[41..]))
+fn piece(item: &[u8], host: Host, disk: &[u8], stage: &mut [u8], input: &mut [u8], output: &mut [u8]) -> Option<Made> {
+    let disk = lent(item, 1, disk)?;
+    let stage = lent_mut(item, 9, stage)?;
+    let input = lent_mut(item, 17, input)?;
+    let output = lent_mut(item, 25, output)?;
+    let piece = item.get(41..)?;
+    Some(told(machine::piece(host, disk, stage, input, output, piece), host))
 }
 
 // Lent lengths of disk and output.
-fn interrupt(item: &[u8], host: Host, disk: &[u8], output: &mut [u8]) -> Made {
-    let areas = lends(item, 1, disk.len(), output.len());
-    if !areas.fits {
-        return malformed(host);
-    }
-    let d = areas.one;
-    let o = areas.two;
-    told(machine::interrupt(host, &disk[0..d], &mut output[0..o]))
+fn interrupt(item: &[u8], host: Host, disk: &[u8], output: &mut [u8]) -> Option<Made> {
+    let disk = lent(item, 1, disk)?;
+    let output = lent_mut(item, 9, output)?;
+    Some(told(machine::interrupt(host, disk, output), host))
 }
 
 // ---- closing
 
-// Lent lengths of disk and stage.
-fn give_up(item: &[u8], host: Host, disk: &mut [u8], stage: &[u8]) -> Made {
-    close(item, host, disk, stage, false, 0, [0u8; 32])
-}
-
-// Lent lengths of disk and stage; size; root.
-fn agree(item: &[u8], host: Host, disk: &mut [u8], stage: &[u8]) -> Made {
-    if item.len() < 57 {
-        return malformed(host);
-    }
-    let size = area::load(item, 17);
-    let root = bytes_at(item, 25);
-    close(item, host, disk, stage, true, size, root)
-}
-
+// Lent lengths of disk and stage; where it agrees, size and root behind them.
 #[rattlefmt::skip]
-fn close(item: &[u8], host: Host, disk: &mut [u8], stage: &[u8], agreed: bool, size: u64, root: [u8; 32]) -> Made {
-    let areas = lends(item, 1, disk.len(), stage.len());
-    if !areas.fits {
-        return malformed(host);
-    }
-    let d = areas.one;
-    let s = areas.two;
-    let made = machine::close(host, &mut disk[0..d], &stage[0..s], agreed, size, root);
-    let after = made.host;
-    answered(made.number, made.tally, made.growth, after)
+fn close(item: &[u8], host: Host, disk: &mut [u8], stage: &[u8], agreed: bool, size: u64, root: [u8; 32]) -> Option<Made> {
+    let disk = lent_mut(item, 1, disk)?;
+    let stage = lent(item, 9, stage)?;
+    Some(match machine::close(host, disk, stage, agreed, size, root) {
+        Ok(closing) => {
+            let number = match closing.end {
+                End::Closed => 0,
+                End::Disagreed => Refusal::Disagreed.number(),
+            };
+            answered(number, closing.tally, closing.growth, closing.host)
+        }
+        Err(why) => refused(why, host),
+    })
 }
 
 // Lent lengths of disk and stage.
-fn reached<'a>(item: &[u8], host: Host, disk: &'a [u8], stage: &'a [u8]) -> Made {
-    let areas = lends(item, 1, disk.len(), stage.len());
-    if !areas.fits {
-        return malformed(host);
-    }
-    let d = areas.one;
-    let s = areas.two;
-    let made = machine::reached(host, &disk[0..d], &stage[0..s]);
-    let root = made.root;
-    with_rest(true, made.number, made.size, 0, 32, root, host)
+fn reached(item: &[u8], host: Host, disk: &[u8], stage: &[u8]) -> Option<Made> {
+    let (number, size, root) = match machine::reached(
+        host,
+        lent(item, 1, disk)?,
+        lent(item, 9, stage)?,
+    ) {
+        Ok(pair) => (0, pair.size, pair.root),
+        Err(why) => (why.number(), 0, [0u8; 32]),
+    };
+    Some(Made {
+        number,
+        tally: size,
+        growth: 0,
+        behind: Behind::Root(root),
+        host,
+    })
 }
 
 // Lent lengths of disk and stage: whether the host is sound, as a number.
-fn sound(item: &[u8], host: Host, disk: &[u8], stage: &[u8]) -> Made {
-    let areas = lends(item, 1, disk.len(), stage.len());
-    if !areas.fits {
-        return malformed(host);
-    }
-    let d = areas.one;
-    let s = areas.two;
-    let asked = machine::sound(host, &disk[0..d], &stage[0..s]);
-    answered(asked.number, as_number(asked.sound), 0, host)
+fn sound(item: &[u8], host: Host, disk: &[u8], stage: &[u8]) -> Option<Made> {
+    Some(
+        match machine::sound(host, lent(item, 1, disk)?, lent(item, 9, stage)?) {
+            Ok(sound) => answered(0, u64::from(sound), 0, host),
+            Err(why) => refused(why, host),
+        },
+    )
 }
 
 // Root: where the sector with it is, as numbers.
-fn locate(item: &[u8], host: Host) -> Made {
-    if item.len() < 33 {
-        return malformed(host);
-    }
-    let root = bytes_at(item, 1);
-    let found = machine::locate(host, root);
-    let mut rest = [0u8; 32];
-    area::store(&mut rest, 0, 8, found.place);
-    area::store(&mut rest, 8, 8, found.position);
-    area::store(&mut rest, 16, 8, as_number(found.staged));
-    with_rest(
-        true,
-        found.number,
-        as_number(found.found),
-        0,
-        24,
-        rest,
+fn locate(item: &[u8], host: Host) -> Option<Made> {
+    let (number, found) = match machine::locate(host, bytes(item, 1)?) {
+        Ok(found) => (0, found),
+        Err(why) => (why.number(), None),
+    };
+    let (place, position, staged) = match found {
+        Some(at) => (at.place, at.position, at.staged),
+        None => (0, 0, false),
+    };
+    Some(Made {
+        number,
+        tally: u64::from(found.is_some()),
+        growth: 0,
+        behind: Behind::Place {
+            place,
+            position,
+            staged,
+        },
         host,
-    )
+    })
 }
 
 // ---- the checker
 
 // Root, count, first, end, length of the segments' bytes, length of these and the hashes, and both. Of more than PROOF bytes the answer is
 // no.
-fn check(item: &[u8], host: Host) -> Made {
-    if item.len() < 73 {
-        return malformed(host);
+fn check(item: &[u8], host: Host) -> Option<Made> {
+    let root = bytes(item, 1)?;
+    let count = number(item, 33)? as usize;
+    let first = number(item, 41)? as usize;
+    let end = number(item, 49)? as usize;
+    let data = number(item, 57)? as usize;
+    let proof = item.get(73..)?;
+    if PROOF < proof.len() {
+        return Some(answered(0, 0, 0, host));
     }
-    let count = area::load(item, 33);
-    let first = area::load(item, 41);
-    let end = area::load(item, 49);
-    let data = area::load(item, 57);
-    if PROOF < item.len() - 73 {
-        return answered(0, 0, 0, host);
-    }
-    if ((item.len() - 73) as u64) < data {
-        return malformed(host);
-    }
-    let to = 73 + data as usize;
-    let yes = tree::check(
-        &item[1..33],
-        count as usize,
-        first as usize,
-        end as usize,
-        &item[73..to],
-        &item[to..],
-    );
-    answered(as_number(yes), 0, 0, host)
+    let (segments, hashes) = proof.split_at_checked(data)?;
+    let yes = tree::check(&root, count, first, end, segments, hashes);
+    Some(answered(u64::from(yes), 0, 0, host))
 }
 
 // ---- damage
 
 // Field, i, j, value.
-fn poke(item: &[u8], host: Host) -> Made {
-    if item.len() < 33 {
-        return malformed(host);
-    }
-    let field = area::load(item, 1);
-    let i = area::load(item, 9);
-    let j = area::load(item, 17);
-    let value = area::load(item, 25);
+fn poke(item: &[u8], host: Host) -> Option<Made> {
+    let field = number(item, 1)?;
+    let i = number(item, 9)?;
+    let j = number(item, 17)?;
+    let value = number(item, 25)?;
     if !script_damage::fits(field, i, j, value) {
-        return malformed(host);
+        return None;
     }
     let after = script_damage::poked(host, field, i, j, value);
-    answered(0, 0, 0, after)
+    Some(answered(0, 0, 0, after))
 }

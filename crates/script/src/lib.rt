@@ -3,7 +3,7 @@
 // the kept roots. Numbers are 8 bytes, the lowest first.
 #![tactic(auto)]
 
-ghost use Rattle.std.specs.Prelude.{◌≡◌, ◌≤◌, length, MatchResult};
+ghost use Rattle.std.specs.Prelude.{◌≡◌, ◌≤◌, length, IfSome, MatchResult};
 
 mod items; // items.rt: each kind of item, and its call
 mod reader; // reader.rt: items from standard input
@@ -17,69 +17,57 @@ use std::io::Read;
 // The most bytes of a report: the answer of `reached` with its root, three numbers, eight places with 64 slots each, an open program, six digests.
 pub const REPORT: usize = 5_320;
 
-// What an item did. Not fine: it is malformed, and nothing changed. `left` counts the bytes that the script may still use, `written` those of
-// the item's report.
+// What came of an item: `left` counts the bytes that the script may still use. Where nothing is done the item is malformed, and nothing changed.
+// Kept: `Clone` and `Copy` alone, here and below: nothing compares or prints these.
 #[derive(Clone, Copy)]
 pub struct Played {
-    pub fine: bool,
     pub left: u64,
+    pub done: Option<Done>,
+}
+
+// The bytes of the item's report, and the host that it left.
+#[derive(Clone, Copy)]
+pub struct Done {
     pub written: usize,
     pub host: Host,
 }
 
 // The host of a refused fresh, which stands before the first item.
 pub fn no_host() -> Host {
-    let made = machine::fresh(0, 0, 0);
-    made.host
-}
-
-fn malformed(left: u64, host: Host) -> Played
-    ensures { (result.left ≡ left) × (result.written ≡ 0) }
-{
-    Played {
-        fine: false,
-        left,
-        written: 0,
-        host,
-    }
+    machine::unmade()
 }
 
 // Reads the next item of a script that may use `left` bytes more of standard input, and plays it. Where none is left, or none that is whole,
 // it is malformed.
+// Kept: the areas are four parameters, since the clause says of each what a failed read leaves, and `machine`'s calls take them one by one.
 #[rattlefmt::skip]
 pub fn play_next(
     source: &mut impl Read, left: u64, item: &mut [u8], host: Host,
     disk: &mut [u8], stage: &mut [u8], input: &mut [u8], output: &mut [u8], report: &mut [u8],
 ) -> io::Result<Played>
-    ensures { MatchResult result (λ p. (p.left ≤ left) × (p.written ≤ length report.old))
+    ensures { MatchResult result (λ p. (p.left ≤ left) × IfSome p.done (λ d. d.written ≤ length report.old))
         (λ _. (disk.new ≡ disk.old) × (stage.new ≡ stage.old) × (input.new ≡ input.old) × (output.new ≡ output.old) × (report.new ≡ report.old)) }
 {
     let came = reader::next_from(source, left, item)?;
-    let n = came.length;
-    Ok(play(came.left, &item[0..n], host, disk, stage, input, output, report))
+    let done = match came.length {
+        Some(n) => play(&item[0..n], host, disk, stage, input, output, report),
+        None => None,
+    };
+    Ok(Played { left: came.left, done })
 }
 
 // Plays the item that `item` begins with. The areas that its call lends are front parts of these.
 #[rattlefmt::skip]
 fn play(
-    left: u64, item: &[u8], host: Host, disk: &mut [u8], stage: &mut [u8], input: &mut [u8], output: &mut [u8], report: &mut [u8],
-) -> Played
-    ensures { (result.left ≡ left) × (result.written ≤ length report.old) }
+    item: &[u8], host: Host, disk: &mut [u8], stage: &mut [u8], input: &mut [u8], output: &mut [u8], report: &mut [u8],
+) -> Option<Done>
+    ensures { IfSome result (λ d. d.written ≤ length report.old) }
 {
     if report.len() < REPORT {
-        return malformed(left, host);
+        return None;
     }
-    let used = shapes::whole(item);
-    let made = items::make(&item[0..used], host, disk, stage, input, output);
-    if !made.fine {
-        return malformed(left, host);
-    }
+    let used = shapes::whole(item)?;
+    let made = items::make(&item[0..used], host, disk, stage, input, output)?;
     let written = script_report::write(made, &*disk, &*stage, &*input, &*output, report);
-    let after = made.host;
-    Played {
-        fine: true,
-        left,
-        written,
-        host: after,
-    }
+    Some(Done { written, host: made.host })
 }

@@ -1,287 +1,223 @@
 // A number put into the host's record, to damage it. What does not fit is malformed; an index or a value that passed `fits` is within its
-// array or its width, and elsewhere the functions below leave the record as it is. Rests on `host`.
+// array or its width, and of what does not fit the functions below leave the record as it is. Rests on `host`.
 #![tactic(auto)]
 
-ghost use Rattle.std.specs.Prelude.{◌≡◌, ◌%◌};
+ghost use Rattle.std.specs.Prelude.{◌<◌, IfSome};
 
-use host::{Host, Place, Prices, Program, Progress, Terms};
-use sia::{Head, Instruction, Operand};
+use host::{Host, Place, Prices};
+use sia::Instruction;
 
-// The largest i of a field; any where the field does not use it.
-fn last_i(field: u64) -> u64 {
-    match field {
-        2..=5 => 7,
-        13 => 63,
-        16 => 31,
-        19..=23 => 31,
-        24 => 6,
-        26 => 63,
-        27 => 15,
-        _ => u64::MAX,
-    }
+// What is put where: a number, a flag, or a byte at its place in an array.
+// Kept: `Clone` and `Copy` alone, here and below: nothing compares or prints these.
+#[derive(Clone, Copy)]
+enum Poke {
+    Disk(u64),
+    Stage(u64),
+    Sector(u64),
+    // a byte of the roots that are kept beside the slots
+    DiskRoots(usize, u8),
+    StageRoots(usize, u8),
+    // a place of a contract
+    InPlace(usize, PlacePoke),
+    // the program
+    Active(bool),
+    Came(u64),
+    Ran(u64),
+    Tally(u64),
+    Written(u64),
+    Failed(bool),
+    Size(u64),
+    Staged(usize, u8),
+    Room(u64),
+    Budget(u64),
+    Price(usize, u16),
+    // its head
+    Contract(usize, u8),
+    Count(u64),
+    Length(u64),
+    InInstruction(usize, InstructionPoke),
 }
 
-// The largest j.
-fn last_j(field: u64) -> u64 {
-    match field {
-        3 => 31,
-        5 => 63,
-        19 => 15,
-        21..=22 => 3,
-        26..=27 => 31,
-        _ => u64::MAX,
-    }
+#[derive(Clone, Copy)]
+enum PlacePoke {
+    Held(bool),
+    Id(usize, u8),
+    Size(u64),
+    Slots(usize, u8),
 }
 
-// The largest value: flags, bytes and slots, prices, and all else.
-fn most(field: u64) -> u64 {
-    match field {
-        2 | 6 | 11 | 23 => 1,
-        3 | 5 | 13 | 16 | 19 | 26 | 27 => 255,
-        24 => 65_535,
-        _ => u64::MAX,
-    }
+#[derive(Clone, Copy)]
+enum InstructionPoke {
+    Name(usize, u8),
+    Count(u64),
+    Offset(usize, u64),
+    Len(usize, u64),
+    Proof(bool),
 }
+
+// Kept: a field, i, j and a value are parameters, here and below, as they stand in a script: `poke_of` makes a `Poke` of them.
 
 // Whether there is such a field, and i, j and the value are within its limits.
 pub fn fits(field: u64, i: u64, j: u64, value: u64) -> bool {
-    if 27 < field {
-        return false;
-    }
-    if last_i(field) < i {
-        return false;
-    }
-    if last_j(field) < j {
-        return false;
-    }
-    value <= most(field)
-}
-
-fn low8(n: u64) -> u8 {
-    (n % 256) as u8
-}
-
-pub fn low16(n: u64) -> u16
-    ensures { result ≡ n % 65536 }
-{
-    (n % 65_536) as u16
+    poke_of(field, i, j, value).is_some()
 }
 
 // The host with the value in its field.
 pub fn poked(host: Host, field: u64, i: u64, j: u64, value: u64) -> Host {
-    let mut after = host;
+    match poke_of(field, i, j, value) {
+        Some(poke) => put(host, poke),
+        None => host,
+    }
+}
+
+// The poke that the numbers of a script stand for: a field, i and j where they say which of an array's, and a value.
+fn poke_of(field: u64, i: u64, j: u64, value: u64) -> Option<Poke> {
     match field {
-        0 => after.disk = value,
-        1 => after.stage = value,
-        25 => after.sector = value,
-        26 => {
-            let mut roots = host.diskroots;
-            put_byte(&mut roots, root_byte(i, j), value);
-            after.diskroots = roots;
-        }
-        27 => {
-            let mut roots = host.stageroots;
-            put_byte(&mut roots, root_byte(i, j), value);
-            after.stageroots = roots;
-        }
-        2..=5 => {
-            let places = host.places;
-            let ps = in_places(places, field, i, j, value);
-            after.places = ps;
-        }
-        _ => {
-            let program = host.program;
-            let p = in_program(program, field, i, j, value);
-            after.program = p;
-        }
+        0 => Some(Poke::Disk(value)),
+        1 => Some(Poke::Stage(value)),
+        2..=5 => Some(Poke::InPlace(below(i, 8)?, place_poke_of(field, j, value)?)),
+        6 => Some(Poke::Active(flag(value)?)),
+        7 => Some(Poke::Came(value)),
+        8 => Some(Poke::Ran(value)),
+        9 => Some(Poke::Tally(value)),
+        10 => Some(Poke::Written(value)),
+        11 => Some(Poke::Failed(flag(value)?)),
+        12 => Some(Poke::Size(value)),
+        13 => Some(Poke::Staged(below(i, 64)?, byte(value)?)),
+        14 => Some(Poke::Room(value)),
+        15 => Some(Poke::Budget(value)),
+        16 => Some(Poke::Contract(below(i, 32)?, byte(value)?)),
+        17 => Some(Poke::Count(value)),
+        18 => Some(Poke::Length(value)),
+        19..=23 => Some(Poke::InInstruction(below(i, 32)?, instruction_poke_of(field, j, value)?)),
+        24 => Some(Poke::Price(below(i, 7)?, u16::try_from(value).ok()?)),
+        25 => Some(Poke::Sector(value)),
+        26 => Some(Poke::DiskRoots(32 * below(i, 64)? + below(j, 32)?, byte(value)?)),
+        27 => Some(Poke::StageRoots(32 * below(i, 16)? + below(j, 32)?, byte(value)?)),
+        _ => None,
     }
-    after
 }
 
-// Where byte j of the root kept beside slot i stands; behind every array where there is no such byte.
-fn root_byte(i: u64, j: u64) -> u64 {
-    if 63 < i {
-        return u64::MAX;
-    }
-    if 31 < j {
-        return u64::MAX;
-    }
-    32 * i + j
-}
-
-fn in_places(places: [Place; 8], field: u64, i: u64, j: u64, value: u64) -> [Place; 8] {
-    let mut ps = places;
-    if i < 8 {
-        let k = i as usize;
-        let p = ps[k];
-        let q = in_place(p, field, j, value);
-        ps[k] = q;
-    }
-    ps
-}
-
-fn in_place(place: Place, field: u64, j: u64, value: u64) -> Place {
-    let mut p = place;
+fn place_poke_of(field: u64, j: u64, value: u64) -> Option<PlacePoke> {
     match field {
-        2 => p.held = value == 1,
-        3 => {
-            let mut id = p.id;
-            put_byte(&mut id, j, value);
-            p.id = id;
-        }
-        4 => p.size = value,
-        _ => {
-            let mut slots = p.slots;
-            put_byte(&mut slots, j, value);
-            p.slots = slots;
-        }
+        2 => Some(PlacePoke::Held(flag(value)?)),
+        3 => Some(PlacePoke::Id(below(j, 32)?, byte(value)?)),
+        4 => Some(PlacePoke::Size(value)),
+        _ => Some(PlacePoke::Slots(below(j, 64)?, byte(value)?)),
     }
-    p
 }
 
-fn in_program(program: Program, field: u64, i: u64, j: u64, value: u64) -> Program {
-    let mut p = program;
+fn instruction_poke_of(field: u64, j: u64, value: u64) -> Option<InstructionPoke> {
     match field {
-        6 => p.active = value == 1,
-        7 => p.came = value,
-        8..=13 => {
-            let progress = p.progress;
-            let q = in_progress(progress, field, i, value);
-            p.progress = q;
-        }
-        _ => {
-            let terms = p.terms;
-            let q = in_terms(terms, field, i, j, value);
-            p.terms = q;
-        }
+        19 => Some(InstructionPoke::Name(below(j, 16)?, byte(value)?)),
+        20 => Some(InstructionPoke::Count(value)),
+        21 => Some(InstructionPoke::Offset(below(j, 4)?, value)),
+        22 => Some(InstructionPoke::Len(below(j, 4)?, value)),
+        _ => Some(InstructionPoke::Proof(flag(value)?)),
     }
-    p
 }
 
-fn in_progress(progress: Progress, field: u64, i: u64, value: u64) -> Progress {
-    let mut p = progress;
-    match field {
-        8 => p.ran = value,
-        9 => p.tally = value,
-        10 => p.written = value,
-        11 => p.failed = value == 1,
-        12 => p.size = value,
-        _ => {
-            let mut staged = p.staged;
-            put_byte(&mut staged, i, value);
-            p.staged = staged;
-        }
+// A place in an array of so many.
+fn below(n: u64, end: usize) -> Option<usize>
+    ensures { IfSome result (λ k. k < end) }
+{
+    if n < end as u64 {
+        return Some(n as usize);
     }
-    p
+    None
 }
 
-fn in_terms(terms: Terms, field: u64, i: u64, j: u64, value: u64) -> Terms {
-    let mut t = terms;
-    match field {
-        14 => t.room = value,
-        15 => t.budget = value,
-        24 => {
-            let prices = t.prices;
-            let q = in_prices(prices, i, low16(value));
-            t.prices = q;
-        }
-        _ => {
-            let head = t.head;
-            let q = in_head(head, field, i, j, value);
-            t.head = q;
-        }
+fn flag(value: u64) -> Option<bool> {
+    match value {
+        0 => Some(false),
+        1 => Some(true),
+        _ => None,
     }
-    t
 }
 
-fn in_prices(prices: Prices, i: u64, price: u16) -> Prices {
-    let mut p = prices;
+fn byte(value: u64) -> Option<u8> {
+    u8::try_from(value).ok()
+}
+
+// ---- what is put
+
+fn put(mut host: Host, poke: Poke) -> Host {
+    match poke {
+        Poke::Disk(n) => host.disk = n,
+        Poke::Stage(n) => host.stage = n,
+        Poke::Sector(n) => host.sector = n,
+        Poke::DiskRoots(i, byte) => put_byte(&mut host.diskroots, i, byte),
+        Poke::StageRoots(i, byte) => put_byte(&mut host.stageroots, i, byte),
+        Poke::InPlace(i, poke) => {
+            if let Some(place) = host.places.get_mut(i) {
+                put_in_place(place, poke);
+            }
+        }
+        Poke::Active(yes) => host.program.active = yes,
+        Poke::Came(n) => host.program.came = n,
+        Poke::Ran(n) => host.program.progress.ran = n,
+        Poke::Tally(n) => host.program.progress.tally = n,
+        Poke::Written(n) => host.program.progress.written = n,
+        Poke::Failed(yes) => host.program.progress.failed = yes,
+        Poke::Size(n) => host.program.progress.size = n,
+        Poke::Staged(i, byte) => put_byte(&mut host.program.progress.staged, i, byte),
+        Poke::Room(n) => host.program.terms.room = n,
+        Poke::Budget(n) => host.program.terms.budget = n,
+        Poke::Price(i, price) => put_price(&mut host.program.terms.prices, i, price),
+        Poke::Contract(i, byte) => put_byte(&mut host.program.terms.head.contract, i, byte),
+        Poke::Count(n) => host.program.terms.head.count = n,
+        Poke::Length(n) => host.program.terms.head.length = n,
+        Poke::InInstruction(i, poke) => {
+            if let Some(instruction) = host.program.terms.head.instructions.get_mut(i) {
+                put_in_instruction(instruction, poke);
+            }
+        }
+    }
+    host
+}
+
+fn put_in_place(place: &mut Place, poke: PlacePoke) {
+    match poke {
+        PlacePoke::Held(yes) => place.held = yes,
+        PlacePoke::Id(i, byte) => put_byte(&mut place.id, i, byte),
+        PlacePoke::Size(n) => place.size = n,
+        PlacePoke::Slots(i, byte) => put_byte(&mut place.slots, i, byte),
+    }
+}
+
+fn put_price(prices: &mut Prices, i: usize, price: u16) {
     match i {
-        0 => p.init = price,
-        1 => p.memory = price,
-        2 => p.readbase = price,
-        3 => p.readlength = price,
-        4 => p.writebase = price,
-        5 => p.writelength = price,
-        _ => p.truncatebase = price,
+        0 => prices.init = price,
+        1 => prices.memory = price,
+        2 => prices.readbase = price,
+        3 => prices.readlength = price,
+        4 => prices.writebase = price,
+        5 => prices.writelength = price,
+        _ => prices.truncatebase = price,
     }
-    p
 }
 
-fn in_head(head: Head, field: u64, i: u64, j: u64, value: u64) -> Head {
-    let mut h = head;
-    match field {
-        16 => {
-            let mut id = h.contract;
-            put_byte(&mut id, i, value);
-            h.contract = id;
+fn put_in_instruction(instruction: &mut Instruction, poke: InstructionPoke) {
+    match poke {
+        InstructionPoke::Name(i, byte) => put_byte(&mut instruction.name, i, byte),
+        InstructionPoke::Count(n) => instruction.count = n,
+        InstructionPoke::Offset(i, n) => {
+            if let Some(operand) = instruction.operands.get_mut(i) {
+                operand.offset = n;
+            }
         }
-        17 => h.count = value,
-        18 => h.length = value,
-        _ => {
-            let list = h.instructions;
-            let changed = in_instructions(list, field, i, j, value);
-            h.instructions = changed;
+        InstructionPoke::Len(i, n) => {
+            if let Some(operand) = instruction.operands.get_mut(i) {
+                operand.len = n;
+            }
         }
+        InstructionPoke::Proof(yes) => instruction.proof = yes,
     }
-    h
 }
 
-fn in_instructions(
-    list: [Instruction; 32],
-    field: u64,
-    i: u64,
-    j: u64,
-    value: u64,
-) -> [Instruction; 32] {
-    let mut changed = list;
-    if i < 32 {
-        let k = i as usize;
-        let x = changed[k];
-        let y = in_instruction(x, field, j, value);
-        changed[k] = y;
-    }
-    changed
-}
-
-fn in_instruction(instruction: Instruction, field: u64, j: u64, value: u64) -> Instruction {
-    let mut x = instruction;
-    match field {
-        19 => {
-            let mut name = x.name;
-            put_byte(&mut name, j, value);
-            x.name = name;
-        }
-        20 => x.count = value,
-        23 => x.proof = value == 1,
-        _ => {
-            let list = x.operands;
-            let changed = in_operands(list, field, j, value);
-            x.operands = changed;
-        }
-    }
-    x
-}
-
-fn in_operands(list: [Operand; 4], field: u64, j: u64, value: u64) -> [Operand; 4] {
-    let mut changed = list;
-    if j < 4 {
-        let k = j as usize;
-        let mut o = changed[k];
-        if field == 21 {
-            o.offset = value;
-        } else {
-            o.len = value;
-        }
-        changed[k] = o;
-    }
-    changed
-}
-
-// ---- one byte of an array
-
-fn put_byte(bytes: &mut [u8], i: u64, value: u64) {
-    if i < bytes.len() as u64 {
-        bytes[i as usize] = low8(value);
+// One byte of an array; none behind its end.
+fn put_byte(bytes: &mut [u8], i: usize, byte: u8) {
+    if i < bytes.len() {
+        bytes[i] = byte;
     }
 }

@@ -2,21 +2,32 @@
 // writes from `at` on, and answers where it ended. Rests on `host` and `blake2b`. An inner crate: its caller proves what it requires.
 #![tactic(auto)]
 
-ghost use Rattle.std.specs.Prelude.{◌≡◌, ◌+◌, ◌≤◌, length};
+ghost use Rattle.std.specs.Prelude.{◌≡◌, ◌+◌, ◌*◌, ◌≤◌, length};
 
 use host::{Host, Place, Program};
 
-// What an item answered, and the host that it left. Of `reached` the size stands for the tally, of `sound` and `locate` yes or no. Behind the
-// three numbers the first `more` of `rest` are shown: the root of `reached`, and where `locate` found a sector.
+// What an item answered, and the host that it left. Of `reached` the size stands for the tally, of `sound` and `locate` yes or no.
+// Kept: a refusal is a number here, since the report shows it in the eight bytes in which any answer stands.
+// Kept: `Clone` and `Copy` alone, here and below: nothing compares or prints these.
 #[derive(Clone, Copy)]
 pub struct Made {
-    pub fine: bool,
     pub number: u64,
     pub tally: u64,
     pub growth: i64,
-    pub more: usize,
-    pub rest: [u8; 32],
+    pub behind: Behind,
     pub host: Host,
+}
+
+// What is shown behind the three numbers: the root of `reached`, and where `locate` found a sector.
+#[derive(Clone, Copy)]
+pub enum Behind {
+    Nothing,
+    Root([u8; 32]),
+    Place {
+        place: u64,
+        position: u64,
+        staged: bool,
+    },
 }
 
 // A report at the front of an area; answers its length.
@@ -26,60 +37,26 @@ pub fn write(made: Made, disk: &[u8], stage: &[u8], input: &[u8], output: &[u8],
     ensures { result ≤ 5320 }
 {
     let host = made.host;
-    let one = answer(made, report);
-    let two = whole_host(host, report, one);
-    digest(disk, report, two);
-    digest(stage, report, two + 32);
-    digest(input, report, two + 64);
-    digest(output, report, two + 96);
-    let diskroots = host.diskroots;
-    let stageroots = host.stageroots;
-    kept_roots(diskroots, stageroots, report, two + 128);
-    two + 192
+    let at = answer(made, report);
+    let at = whole_host(&host, report, at);
+    digest(disk, report, at);
+    digest(stage, report, at + 32);
+    digest(input, report, at + 64);
+    digest(output, report, at + 96);
+    digest(&host.diskroots, report, at + 128);
+    digest(&host.stageroots, report, at + 160);
+    at + 192
 }
 
-// Eight bytes with a number.
-fn number(report: &mut [u8], at: usize, n: u64) -> usize
-    requires { at + 8 ≤ length report.old }
-    ensures { result ≡ at + 8 }
+// Each number in eight bytes.
+fn numbers(report: &mut [u8], at: usize, list: &[u64]) -> usize
+    requires { at + 8 * length list.now ≤ length report.old }
+    ensures { result ≡ at + 8 * length list.now }
 {
-    area::store(report, at, 8, n);
-    at + 8
-}
-
-fn flag(report: &mut [u8], at: usize, yes: bool) -> usize
-    requires { at + 8 ≤ length report.old }
-    ensures { result ≡ at + 8 }
-{
-    if yes {
-        return number(report, at, 1);
+    for (place, n) in report[at..].chunks_exact_mut(8).zip(list) {
+        place.copy_from_slice(&n.to_le_bytes());
     }
-    number(report, at, 0)
-}
-
-// The first n of 32 bytes.
-fn front(report: &mut [u8], at: usize, b: [u8; 32], n: usize) -> usize
-    requires { (n ≤ 32) × (at + n ≤ length report.old) }
-    ensures { result ≡ at + n }
-{
-    area::copy_between(&b, 0, report, at, n);
-    at + n
-}
-
-// The 32 bytes of an id.
-fn bytes(report: &mut [u8], at: usize, b: [u8; 32]) -> usize
-    requires { at + 32 ≤ length report.old }
-    ensures { result ≡ at + 32 }
-{
-    front(report, at, b, 32)
-}
-
-// A signed count in two's complement.
-fn complement(n: i64) -> u64 {
-    if n < 0 {
-        return 18_446_744_073_709_551_615 - ((-1 - n) as u64);
-    }
-    n as u64
+    at + 8 * list.len()
 }
 
 // Number, tally and growth, and what is shown behind them, at most 32 bytes.
@@ -87,57 +64,51 @@ fn answer(made: Made, report: &mut [u8]) -> usize
     requires { 56 ≤ length report.old }
     ensures { result ≤ 56 }
 {
-    let one = number(report, 0, made.number);
-    let two = number(report, one, made.tally);
-    let three = number(report, two, complement(made.growth));
-    if 32 < made.more {
-        return three;
+    let growth = made.growth.cast_unsigned();
+    let at = numbers(report, 0, &[made.number, made.tally, growth]);
+    match made.behind {
+        Behind::Nothing => at,
+        Behind::Root(root) => bytes(report, at, &root),
+        Behind::Place {
+            place,
+            position,
+            staged,
+        } => numbers(report, at, &[place, position, u64::from(staged)]),
     }
-    let rest = made.rest;
-    front(report, three, rest, made.more)
 }
 
-fn whole_host(host: Host, report: &mut [u8], at: usize) -> usize
+// The 32 bytes of an id or a root.
+fn bytes(report: &mut [u8], at: usize, b: &[u8; 32]) -> usize
+    requires { at + 32 ≤ length report.old }
+    ensures { result ≡ at + 32 }
+{
+    report[at..at + 32].copy_from_slice(b);
+    at + 32
+}
+
+fn whole_host(host: &Host, report: &mut [u8], at: usize) -> usize
     requires { at + 5072 ≤ length report.old }
     ensures { result ≤ at + 5072 }
 {
-    let one = number(report, at, host.sector);
-    let two = number(report, one, host.disk);
-    let three = number(report, two, host.stage);
-    let places = host.places;
-    let four = all_places(host.sector, places, report, three);
-    let p = host.program;
-    program(p, report, four)
-}
-
-fn all_places(z: u64, places: [Place; 8], report: &mut [u8], at: usize) -> usize
-    requires { at + 4480 ≤ length report.old }
-    ensures { result ≤ at + 4480 }
-{
-    let mut end = at;
-    let mut i: usize = 0;
-    while i < 8 {
-        let p = places[i];
-        end = place(z, p, report, end);
-        i += 1;
+    let mut end = numbers(report, at, &[host.sector, host.disk, host.stage]);
+    for p in &host.places {
+        end = place(host.sector, p, report, end);
     }
-    end
+    program(&host.program, report, end)
 }
 
 // 0, or 1 with id, size, and the slots of its positions, of z bytes each.
-fn place(z: u64, p: Place, report: &mut [u8], at: usize) -> usize
+fn place(z: u64, p: &Place, report: &mut [u8], at: usize) -> usize
     requires { at + 560 ≤ length report.old }
     ensures { result ≤ at + 560 }
 {
-    let one = flag(report, at, p.held);
+    let at = numbers(report, at, &[u64::from(p.held)]);
     if !p.held {
-        return one;
+        return at;
     }
-    let id = p.id;
-    let two = bytes(report, one, id);
-    let three = number(report, two, p.size);
-    let list = p.slots;
-    slots(list, positions(z, p.size), report, three)
+    let at = bytes(report, at, &p.id);
+    let at = numbers(report, at, &[p.size]);
+    slots(&p.slots[0..positions(z, p.size)], report, at)
 }
 
 // The positions of a size, at most as many as a place has slots; none where a sector has no bytes.
@@ -150,55 +121,47 @@ fn positions(z: u64, size: u64) -> usize
     host::sectors(z, size)
 }
 
-// The first n of 64 slots.
-fn slots(list: [u8; 64], n: usize, report: &mut [u8], at: usize) -> usize
-    requires { (n ≤ 64) × (at + 512 ≤ length report.old) }
+// Slots, at most 64.
+fn slots(list: &[u8], report: &mut [u8], at: usize) -> usize
+    requires few { length list.now ≤ 64 }
+    requires room { at + 512 ≤ length report.old }
     ensures { result ≤ at + 512 }
 {
     let mut end = at;
-    let mut i: usize = 0;
-    while i < n {
-        end = number(report, end, wide(list[i]));
-        i += 1;
+    for slot in list {
+        end = numbers(report, end, &[u64::from(*slot)]);
     }
     end
 }
 
-fn wide(x: u8) -> u64 {
-    x as u64
-}
-
 // 0, or 1 with came, ran, tally, written, failed, running size, and the staged slots.
-fn program(p: Program, report: &mut [u8], at: usize) -> usize
+fn program(p: &Program, report: &mut [u8], at: usize) -> usize
     requires { at + 568 ≤ length report.old }
     ensures { result ≤ at + 568 }
 {
-    let one = flag(report, at, p.active);
+    let at = numbers(report, at, &[u64::from(p.active)]);
     if !p.active {
-        return one;
+        return at;
     }
     let q = p.progress;
-    let two = number(report, one, p.came);
-    let three = number(report, two, q.ran);
-    let four = number(report, three, q.tally);
-    let five = number(report, four, q.written);
-    let six = flag(report, five, q.failed);
-    let seven = number(report, six, q.size);
-    let staged = q.staged;
-    slots(staged, 64, report, seven)
-}
-
-// The digests of the roots kept beside the slots of disk and stage.
-fn kept_roots(diskroots: [u8; 2048], stageroots: [u8; 512], report: &mut [u8], at: usize)
-    requires { at + 64 ≤ length report.old }
-{
-    digest(&diskroots, report, at);
-    digest(&stageroots, report, at + 32);
+    let at = numbers(
+        report,
+        at,
+        &[
+            p.came,
+            q.ran,
+            q.tally,
+            q.written,
+            u64::from(q.failed),
+            q.size,
+        ],
+    );
+    slots(&q.staged, report, at)
 }
 
 // The 32-byte digest of an area.
 fn digest(area: &[u8], report: &mut [u8], at: usize)
     requires { at + 32 ≤ length report.old }
 {
-    blake2b::digest(b"", area, &mut report[at..at + 32]);
+    blake2b::digest(b"", area, &mut report[at..at + 32]).unwrap();
 }

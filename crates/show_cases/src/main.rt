@@ -5,15 +5,14 @@
 use std::io;
 use std::io::{Read, Write};
 
-// Input after input. There are no more than `turns` counts.
+// Input after input. There are no more than there are places to count.
 fn main(rt: HostRuntime) -> io::Result<()> {
     let mut source = rt.stdin();
     let mut sink = rt.stdout();
-    let mut turns: u64 = u64::MAX;
-    while 0 < turns {
-        let place = u64::MAX - turns;
-        let whole = one_input(&mut source, &mut sink, place)?;
-        turns = stdin::still(whole, turns);
+    for place in 0..u64::MAX {
+        if !one_input(&mut source, &mut sink, place)? {
+            break;
+        }
     }
     Ok(())
 }
@@ -26,11 +25,7 @@ fn one_input(source: &mut impl Read, sink: &mut impl Write, place: u64) -> io::R
         return Ok(false);
     }
     let length = area::load(&ahead, 0);
-    heading(sink, place, length)?;
+    writeln!(sink, "input {place}, bytes {length}")?;
     showing::show_from(source, sink, length)?;
     Ok(true)
-}
-
-fn heading(sink: &mut impl Write, place: u64, length: u64) -> io::Result<()> {
-    writeln!(sink, "input {place}, bytes {length}")
 }

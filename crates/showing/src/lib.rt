@@ -2,17 +2,13 @@
 // refusal, which is 8 bytes and nothing more, is one line. What makes no sense is told with its place.
 #![tactic(auto)]
 
-ghost use Rattle.std.specs.Prelude.{length};
-ghost use Rattle.showing.specs.Whole.{Whole};
-
 mod lines; // lines.rt: what is printed of a record
 mod parts; // parts.rt: where the parts of a record stand
 mod words; // words.rt: numbers in words
 
-use parts::Parts;
+use parts::{Fault, parts_at};
 use std::io;
 use std::io::{Read, Write};
-use stdout::{decimal, text};
 
 // Shows one input, which may use at most `left` bytes of standard input; all of them are read.
 pub fn show_from(source: &mut impl Read, sink: &mut impl Write, left: u64) -> io::Result<()> {
@@ -28,76 +24,51 @@ pub fn show_from(source: &mut impl Read, sink: &mut impl Write, left: u64) -> io
 // What is left of an input that is longer than any output area.
 fn beyond(source: &mut impl Read, sink: &mut impl Write, left: u64) -> io::Result<()> {
     if 0 < stdin::skip(source, left)? {
-        text(
+        writeln!(
             sink,
-            b"stopped at byte 65536: no output area is longer, and the bytes from there on are not shown\n",
+            "stopped at byte 65536: no output area is longer, and the bytes from there on are not shown"
         )?;
     }
     Ok(())
 }
 
 fn show(sink: &mut impl Write, input: &[u8]) -> io::Result<()> {
-    if input.len() == 0 {
-        return text(sink, b"no records\n");
+    match input.len() {
+        0 => writeln!(sink, "no records"),
+        8 => {
+            let number = area::load(input, 0);
+            let words = words::refusal(number);
+            writeln!(sink, "refused: {number}, {words}")
+        }
+        _ => records(sink, input),
     }
-    if input.len() == 8 {
-        return refusal(sink, area::load(input, 0));
-    }
-    records(sink, input)
 }
 
-fn refusal(sink: &mut impl Write, number: u64) -> io::Result<()> {
-    text(sink, b"refused: ")?;
-    decimal(sink, number)?;
-    text(sink, b", ")?;
-    words::refusal(sink, number)?;
-    text(sink, b"\n")
-}
-
-// Record by record, up to the first fault.
+// Record by record, up to the first fault, which is told with its place.
 fn records(sink: &mut impl Write, input: &[u8]) -> io::Result<()> {
     let mut place: u64 = 1;
     let mut at: usize = 0;
+    // Kept: no plainer, `at` moves on by a record's length, which is known once it is read.
     while at < input.len() {
-        let p = parts::parts_at(input, at);
-        if p.fault != 0 {
-            return damaged(sink, place, p.fault, p.from);
+        match parts_at(input, at) {
+            Ok(p) => {
+                lines::record_line(
+                    sink,
+                    place,
+                    &input[at..p.hashes],
+                    &input[p.hashes..p.middle],
+                    &input[p.output..p.end],
+                )?;
+                at = p.end;
+                place += 1;
+            }
+            Err(Fault { missing, from }) => {
+                return writeln!(
+                    sink,
+                    "{place}: makes no sense from byte {from} on: {missing}"
+                );
+            }
         }
-        record(sink, place, input, at, p)?;
-        at = p.end;
-        place += 1;
     }
     Ok(())
-}
-
-// A record that is whole.
-fn record(sink: &mut impl Write, place: u64, input: &[u8], at: usize, p: Parts) -> io::Result<()>
-    requires { Whole at (length input.now) p }
-{
-    let hashes = p.hashes;
-    let middle = p.middle;
-    let output = p.output;
-    let end = p.end;
-    lines::record_line(
-        sink,
-        place,
-        &input[at..hashes],
-        &input[hashes..middle],
-        &input[output..end],
-    )
-}
-
-// Where the input stops making sense, and why.
-fn damaged(sink: &mut impl Write, place: u64, fault: u64, from: usize) -> io::Result<()> {
-    decimal(sink, place)?;
-    text(sink, b": makes no sense from byte ")?;
-    decimal(sink, from as u64)?;
-    text(sink, b" on: ")?;
-    match fault {
-        1 => text(sink, b"the record is cut off")?,
-        2 => text(sink, b"its count of hashes passes the end")?,
-        3 => text(sink, b"it is cut off before its output")?,
-        _ => text(sink, b"its count of output bytes passes the end")?,
-    }
-    text(sink, b"\n")
 }

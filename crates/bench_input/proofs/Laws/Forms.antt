@@ -10,7 +10,7 @@ use Rattle.host.specs.Calls.{answered, formed_at, formed, freshed}
 use Rattle.bench_program.specs.Single.{formed_in_turn}
 use Rattle.host.specs.declared.Place.{Place}
 use Rattle.host.specs.declared.Host.{Host}
-use Rattle.host.specs.declared.Made.{Made}
+use Rattle.host.specs.Calls.{Made}
 
 -- how many places are free
 unfoldable pub free : List Place → ℕ

@@ -12,11 +12,11 @@ use Rattle.machine_rules.proofs.Opening.{opens}
 use Rattle.bench_program.specs.Single as Says
 use Rattle.bench_program.specs.Single.{Ran, ran, ids_in, formed_in_turn, ended, shown, given, run}
 use Rattle.bench_input.proofs.Laws.Heads.{declared-most}
-use Rattle.sia.specs.declared.Told.{Told}
+use Rattle.sia.specs.Decode.{Told}
 use Rattle.host.specs.declared.Prices.{Prices}
 use Rattle.host.specs.declared.Host.{Host}
-use Rattle.host.specs.declared.Made.{Made}
-use Rattle.machine_rules.specs.declared.Answer.{Answer}
+use Rattle.host.specs.Calls.{Made}
+use Rattle.machine_rules.specs.Calls.{Answer}
 
 -- ---- data that passes the declared length
 

@@ -9,7 +9,7 @@ pub returns-then-all-ne-KEPT : goal.returns-then-all-ne-KEPT
 returns-then-all-ne-KEPT g c = gathered_none _
 
 pub loop-source-init : goal.loop-source-init
-loop-source-init g c = (c.if-all-ne-KEPT.false, (came-none _ c.new-reader.ensures, search rules))
+loop-source-init g c = (c.if-all-ne-KEPT.false, (came-none _ c.new.ensures, search rules))
 
 pub read_once-requires : goal.read_once-requires
 unfolding reads_on

@@ -1,8 +1,9 @@
--- `calls::play_all` is safe and ends: the areas stay as long as they are, and the turns are counted. Assumes nothing.
+-- `calls::play_all` is safe: the areas stay as long as they are. Assumes nothing.
+use Rattle.std.proofs.Common.{◌≡◌, length}
 use Rattle.calls.proofs.play_all.Given as goal
 
-abbrev pub invariant-loop-turns : goal.invariant-loop-turns
-invariant-loop-turns g l = Unit {0}
-
-abbrev pub decreases-loop-turns : goal.decreases-loop-turns
-decreases-loop-turns g l = l.turns
+abbrev pub invariant-loop : goal.invariant-loop
+invariant-loop g l =
+    (length l.item ≡ length l.initial.item) × (length l.disk ≡ length l.initial.disk) × (length l.stage ≡ length l.initial.stage)
+    × (length l.input ≡ length l.initial.input) × (length l.output ≡ length l.initial.output)
+    × (length l.report ≡ length l.initial.report)

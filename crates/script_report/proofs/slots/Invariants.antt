@@ -1,9 +1,6 @@
--- `script_report::slots` is safe and ends: after i slots at most 8 × i bytes are written. Assumes nothing.
-use Rattle.lists.proofs.Kit.{◌+◌, ◌*◌, ◌-◌, ◌≤◌, ◌≡◌, length}
+-- `script_report::slots` is safe: after so many slots eight bytes are written of each. Assumes nothing.
+use Rattle.std.proofs.Common.{◌≡◌, ◌+◌, ◌*◌, length}
 use Rattle.script_report.proofs.slots.Given as goal
 
-abbrev pub invariant-loop-i : goal.invariant-loop-i
-invariant-loop-i l = (length l.report ≡ length l.initial.report) × (l.i ≤ l.n) × (l.end ≡ l.at + 8 * l.i)
-
-abbrev pub decreases-loop-i : goal.decreases-loop-i
-decreases-loop-i l = l.n - l.i
+abbrev pub invariant-loop-slot : goal.invariant-loop-slot
+invariant-loop-slot l = (length l.report ≡ length l.initial.report) × (l.end ≡ l.at + 8 * l.slot-index)

@@ -8,6 +8,6 @@ pub returns-then-in_data : goal.returns-then-in_data
 unfolding full
 returns-then-in_data c = yes _ _ _ (sym c.in_data.ensures ∙ c.if-in_data.true) refl
 
-pub returns : goal.returns
+pub returns-else-in_data : goal.returns-else-in_data
 unfolding full
-returns c = no _ _ _ (sym c.in_data.ensures ∙ c.if-in_data.false) refl
+returns-else-in_data c = no _ _ _ (sym c.in_data.ensures ∙ c.if-in_data.false) c.if-in_data.false

@@ -9,7 +9,7 @@ pub returns : goal.returns
 unfolding head_from
 returns c =
     let given = c.args in
-    no _ _ _ (ne_eqb _ 0 c.if-n-eq0.false) (ap (λ (m : ℕ). reader Head 0 given.n m given.at) c.least.ensures)
+    no _ _ _ (ne_eqb _ 0 c.if-n-eq0.false) (ap (λ (m : ℕ). reader Head 0 given.n m given.at) c.min.ensures)
 
 pub returns-then-n-eq0 : goal.returns-then-n-eq0
 unfolding head_from

@@ -4,7 +4,7 @@ use Rattle.bench_input.proofs.Reader.next.Goals as goal
 
 pub returns-in-Front : goal.returns-in-Front
 returns-in-Front c =
-    behind-front _ _ c.in-Front.is c.number_to-n.ensures c.least.ensures c.ids_from.ensures
+    behind-front _ _ c.in-Front.is c.number_to-n.ensures c.min.ensures c.ids_from.ensures
     c.lower.ensures
 
 pub returns-in-Length : goal.returns-in-Length

@@ -1,2 +1,0 @@
--- What proofs of this crate share.
-pub mod Laws
