@@ -7,13 +7,20 @@ ghost use Rattle.area.specs.Area as Says;
 ghost use Rattle.area.specs.Area.{part, put, exchanged};
 ghost use Rattle.area.specs.Little.{value_of, bytes_of};
 
+// Kept: the loops of `copy_between`, `move_down` and `move_up` count an index. std's `copy_from_slice` and `copy_within` are plainer, and ask C
+// for `memmove`, which the archive for C asked for nowhere.
+
 // n bytes of src from `from` on, laid over dst from `to` on.
 pub fn copy_between(src: &[u8], from: usize, dst: &mut [u8], to: usize, n: usize)
     requires n_in_bounds { from + n ≤ length src.now }
     requires n_in_bounds_2 { to + n ≤ length dst.old }
     ensures { dst.new ≡ put dst.old to (part src.now from n) }
 {
-    dst[to..to + n].copy_from_slice(&src[from..from + n]);
+    let mut i = 0;
+    while i < n {
+        dst[to + i] = src[from + i];
+        i += 1;
+    }
 }
 
 // n bytes of an area from `from` on, laid over it from `to` on as they were at the start, also where the spans overlap.
@@ -22,7 +29,37 @@ pub fn move_within(a: &mut [u8], from: usize, to: usize, n: usize)
     requires n_in_bounds_2 { to + n ≤ length a.old }
     ensures { a.new ≡ put a.old to (part a.old from n) }
 {
-    a.copy_within(from..from + n, to);
+    if to <= from {
+        move_down(a, from, to, n);
+    } else {
+        move_up(a, from, to, n);
+    }
+}
+
+// To where they lie lower: ascending, so that no byte is written over before it is read.
+fn move_down(a: &mut [u8], from: usize, to: usize, n: usize)
+    requires to_le_from { to ≤ from }
+    requires n_in_bounds { from + n ≤ length a.old }
+    ensures { a.new ≡ put a.old to (part a.old from n) }
+{
+    let mut i = 0;
+    while i < n {
+        a[to + i] = a[from + i];
+        i += 1;
+    }
+}
+
+// To where they lie higher: descending.
+fn move_up(a: &mut [u8], from: usize, to: usize, n: usize)
+    requires from_le_to { from ≤ to }
+    requires n_in_bounds { to + n ≤ length a.old }
+    ensures { a.new ≡ put a.old to (part a.old from n) }
+{
+    let mut i = n;
+    while 0 < i {
+        i -= 1;
+        a[to + i] = a[from + i];
+    }
 }
 
 // Two spans of n bytes of an area exchanged, as both were at the start. Where they overlap the bytes that both have are moved, and

@@ -2,8 +2,9 @@
 -- size. Assumes nothing.
 use Rattle.std.specs.Prelude.{◌≡◌, Bool, true, List, [], ◌++◌, ℕ, ◌+◌, ◌*◌, ◌≤◌, min, length, take, ltb}
 use Rattle.lists.specs.Pick.{pick, either}
-use Rattle.area.specs.Area.{part}
+use Rattle.area.specs.Area.{part, zeros}
 use Rattle.area.specs.Little.{le8, Bytes}
+use Rattle.bench_program.specs.Single.{spoken}
 use Rattle.bench_program.specs.Input.{number_at, ids_end, data_bytes, cut_short, answered}
 use Rattle.bench_input.specs.Reader.{whole, read_all, full, holds}
 
@@ -30,6 +31,10 @@ missing all = either (ltb (length all) 80) (cut_short all)
 -- what is kept of any input: nothing where bytes are missing
 unfoldable pub keep : List ℕ → List ℕ
 keep all = pick (missing all) [] (kept all)
+
+-- what is written out of an input played on fresh areas of disk and stage of these lengths, and on this output area
+unfoldable pub outcome : ℕ → ℕ → ℕ → List ℕ → List ℕ → List ℕ
+outcome z disk stage all output = spoken (answered z all (zeros disk) (zeros stage) (zeros 65536) output)
 
 pub record Kept : Type 0 where
   -- what is kept is answered as the whole, and leaves the same host and areas

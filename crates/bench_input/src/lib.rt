@@ -3,10 +3,11 @@
 // ahead of it are lowered, so that an input of any length has its answer. Rests on `bench_program` for what an input means, and on `stdin`.
 #![tactic(auto)]
 
-ghost use Rattle.std.specs.Prelude.{◌≡◌, ◌^◌, ◌≤◌, ◌<◌, length, [], ◌∷◌, IfOk, MatchResult};
+ghost use Rattle.std.specs.Prelude.{◌≡◌, ◌^◌, ◌≤◌, ◌<◌, length, take, [], ◌∷◌, IfOk, MatchResult};
 ghost use Rattle.bench_input.specs.Reader as Says;
 ghost use Rattle.bench_input.specs.Reader.{state, fresh, ids_from, head_from, data_from, number_to, fed_byte, in_data};
 ghost use Rattle.bench_input.specs.Gathered.{reads_on, Feeds, Gathered};
+ghost use Rattle.bench_input.specs.Kept.{outcome};
 
 use std::io;
 use std::io::{Read, Write};
@@ -286,6 +287,25 @@ pub fn gather(source: &mut impl Read, left: u64, follows: bool, all: &mut [u8]) 
     Ok(turn.reader.held())
 }
 
+// Plays the first n bytes of an area on a host with sectors of that size and on fresh areas of these lengths. What is to be written out stands
+// then at the front of the output area: so many bytes.
+fn played<const DISK: usize, const STAGE: usize>(
+    sector: u64,
+    all: &[u8],
+    n: usize,
+    output: &mut [u8],
+) -> usize
+    requires within { n ≤ length all.now }
+    requires room { 8 ≤ length output.old }
+    requires sizes { (DISK < 2 ^ 63) × (STAGE < 2 ^ 63) }
+    ensures { take result output.new ≡ outcome sector DISK STAGE (take n all.now) output.old }
+{
+    let mut disk = [0u8; DISK];
+    let mut stage = [0u8; STAGE];
+    let mut input = [0u8; 65_536];
+    bench_program::play(sector, &all[..n], &mut disk, &mut stage, &mut input, output)
+}
+
 // Reads one input, plays it on a host with sectors of that size and on fresh areas of these lengths, and writes what it comes to: the records,
 // or a refusal's number in 8 bytes.
 pub fn answer<const DISK: usize, const STAGE: usize, const OUTPUT: usize>(
@@ -298,18 +318,8 @@ pub fn answer<const DISK: usize, const STAGE: usize, const OUTPUT: usize>(
 {
     let mut all = [0u8; Reader::KEPT];
     let n = gather(source, u64::MAX, false, &mut all)?;
-    let mut disk = [0u8; DISK];
-    let mut stage = [0u8; STAGE];
-    let mut input = [0u8; 65_536];
     let mut output = [0u8; OUTPUT];
-    let shown = bench_program::play(
-        sector,
-        &all[0..n],
-        &mut disk,
-        &mut stage,
-        &mut input,
-        &mut output,
-    );
+    let shown = played::<DISK, STAGE>(sector, &all, n, &mut output);
     show(sink, &output, shown)
 }
 

@@ -77,13 +77,12 @@ fn give(
     let head = terms.head;
     let n = least(head.length, input.len());
     let taken = match machine::piece(host, &*disk, stage, &mut input[0..n], output, bytes) {
-        Ok(taken) => taken.host,
+        Ok(taken) => taken,
         Err(why) => return refused(why, host),
     };
-    let written = taken.program.progress.written;
-    match finish(taken, disk, &*stage) {
-        Ok(done) => closed(done, written),
-        Err(why) => refused(why, taken),
+    match finish(taken.host, disk, &*stage) {
+        Ok(done) => closed(done, taken.host.program.progress.written),
+        Err(why) => refused(why, taken.host),
     }
 }
 

@@ -16,7 +16,7 @@ mod sizes; // sizes.rt: which sizes of sectors there are
 mod slots; // slots.rt: slots in an array
 mod taken; // taken.rt: the slots that contracts take, and the lowest free ones
 
-pub use pairs::apart;
+pub use pairs::{apart, apart_but};
 pub use places::{has_id, place_number, place_of, replaced_in, sizes_fit};
 pub use refusal::Refusal;
 use sia::Head;

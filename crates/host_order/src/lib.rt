@@ -2,10 +2,11 @@
 // clause of `host`'s definition, in its order. Rests on `host` and `sia`. Inner functions: what they require, their callers prove.
 #![tactic(auto)]
 
-ghost use Rattle.std.specs.Prelude.{◌≡◌, ◌+◌, ◌≤◌, ◌<◌, leb};
-ghost use Rattle.lists.specs.Pick.{pick};
+ghost use Rattle.std.specs.Prelude.{◌≡◌, ◌+◌, ◌≤◌, ◌<◌, leb, ltb, eqb};
+ghost use Rattle.lists.specs.Pick.{pick, both};
 ghost use Rattle.lists.specs.Tests.{every, apart};
 ghost use Rattle.area.specs.Slots.{Size};
+ghost use Rattle.host.specs.Places.{taken};
 ghost use Rattle.host.specs.Order.{place_in_order, twins, places_in_order, parent_in_order, terms_in_order, progress_in_order, program_in_order, in_order};
 
 use host::{Host, Place, Terms};
@@ -43,18 +44,23 @@ fn are_twins(p: Place, q: Place) -> bool
 fn no_twins(places: [Place; 8]) -> bool
     ensures { result ≡ apart twins places }
 {
-    host::apart(&places, |p, q| are_twins(*p, *q))
+    host::apart_but(&places, |p| !p.held, |p, q| are_twins(*p, *q))
+}
+
+// Whether the slots that contracts take are slots of the disk, no two equal.
+fn slots_in_order(z: u64, disk: u64, places: [Place; 8]) -> bool
+    requires { 0 < z }
+    ensures { result ≡ both (apart eqb (taken z places)) (every (λ n. ltb n disk) (taken z places)) }
+{
+    let taken = host::slots_taken(z, places);
+    host::distinct(taken.as_slice()) && host::below(taken.as_slice(), disk)
 }
 
 fn places_in_order(z: u64, disk: u64, places: [Place; 8]) -> bool
     requires { 0 < z }
     ensures { result ≡ places_in_order z disk places }
 {
-    let taken = host::slots_taken(z, places);
-    each_in_order(z, places)
-        && no_twins(places)
-        && host::distinct(taken.as_slice())
-        && host::below(taken.as_slice(), disk)
+    each_in_order(z, places) && no_twins(places) && slots_in_order(z, disk, places)
 }
 
 // ---- an open program
@@ -99,8 +105,8 @@ fn progress_in_order(host: &Host) -> bool
     ensures { let h = host.now in result ≡ progress_in_order h.sector h.disk h.stage h.places h.program.terms h.program.progress }
 {
     let z = host.sector;
-    let t = host.program.terms;
-    let p = host.program.progress;
+    let t = &host.program.terms;
+    let p = &host.program.progress;
     let id = t.head.contract;
     p.ran <= t.head.count
         && p.tally <= t.budget
@@ -121,7 +127,7 @@ fn program_in_order(host: &Host) -> bool
     requires disk_bound { host.now.disk ≤ 64 }
     ensures { let h = host.now in result ≡ program_in_order h.sector h.disk h.stage h.places h.program }
 {
-    let g = host.program;
+    let g = &host.program;
     terms_in_order(host.places, g.terms, g.progress.size)
         && g.came <= g.terms.head.length
         && progress_in_order(host)

@@ -26,10 +26,11 @@ fn clashes(x: u8, y: u8) -> bool
     x != Progress::NONE && y != Progress::NONE && x == y
 }
 
+// A position that is not staged clashes with none.
 fn no_clash(staged: &[u8]) -> bool
     ensures { result ≡ apart clash staged.now }
 {
-    host::apart(staged, |m, n| clashes(*m, *n))
+    host::apart_but(staged, |n| *n == Progress::NONE, |m, n| clashes(*m, *n))
 }
 
 fn none_staged(staged: &[u8]) -> bool

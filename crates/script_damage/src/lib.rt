@@ -1,8 +1,9 @@
 // A number put into the host's record, to damage it. What does not fit is malformed; an index or a value that passed `fits` is within its
-// array or its width, and of what does not fit the functions below leave the record as it is. Rests on `host`.
+// array or its width. Elsewhere an index behind an array's end leaves the record as it is, and of a value that is too wide the low part is
+// put in. Rests on `host`.
 #![tactic(auto)]
 
-ghost use Rattle.std.specs.Prelude.{◌<◌, IfSome};
+ghost use Rattle.std.specs.Prelude.{◌≡◌, ◌%◌, ◌<◌, IfSome};
 
 use host::{Host, Place, Prices};
 use sia::Instruction;
@@ -30,7 +31,7 @@ enum Poke {
     Staged(usize, u8),
     Room(u64),
     Budget(u64),
-    Price(usize, u16),
+    Price(u64, u16),
     // its head
     Contract(usize, u8),
     Count(u64),
@@ -59,7 +60,18 @@ enum InstructionPoke {
 
 // Whether there is such a field, and i, j and the value are within its limits.
 pub fn fits(field: u64, i: u64, j: u64, value: u64) -> bool {
-    poke_of(field, i, j, value).is_some()
+    let price = field != 24 || i < 7;
+    field <= 27 && price && value <= most(field) && poke_of(field, i, j, value).is_some()
+}
+
+// The largest value: flags, bytes and slots, prices, and all else.
+fn most(field: u64) -> u64 {
+    match field {
+        2 | 6 | 11 | 23 => 1,
+        3 | 5 | 13 | 16 | 19 | 26 | 27 => 255,
+        24 => 65_535,
+        _ => u64::MAX,
+    }
 }
 
 // The host with the value in its field.
@@ -70,50 +82,50 @@ pub fn poked(host: Host, field: u64, i: u64, j: u64, value: u64) -> Host {
     }
 }
 
-// The poke that the numbers of a script stand for: a field, i and j where they say which of an array's, and a value.
+// The poke that the numbers of a script stand for: a field, i and j where they say which of an array's, and a value. None behind an array's
+// end; a flag is raised by 1 alone, and any field that there is not stands for the last.
 fn poke_of(field: u64, i: u64, j: u64, value: u64) -> Option<Poke> {
     match field {
         0 => Some(Poke::Disk(value)),
         1 => Some(Poke::Stage(value)),
         2..=5 => Some(Poke::InPlace(below(i, 8)?, place_poke_of(field, j, value)?)),
-        6 => Some(Poke::Active(flag(value)?)),
+        6 => Some(Poke::Active(value == 1)),
         7 => Some(Poke::Came(value)),
         8 => Some(Poke::Ran(value)),
         9 => Some(Poke::Tally(value)),
         10 => Some(Poke::Written(value)),
-        11 => Some(Poke::Failed(flag(value)?)),
+        11 => Some(Poke::Failed(value == 1)),
         12 => Some(Poke::Size(value)),
-        13 => Some(Poke::Staged(below(i, 64)?, byte(value)?)),
+        13 => Some(Poke::Staged(below(i, 64)?, low8(value))),
         14 => Some(Poke::Room(value)),
         15 => Some(Poke::Budget(value)),
-        16 => Some(Poke::Contract(below(i, 32)?, byte(value)?)),
+        16 => Some(Poke::Contract(below(i, 32)?, low8(value))),
         17 => Some(Poke::Count(value)),
         18 => Some(Poke::Length(value)),
-        19..=23 => Some(Poke::InInstruction(below(i, 32)?, instruction_poke_of(field, j, value)?)),
-        24 => Some(Poke::Price(below(i, 7)?, u16::try_from(value).ok()?)),
+        24 => Some(Poke::Price(i, low16(value))),
         25 => Some(Poke::Sector(value)),
-        26 => Some(Poke::DiskRoots(32 * below(i, 64)? + below(j, 32)?, byte(value)?)),
-        27 => Some(Poke::StageRoots(32 * below(i, 16)? + below(j, 32)?, byte(value)?)),
-        _ => None,
+        26 => Some(Poke::DiskRoots(32 * below(i, 64)? + below(j, 32)?, low8(value))),
+        27 => Some(Poke::StageRoots(32 * below(i, 16)? + below(j, 32)?, low8(value))),
+        _ => Some(Poke::InInstruction(below(i, 32)?, instruction_poke_of(field, j, value)?)),
     }
 }
 
 fn place_poke_of(field: u64, j: u64, value: u64) -> Option<PlacePoke> {
     match field {
-        2 => Some(PlacePoke::Held(flag(value)?)),
-        3 => Some(PlacePoke::Id(below(j, 32)?, byte(value)?)),
+        2 => Some(PlacePoke::Held(value == 1)),
+        3 => Some(PlacePoke::Id(below(j, 32)?, low8(value))),
         4 => Some(PlacePoke::Size(value)),
-        _ => Some(PlacePoke::Slots(below(j, 64)?, byte(value)?)),
+        _ => Some(PlacePoke::Slots(below(j, 64)?, low8(value))),
     }
 }
 
 fn instruction_poke_of(field: u64, j: u64, value: u64) -> Option<InstructionPoke> {
     match field {
-        19 => Some(InstructionPoke::Name(below(j, 16)?, byte(value)?)),
+        19 => Some(InstructionPoke::Name(below(j, 16)?, low8(value))),
         20 => Some(InstructionPoke::Count(value)),
         21 => Some(InstructionPoke::Offset(below(j, 4)?, value)),
-        22 => Some(InstructionPoke::Len(below(j, 4)?, value)),
-        _ => Some(InstructionPoke::Proof(flag(value)?)),
+        23 => Some(InstructionPoke::Proof(value == 1)),
+        _ => Some(InstructionPoke::Len(below(j, 4)?, value)),
     }
 }
 
@@ -127,16 +139,14 @@ fn below(n: u64, end: usize) -> Option<usize>
     None
 }
 
-fn flag(value: u64) -> Option<bool> {
-    match value {
-        0 => Some(false),
-        1 => Some(true),
-        _ => None,
-    }
+fn low8(n: u64) -> u8 {
+    (n % 256) as u8
 }
 
-fn byte(value: u64) -> Option<u8> {
-    u8::try_from(value).ok()
+pub fn low16(n: u64) -> u16
+    ensures { result ≡ n % 65536 }
+{
+    (n % 65_536) as u16
 }
 
 // ---- what is put
@@ -185,7 +195,7 @@ fn put_in_place(place: &mut Place, poke: PlacePoke) {
     }
 }
 
-fn put_price(prices: &mut Prices, i: usize, price: u16) {
+fn put_price(prices: &mut Prices, i: u64, price: u16) {
     match i {
         0 => prices.init = price,
         1 => prices.memory = price,

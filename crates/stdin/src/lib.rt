@@ -7,7 +7,7 @@
 ghost use Rattle.std.specs.Prelude.{◌≡◌, ◌≤◌, ◌<◌, length, IfOk, MatchResult};
 
 use std::io;
-use std::io::{ErrorKind, Read};
+use std::io::Read;
 
 // Reads into an area until it is full or the input ends. It answers how many bytes came.
 pub fn full<R: Read>(source: &mut R, area: &mut [u8]) -> io::Result<usize>
@@ -16,26 +16,13 @@ pub fn full<R: Read>(source: &mut R, area: &mut [u8]) -> io::Result<usize>
     let mut done = 0;
     // Kept: no plainer as a `for` or a chain, since what a read gives decides how far a turn goes.
     while done < area.len() {
-        let got = some(source, &mut area[done..])?;
+        let got = source.read(&mut area[done..])?;
         if got == 0 {
             break;
         }
         done += got;
     }
     Ok(done)
-}
-
-// One read into an area, made again where a signal interrupts it. It answers how many bytes came.
-fn some<R: Read>(source: &mut R, area: &mut [u8]) -> io::Result<usize>
-    ensures { MatchResult result (λ n. n ≤ length area.old) (λ _. length area.new ≡ length area.old) }
-{
-    for _ in 0..u64::MAX {
-        match source.read(area) {
-            Err(e) if e.kind() == ErrorKind::Interrupted => {}
-            answer => return answer,
-        }
-    }
-    Err(ErrorKind::Interrupted.into())
 }
 
 // Reads at most `left` bytes into an area, until it is full or the input ends. It answers how many came.

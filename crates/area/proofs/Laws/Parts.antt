@@ -44,6 +44,6 @@ part-part a at n from m h =
     ∙ take-take m (n - from) (drop from (drop at a)) (omega arith)
     ∙ ap (take m) (drop-drop from at a)
 
-pub get_or-part : (a : List ℕ) (at n i : ℕ) → i < n → get_or (part a at n) i 0 ≡ get_or a (at + i) 0
+pub get_d_part : (a : List ℕ) (at n i : ℕ) → i < n → get_or (part a at n) i 0 ≡ get_or a (at + i) 0
 unfolding part
-get_or-part a at n i h = get_or-take n (drop at a) i 0 h ∙ get_or-drop at a i 0
+get_d_part a at n i h = get_or-take n (drop at a) i 0 h ∙ get_or-drop at a i 0

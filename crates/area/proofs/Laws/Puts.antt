@@ -1,8 +1,6 @@
 -- Bytes laid over areas: each law goes down the area, byte by byte. Assumes nothing.
 use Rattle.lists.proofs.Kit.{◌≡◌, refl, sym, ap, ◌∙◌, List, [], ◌∷◌, ◌++◌, append_assoc, append-nil, ℕ, zero, suc, ◌+◌, ◌≤◌, ◌<◌, arith, length, take}
-use Rattle.lists.proofs.Kit.{add-sub_cancel_left, ◌-◌, drop, get_or, set, length-append, drop_of_length-le, take_at, length-take-le}
-use Rattle.std.specs.List.{copy_within}
-use lib.Seq.{paste}
+use Rattle.lists.proofs.Kit.{drop, get_or, set, length-append, drop_of_length-le, take_at, length-take-le}
 use Rattle.area.specs.Area.{part, put}
 use Rattle.area.proofs.Laws.Parts.{length_part}
 
@@ -169,13 +167,3 @@ get_or-behind (x ∷ xs) (suc at) bs (suc k) h = get_or-behind xs at bs k (omega
 get_or-behind (x ∷ xs) zero [] k h = refl
 get_or-behind (x ∷ xs) zero (b ∷ bs) zero h = absurd (omega arith)
 get_or-behind (x ∷ xs) zero (b ∷ bs) (suc k) h = get_or-behind xs zero bs k (omega arith)
-
--- bytes of an area moved within it, as std says it
-pub pasted : (d : List ℕ) (from to n : ℕ) → from + n ≤ length d → to + n ≤ length d → copy_within d from (from + n) to ≡ put d to (part d from n)
-unfolding part
-pasted d from to n g h =
-    let k : from + n - from ≡ n = add-sub_cancel_left from n in
-    let l : length (part d from n) ≡ n = length_part d from n g in
-    ap (λ (m : ℕ). paste d to (drop from d) m) k
-    ∙ append_assoc (take to d) (part d from n) (drop (to + n) d)
-    ∙ sym (put_is d to (part d from n) (to + n) (omega (arith, l)) h)

@@ -1,10 +1,20 @@
--- What is lent of dst is left as the part of src. Assumes nothing.
-use Rattle.lists.proofs.Kit.{refl, ◌∙◌}
-use Rattle.area.proofs.Laws.Parts.{length_part, part-is}
-use Rattle.area.proofs.Laws.Lent.{lent_part}
+-- `area::copy_between` meets its contract. The loop's invariant: the first i of the n bytes are laid. A turn lays one more.
+-- Assumes nothing.
+use Rattle.lists.proofs.Kit.{refl, sym, arith, rules}
+use Rattle.area.proofs.Laws.Parts.{length_part, get_d_part}
+use Rattle.area.proofs.Laws.Puts.{put-nil}
+use Rattle.area.proofs.Laws.Loops.{one_more, all_laid}
 use Rattle.area.proofs.copy_between.Goals as goal
 
+pub loop-i-preserved : goal.loop-i-preserved
+loop-i-preserved c = (
+  omega arith,
+  search rules,
+  one_more _ _ _ _ (length_part _ _ _ (omega arith)) (omega arith) (sym (get_d_part _ _ _ _ (omega arith))) c.before.before.loop-i.invariant.2,
+)
+
 pub returns : goal.returns
-returns c =
-    let a = c.args in
-    lent_part _ _ _ c.requires.n_in_bounds_2 (length_part _ _ _ c.requires.n_in_bounds) (c.copy_from_slice.ensures.after ∙ part-is a.src.now a.from a.n _ refl)
+returns c = all_laid _ _ _ _ (length_part _ _ _ (omega arith)) c.loop-i-test.false c.before.loop-i.invariant.2
+
+pub loop-i-init : goal.loop-i-init
+loop-i-init c = (omega arith, refl, sym (put-nil _ _))

@@ -1,6 +1,6 @@
 -- The data in blocks: padding, one block after another, the key's block, and the bytes of a state. Assumes nothing.
 use Rattle.lists.proofs.Kit.{◌≡◌, refl, sym, ap, ◌∙◌, Bool, true, false, List, [], ◌∷◌, ◌++◌, append-nil, append_assoc, ℕ, zero, suc, ◌+◌, ◌-◌, ◌*◌, ◌≤◌}
-use Rattle.lists.proofs.Kit.{◌<◌, arith, length, get_or, take, drop, length-append, length-drop, length-replicate, take_all, take_at}
+use Rattle.lists.proofs.Kit.{◌<◌, arith, length, get_or, take, drop, take-append-drop, length-append, length-drop, length-replicate, take_all, take_at}
 use Rattle.lists.proofs.Kit.{take-suc, take-append-add, drop_at, drop-drop, length-take-le}
 use Rattle.std.proofs.Common.{add-one}
 use Rattle.area.specs.Area.{part, put, zeros}
@@ -166,6 +166,13 @@ bytes-more a h i n g p q =
     (ap (λ (l : List ℕ). bytes (take i h) ++ l) (sym (bytes_one (get_or h i 0)))
     ∙ sym (bytes-append (take i h) (get_or h i 0 ∷ []))
     ∙ ap bytes (sym (take-suc h i 0 (omega arith)) ∙ ap (λ (n : ℕ). take n h) (sym (add-one i))))
+
+-- the first k words are the first 8 k bytes
+pub bytes-front : (k : ℕ) (h : List ℕ) → k ≤ length h → take (8 * k) (bytes h) ≡ bytes (take k h)
+bytes-front k h l =
+    ap (λ (x : List ℕ). take (8 * k) (bytes x)) (sym (take-append-drop k h))
+    ∙ ap (take (8 * k)) (bytes-append (take k h) (drop k h))
+    ∙ take_at (bytes (take k h)) (bytes (drop k h)) (8 * k) (omega (arith, length-state (take k h), length-take-le k h l))
 
 -- all eight words: as many bytes as the area has
 pub bytes-all : {all r : List ℕ} (h out : List ℕ) (i : ℕ) → length h ≡ 8 → 8 ≤ i → length out ≤ 64 → all ≡ put (zeros 64) 0 (bytes (take i h))

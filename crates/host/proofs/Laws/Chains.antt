@@ -1,5 +1,5 @@
 -- What chains of iterators give, in the words of `lists`. Assumes nothing.
-use Rattle.lists.proofs.Kit.{◌≡◌, refl, sym, ap, subst, ◌∙◌, true, false, not, Bool, cond, List, ◌∷◌, ℕ, zero, suc, ◌+◌, ◌≤◌, ◌<◌, map, length, length-map}
+use Rattle.lists.proofs.Kit.{◌≡◌, refl, sym, ap, subst, ◌∙◌, true, false, not, Bool, cond, List, [], ◌∷◌, ℕ, zero, suc, ◌+◌, ◌≤◌, ◌<◌, map, length, length-map}
 use Rattle.lists.proofs.Kit.{get_or, arith, ltb, eqb, ltb-false, eqb-true, eqb-false, ext_get_or}
 use native.Mathlib.Numerals.{add-one}
 use denote.Param.Members.{Mut, Called}
@@ -11,7 +11,7 @@ use Rattle.std.proofs.lemmas.List.{get_or-map}
 use Rattle.std.proofs.lemmas.List.Sums.{prefix_len-le-length}
 use Rattle.lists.specs.Tests.{some, first_of, apart}
 use Rattle.lists.specs.Lowest.{lowest}
-use Rattle.lists.proofs.Laws.Pick.{by, no, picks}
+use Rattle.lists.proofs.Laws.Pick.{by, no, picks, either-join}
 use Rattle.lists.proofs.Laws.Entries.{empty}
 use Rattle.lists.proofs.Laws.Library.{pick-cond, first-position}
 
@@ -37,6 +37,12 @@ apart-found e x xs t = no _ _ _ (ap not t) refl
 pub apart-past : {A : Type 0} (e : A → A → Bool) (x : A) (xs : List A) → some (e x) xs ≡ false → apart e (x ∷ xs) ≡ apart e xs
 unfolding apart
 apart-past e x xs f = picks _ _ _ (ap not f)
+
+-- an item that is related to none is passed by
+pub some-none : {A : Type 0} (p : A → Bool) (xs : List A) → ((x : A) → p x ≡ false) → some p xs ≡ false
+unfolding some
+some-none p [] h = refl
+some-none p (x ∷ xs) h = either-join (p x) (some p xs) (h x) (some-none p xs h)
 
 pub apart-none : {A : Type 0} (e : A → A → Bool) (xs : List A) → length xs ≡ 0 → true ≡ apart e xs
 unfolding apart
