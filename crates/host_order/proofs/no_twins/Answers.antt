@@ -8,4 +8,6 @@ use Rattle.host_order.proofs.no_twins.Goals as goal
 
 pub returns : goal.returns
 unfolding twins
-returns c = c.apart_but.ensures (λ p. not p.held) twins (λ x b s. search rules) (λ x y b s. search rules) (λ x y p. both-not-left _ _ (grind (arith, nat_tests, p)))
+returns c =
+    c.apart_but.ensures (λ p. not p.held) twins (λ x b s. search rules) (λ x y b s. search rules)
+    (λ x y p. both-not-left _ _ (grind (arith, nat_tests, p)))
