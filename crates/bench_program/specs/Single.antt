@@ -1,16 +1,15 @@
 -- One program from a fresh host to its close: "it forms, opens, gives the data as one piece, agrees to the pair reached (gives up after a
 -- failure) and writes the records, or on a refusal .. its number in 8 bytes and nothing more". z is the sector size of the host that is made. Assumes nothing.
-use Rattle.std.specs.Prelude.{not, List, [], ◌∷◌, ◌++◌, ℕ, ◌*◌, ◌/◌, length, take, drop, eqb, Result, Ok, Err}
+use Rattle.std.specs.Prelude.{not, List, [], ◌∷◌, ◌++◌, ℕ, ◌*◌, ◌/◌, length, take, drop, eqb}
 use Rattle.lists.specs.Pick.{pick}
 use Rattle.lists.specs.Tab.{tab}
 use Rattle.area.specs.Area.{part}
 use Rattle.area.specs.Little.{le8}
-use Rattle.host.specs.Refusals.{number_of, number_in}
+use Rattle.host.specs.Refusals.{number_in}
 use Rattle.host.specs.Calls.{answered, freshed, formed}
 use Rattle.machine_rules.specs.Calls.{opened, piece, reached}
 use Rattle.machine_rules.specs.Commit.{Closed, close}
 use Rattle.host.specs.declared.Prices.{Prices}
-use Rattle.host.specs.declared.refusal.Refusal.{Refusal}
 use Rattle.host.specs.declared.Host.{Host}
 use Rattle.host.specs.Calls.{Made}
 use Rattle.bench_program.specs.declared.Outcome.{Outcome}
@@ -46,11 +45,6 @@ formed_in_turn h (id ∷ ids) =
     let r = formed h id in
     let more = formed_in_turn r.host ids in
     pick (not (eqb r.number 0)) r more
-
--- the answer by its number: a refusal comes with the host as it was then
-abbrev pub formed_of : Result Host (Refusal × Host) → Made
-formed_of (Ok h) = answered 0 h
-formed_of (Err e) = answered (number_of e.0) e.1
 
 -- ---- "agrees to the pair reached (gives up after a failure)"
 

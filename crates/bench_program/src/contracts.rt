@@ -1,7 +1,9 @@
 // Contracts formed in turn.
 ghost use Rattle.std.specs.Prelude.{◌≡◌, ◌+◌, ◌≤◌, length};
 ghost use Rattle.area.specs.Area.{part};
-ghost use Rattle.bench_program.specs.Single.{formed_of, ids_in, formed_in_turn};
+ghost use Rattle.host.specs.Refusals.{told};
+ghost use Rattle.host.specs.Calls.{answered};
+ghost use Rattle.bench_program.specs.Single.{ids_in, formed_in_turn};
 
 use machine::{Host, Place, Refusal};
 
@@ -15,17 +17,17 @@ fn id_at(ids: &[u8], at: usize) -> [u8; 32]
     id
 }
 
-// Forms the contracts of ids that stand one behind another, up to the first refusal, which comes with the host as it was then.
-pub fn form_in_turn(host: Host, ids: &[u8]) -> Result<Host, (Refusal, Host)>
-    ensures { formed_of result ≡ formed_in_turn host (ids_in ids.now) }
+// Forms the contracts of ids that stand one behind another on a host that is lent, up to the first refusal, which leaves the host as it was
+// then.
+pub fn form_in_turn(host: &mut Host, ids: &[u8]) -> Result<(), Refusal>
+    ensures { answered (told result) host.new ≡ formed_in_turn host.old (ids_in ids.now) }
 {
-    let mut made = host;
     for i in 0..ids.len() / Place::ID {
         let id = id_at(ids, i * Place::ID);
-        match machine::form(made, id) {
-            Ok(next) => made = next,
-            Err(why) => return Err((why, made)),
+        match machine::form_in(host, id) {
+            Ok(()) => {}
+            Err(why) => return Err(why),
         }
     }
-    Ok(made)
+    Ok(())
 }

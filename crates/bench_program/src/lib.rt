@@ -61,15 +61,15 @@ pub fn run(
         Says.run sector prices budget ids.now head.now bytes.now disk.old stage.old
         input.old output.old }
 {
-    let empty = match machine::fresh(sector, disk.len() as u64, stage.len() as u64) {
-        Ok(host) => host,
+    let mut host = match machine::fresh(sector, disk.len() as u64, stage.len() as u64) {
+        Ok(empty) => empty,
         Err(why) => return playing::refused(why, machine::unmade()),
     };
-    match contracts::form_in_turn(empty, ids) {
-        Ok(ready) => playing::begin(
-            ready, prices, budget, head, bytes, disk, stage, input, output,
+    match contracts::form_in_turn(&mut host, ids) {
+        Ok(()) => playing::begin(
+            host, prices, budget, head, bytes, disk, stage, input, output,
         ),
-        Err((why, host)) => playing::refused(why, host),
+        Err(why) => playing::refused(why, host),
     }
 }
 

@@ -18,11 +18,10 @@ pub fn has_id(p: Place, id: [u8; 32]) -> bool
 pub fn place_of(places: [Place; 8], id: [u8; 32]) -> Place
     ensures { result ≡ whose id places }
 {
-    places
-        .iter()
-        .find(|p| has_id(**p, id))
-        .copied()
-        .unwrap_or(Place::none())
+    match places.iter().find(|p| has_id(**p, id)) {
+        Some(p) => *p,
+        None => Place::none(),
+    }
 }
 
 // The number of the place that holds the contract of an id; the number of all places where none does.
@@ -55,8 +54,8 @@ pub fn sizes_fit(places: [Place; 8], id: [u8; 32], size: u64, limit: u64) -> boo
     let Some(mut left) = limit.checked_sub(size) else {
         return false;
     };
-    for p in places {
-        match left.checked_sub(own_size(p, id)) {
+    for p in &places {
+        match left.checked_sub(own_size(*p, id)) {
             Some(rest) => left = rest,
             None => return false,
         }

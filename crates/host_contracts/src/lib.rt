@@ -2,7 +2,7 @@
 // forming or dropping leaves the host as it was. Rests on `host_order` (whether a host is in order) and `host`.
 #![tactic(auto)]
 
-ghost use Rattle.std.specs.Prelude.{◌≡◌, not, ◌<◌, eqb, position};
+ghost use Rattle.std.specs.Prelude.{◌≡◌, not, ◌<◌, eqb, position, IfSome};
 ghost use Rattle.lists.specs.Pick.{pick};
 ghost use Rattle.lists.specs.Tests.{every};
 ghost use Rattle.area.specs.Area.{same};
@@ -10,7 +10,7 @@ ghost use Rattle.sia.specs.Names.{read_only};
 ghost use Rattle.host.specs.Empty.{new_place, bare};
 ghost use Rattle.host.specs.Order.{in_order};
 ghost use Rattle.host.specs.Refusals.{told};
-ghost use Rattle.host.specs.Calls.{made_of, length_right, freshed, padded, formed, dropped};
+ghost use Rattle.host.specs.Calls.{answered, made_of, length_right, freshed, padded, formed, dropped};
 
 use host::{Host, Place, Refusal};
 
@@ -74,7 +74,8 @@ fn new_place(id: [u8; 32]) -> Place
 
 // The number of the lowest free place, if one is free.
 fn free_place(places: &[Place; 8]) -> Option<usize>
-    ensures { result ≡ position (λ p. not p.held) places.now }
+    ensures number { result ≡ position (λ p. not p.held) places.now }
+    ensures below { IfSome result (λ i. i < 8) }
 {
     places.iter().position(|p| !p.held)
 }
@@ -95,12 +96,12 @@ fn ready(host: Host, id: [u8; 32]) -> Result<(), Refusal>
     Ok(())
 }
 
-// Forms the contract of an id, of size 0, in the lowest free place; or 1, 3, 5, 15 (a padded short id), 6 (already present), 8 (no free
-// place).
-pub fn form(host: Host, id: [u8; 32]) -> Result<Host, Refusal>
-    ensures { made_of host result ≡ formed host id }
+// Forms the contract of an id, of size 0, in the lowest free place of a host that is lent; or 1, 3, 5, 15 (a padded short id), 6 (already
+// present), 8 (no free place), and the host is as it was.
+pub fn form_in(host: &mut Host, id: [u8; 32]) -> Result<(), Refusal>
+    ensures { answered (told result) host.new ≡ formed host.old id }
 {
-    ready(host, id)?;
+    ready(*host, id)?;
     if padded(id) {
         return Err(Refusal::Padded);
     }
@@ -108,9 +109,17 @@ pub fn form(host: Host, id: [u8; 32]) -> Result<Host, Refusal>
         return Err(Refusal::Present);
     }
     let free = free_place(&host.places).ok_or(Refusal::NoPlace)?;
-    let mut places = host.places;
-    places[free] = new_place(id);
-    Ok(Host { places, ..host })
+    host.places[free] = new_place(id);
+    Ok(())
+}
+
+// `form_in` on a host by value: hands out the host with the contract; or the same refusals.
+pub fn form(host: Host, id: [u8; 32]) -> Result<Host, Refusal>
+    ensures { made_of host result ≡ formed host id }
+{
+    let mut after = host;
+    form_in(&mut after, id)?;
+    Ok(after)
 }
 
 // Drops the contract of an id, at any size, and frees its place and slots; or 1, 3, 5, 7 (not found).

@@ -9,7 +9,7 @@ ghost use Rattle.area.specs.Slots.{Size};
 ghost use Rattle.host.specs.Places.{taken};
 ghost use Rattle.host.specs.Order.{place_in_order, twins, places_in_order, parent_in_order, terms_in_order, progress_in_order, program_in_order, in_order};
 
-use host::{Host, Place, Terms};
+use host::{Host, Place, Program, Progress, Terms};
 
 mod areas; // areas.rt: whether areas are as long as stated
 mod staged; // staged.rt: whether the staged positions of a program are in order
@@ -98,39 +98,30 @@ fn sum_fits(one: u64, two: u64, limit: u64) -> bool
     one.checked_add(two).is_some_and(|sum| sum <= limit)
 }
 
-// Of the program of a host whose sectors and disk have sizes that there are.
-fn progress_in_order(host: &Host) -> bool
-    requires size { Size host.now.sector }
-    requires disk_bound { host.now.disk ≤ 64 }
-    ensures { let h = host.now in result ≡ progress_in_order h.sector h.disk h.stage h.places h.program.terms h.program.progress }
+// Kept: the parts of a host by themselves, here and below, as the definition takes them: lent whole, it is copied once more.
+#[rattlefmt::skip]
+fn progress_in_order(z: u64, disk: u64, stage: u64, places: [Place; 8], t: Terms, p: Progress) -> bool
+    requires size { Size z }
+    requires disk_bound { disk ≤ 64 }
+    ensures { result ≡ progress_in_order z disk stage places t p }
 {
-    let z = host.sector;
-    let t = &host.program.terms;
-    let p = &host.program.progress;
     let id = t.head.contract;
     p.ran <= t.head.count
         && p.tally <= t.budget
         && sum_fits(p.written, owed(p.failed), t.room)
         && p.size % z == 0
-        && host::sizes_fit(host.places, id, p.size, host.disk * z)
-        && staged_in_order(
-            z,
-            host.stage,
-            host::place_of(host.places, id).size / z,
-            p.size,
-            p.staged,
-        )
+        && host::sizes_fit(places, id, p.size, disk * z)
+        && staged_in_order(z, stage, host::place_of(places, id).size / z, p.size, p.staged)
 }
 
-fn program_in_order(host: &Host) -> bool
-    requires size { Size host.now.sector }
-    requires disk_bound { host.now.disk ≤ 64 }
-    ensures { let h = host.now in result ≡ program_in_order h.sector h.disk h.stage h.places h.program }
+fn program_in_order(z: u64, disk: u64, stage: u64, places: [Place; 8], g: Program) -> bool
+    requires size { Size z }
+    requires disk_bound { disk ≤ 64 }
+    ensures { result ≡ program_in_order z disk stage places g }
 {
-    let g = &host.program;
-    terms_in_order(host.places, g.terms, g.progress.size)
+    terms_in_order(places, g.terms, g.progress.size)
         && g.came <= g.terms.head.length
-        && progress_in_order(host)
+        && progress_in_order(z, disk, stage, places, g.terms, g.progress)
 }
 
 // ---- the whole record
@@ -143,5 +134,12 @@ pub fn in_order(host: Host) -> bool
         && host::lent(host.disk, Host::DISK)
         && host::lent(host.stage, Host::STAGE)
         && places_in_order(host.sector, host.disk, host.places)
-        && (!host.program.active || program_in_order(&host))
+        && (!host.program.active
+            || program_in_order(
+                host.sector,
+                host.disk,
+                host.stage,
+                host.places,
+                host.program,
+            ))
 }

@@ -19,7 +19,7 @@ mod sounding; // sounding.rt: whether a host is sound
 pub use answers::{Closing, Done, End, Location};
 pub use closing::close;
 pub use host::{Host, Place, Prices, Program, Progress, Refusal, Terms};
-pub use host_contracts::{drop, form, fresh, unmade};
+pub use host_contracts::{drop, form, form_in, fresh, unmade};
 pub use interrupting::interrupt;
 pub use locating::locate;
 pub use machine_rules::Pair;

@@ -1,8 +1,8 @@
 -- Calls one after another, up to the first refusal. Assumes nothing.
-use Rattle.lists.proofs.Kit.{◌≡◌, refl, ap, ap₂, sym, ◌∙◌, true, false, not, List, ◌++◌, ℕ, ◌-◌, ◌<◌, min, arith, length, take, drop, take_all, eqb, eq-eqb}
+use Rattle.lists.proofs.Kit.{◌≡◌, refl, ap, ap₂, sym, ◌∙◌, false, not, List, ◌++◌, ℕ, ◌-◌, min, arith, length, take, drop, take_all, eqb, eq-eqb}
 use Rattle.lists.proofs.Kit.{ne_eqb}
 use lib.IntN.{pos}
-use Rattle.std.specs.Prelude.{Option, Some, None, Result, Ok, Err}
+use Rattle.std.specs.Prelude.{Some, Ok, Err}
 use Rattle.lists.specs.Pick.{pick}
 use Rattle.lists.proofs.Laws.Pick.{yes, no, by, picks, skips}
 use Rattle.lists.proofs.Laws.Slices.{take_min, drop_min}
@@ -13,16 +13,14 @@ use Rattle.host.proofs.Laws.Refusals.{number-not}
 use Rattle.machine_rules.specs.View.{areas_right}
 use Rattle.machine_rules.specs.Calls.{Answer, Reached, Pieced, pieced, opened, piece, refusal, no_pair, reached_at, reached_by, reached}
 use Rattle.machine_rules.specs.Commit.{Closed, closed, close_by, close}
-use Rattle.machine.specs.Asks.{answer_of, piece_leaves, reached_of}
-use Rattle.machine.specs.Closes.{end_number, close_leaves}
+use Rattle.machine.specs.Asks.{answer_of, reached_of}
 use Rattle.machine.proofs.Laws.Hosts.{stops}
-use Rattle.bench_program.specs.Single.{Ran, ran, leaves, formed_of, ids_in, formed_in_turn, ended, shown, given, begun, run}
+use Rattle.bench_program.specs.Single.{Ran, ran, leaves, ids_in, formed_in_turn, ended, shown, given, begun, run}
 use Rattle.host.specs.declared.refusal.Refusal.{Refusal}
 use Rattle.host.specs.declared.Prices.{Prices}
 use Rattle.host.specs.declared.Host.{Host}
 use Rattle.machine_rules.specs.declared.Pair.{Pair}
 use Rattle.machine.specs.declared.answers.Done.{Done}
-use Rattle.machine.specs.declared.answers.Closing.{Closing}
 use Rattle.bench_program.specs.declared.Outcome.{Outcome}
 
 -- ---- a call that is refused ends it; one that is not goes on

@@ -1,53 +1,19 @@
--- `host_contracts::form` meets its contract: a walk down the definition. Assumes nothing.
-use Rattle.std.proofs.Common.{rules, Some, None, Err, position}
-use Rattle.lists.proofs.Kit.{◌≡◌, refl, sym, ap, ◌∙◌, not, List, set}
-use Rattle.lists.proofs.Laws.Pick.{yes, no}
-use Rattle.host.specs.With.{with_places}
-use Rattle.host.specs.Calls.{answered, made_of, padded, formed}
-use Rattle.host.specs.declared.Place.{Place}
-use Rattle.host.proofs.Laws.Refusals.{number-some}
-use Rattle.host_contracts.proofs.Laws.Early.{stops, goes-on}
-use Rattle.host.specs.declared.refusal.Refusal.TheVariants.{NoPlace}
-use Rattle.host_contracts.proofs.Laws.Free.{is_free, full, room, formed-in}
+-- `host_contracts::form` meets its contract: a refusal leaves the host as it was. Assumes nothing.
+use Rattle.std.proofs.Common.{rules, Err}
+use Rattle.lists.proofs.Kit.{◌≡◌, sym, ap, ◌∙◌}
+use Rattle.host.specs.Refusals.{number_of}
+use Rattle.host.specs.Calls.{Made, answered, made_of}
+use Rattle.host.proofs.Laws.Refusals.{number-not}
+use Rattle.host_contracts.proofs.Laws.Early.{formed-kept}
 use Rattle.host_contracts.proofs.form.Goals as goal
 
-pub returns-in_err-ready : goal.returns-in_err-ready
-unfolding formed
-returns-in_err-ready c =
-    let why = c.in_err-ready.field-0.0 in
+pub returns-in_err-form_in : goal.returns-in_err-form_in
+returns-in_err-form_in c =
+    let why = c.in_err-form_in.field-0.0 in
     let is : c.from_residual.result ≡ Err why = search rules in
-    ap (made_of c.args.host) is ∙ stops c.args.host _ _ _ _ c.in_err-ready.ensures (number-some why)
-
-pub returns-then-padded : goal.returns-then-padded
-unfolding formed
-returns-then-padded c =
-    yes _ _ _ (sym c.if-padded.ensures) refl ∙ goes-on c.args.host _ _ _ _ c.in_ok-ready.ensures refl
-
-pub returns-then-place_of : goal.returns-then-place_of
-unfolding formed
-returns-then-place_of c =
-    no _ _ _ (sym c.if-padded.ensures)
-    (yes _ _ _ (ap (λ (p : Place). p.held) (sym c.place_of.ensures) ∙ c.if-place_of.true) refl)
-    ∙ goes-on c.args.host _ _ _ _ c.in_ok-ready.ensures refl
-
-pub returns-in_err-free : goal.returns-in_err-free
-unfolding formed
-returns-in_err-free c =
-    let is : c.from_residual-in_err-free.result ≡ Err NoPlace = search rules in
-    let gone : c.free_place.result ≡ None = search rules in
-    ap (made_of c.args.host) is
-    ∙ no _ _ _ (sym c.if-padded.ensures)
-    (no _ _ _ (ap (λ (p : Place). p.held) (sym c.place_of.ensures) ∙ c.if-place_of.false)
-    (yes _ _ _ (ap not (full _ (sym c.free_place.ensures ∙ gone))) refl))
-    ∙ goes-on c.args.host _ _ _ _ c.in_ok-ready.ensures refl
+    let said : answered (number_of why) c.form_in.new.host ≡ _ = c.in_err-form_in.ensures in
+    let same = ap (λ (r : Made). r.host) said ∙ formed-kept _ _ (λ e. number-not why (ap (λ (r : Made). r.number) said ∙ e)) in
+    ap (made_of c.args.host) is ∙ ap (answered (number_of why)) (sym same) ∙ said
 
 pub returns : goal.returns
-unfolding formed with_places
-returns c =
-    let is : c.free_place.result ≡ Some c.in_ok-free.free = search rules in
-    let at : position is_free c.args.host.places ≡ Some c.in_ok-free.free = sym c.free_place.ensures ∙ is in
-    let placed = ap (set c.args.host.places c.in_ok-free.free) c.new_place.ensures ∙ formed-in _ c.args.id _ at in
-    no _ _ _ (sym c.if-padded.ensures)
-    (no _ _ _ (ap (λ (p : Place). p.held) (sym c.place_of.ensures) ∙ c.if-place_of.false)
-    (no _ _ _ (ap not (room _ _ at)) (ap (λ (l : List Place). answered 0 (with_places c.args.host l)) placed)))
-    ∙ goes-on c.args.host _ _ _ _ c.in_ok-ready.ensures refl
+returns c = c.in_ok-form_in.ensures

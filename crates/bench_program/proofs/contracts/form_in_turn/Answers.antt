@@ -13,7 +13,7 @@ pub loop-i-init : goal.loop-i-init
 loop-i-init c =
     let ids = c.args.ids.now in
     let e : length ids / 32 ≡ length ids / 32 - 0 = omega arith in
-    ap (λ (n : ℕ). formed_in_turn c.args.host (tab 0 n (λ k. part ids (k * 32) 32))) e
+    ap (λ (n : ℕ). formed_in_turn c.args.host.now (tab 0 n (λ k. part ids (k * 32) 32))) e
 
 pub returns-in-Err : goal.returns-in-Err
 unfolding ids_in

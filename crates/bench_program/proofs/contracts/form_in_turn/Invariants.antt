@@ -8,5 +8,5 @@ use Rattle.bench_program.proofs.contracts.form_in_turn.Given as goal
 
 abbrev pub invariant-loop-i : goal.invariant-loop-i
 invariant-loop-i l =
-    formed_in_turn l.initial.made (tab 0 l.i-end (λ k. part l.ids (k * 32) 32))
-    ≡ formed_in_turn l.made (tab l.i (l.i-end - l.i) (λ k. part l.ids (k * 32) 32))
+    formed_in_turn l.initial.host (tab 0 l.i-end (λ k. part l.ids (k * 32) 32))
+    ≡ formed_in_turn l.host (tab l.i (l.i-end - l.i) (λ k. part l.ids (k * 32) 32))
