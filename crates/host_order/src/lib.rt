@@ -76,8 +76,8 @@ fn parent_in_order(places: [Place; 8], id: [u8; 32], size: u64) -> bool
     }
 }
 
-fn terms_in_order(places: [Place; 8], t: Terms, size: u64) -> bool
-    ensures { result ≡ terms_in_order places t size }
+fn terms_in_order(places: [Place; 8], t: &Terms, size: u64) -> bool
+    ensures { result ≡ terms_in_order places t.now size }
 {
     parent_in_order(places, t.head.contract, size)
         && sia::within(t.head)
@@ -98,12 +98,12 @@ fn sum_fits(one: u64, two: u64, limit: u64) -> bool
     one.checked_add(two).is_some_and(|sum| sum <= limit)
 }
 
-// Kept: the parts of a host by themselves, here and below, as the definition takes them: lent whole, it is copied once more.
+// Kept: the parts of a host by themselves, here and below, as the definition takes them: a host that is lent whole is copied first.
 #[rattlefmt::skip]
-fn progress_in_order(z: u64, disk: u64, stage: u64, places: [Place; 8], t: Terms, p: Progress) -> bool
+fn progress_in_order(z: u64, disk: u64, stage: u64, places: [Place; 8], t: &Terms, p: &Progress) -> bool
     requires size { Size z }
     requires disk_bound { disk ≤ 64 }
-    ensures { result ≡ progress_in_order z disk stage places t p }
+    ensures { result ≡ progress_in_order z disk stage places t.now p.now }
 {
     let id = t.head.contract;
     p.ran <= t.head.count
@@ -119,9 +119,9 @@ fn program_in_order(z: u64, disk: u64, stage: u64, places: [Place; 8], g: Progra
     requires disk_bound { disk ≤ 64 }
     ensures { result ≡ program_in_order z disk stage places g }
 {
-    terms_in_order(places, g.terms, g.progress.size)
+    terms_in_order(places, &g.terms, g.progress.size)
         && g.came <= g.terms.head.length
-        && progress_in_order(z, disk, stage, places, g.terms, g.progress)
+        && progress_in_order(z, disk, stage, places, &g.terms, &g.progress)
 }
 
 // ---- the whole record

@@ -25,7 +25,7 @@ fn changes_nothing(op: Op, id: [u8; 32]) -> bool
 
 // 24 to 42, of arguments that are told.
 fn argued<'a>(
-    setting: Setting,
+    setting: &Setting,
     p: Progress,
     asked: bool,
     op: Op,
@@ -33,9 +33,9 @@ fn argued<'a>(
     diskroots: &'a [u8],
     stageroots: &'a [u8],
 ) -> Result<Task, Failure>
-    requires plans { Plans setting p diskroots.now stageroots.now }
-    requires good { Good setting p }
-    ensures { said_of op result ≡ argued setting (kept_root diskroots.now stageroots.now) p
+    requires plans { Plans setting.now p diskroots.now stageroots.now }
+    requires good { Good setting.now p }
+    ensures { said_of op result ≡ argued setting.now (kept_root diskroots.now stageroots.now) p
         asked op given.args given.from }
 {
     if changes_nothing(op, setting.terms.head.contract) {
@@ -80,5 +80,5 @@ pub fn planned<'a>(
     let Some(given) = decoded(op, i, input) else {
         return Err(Failure::Malformed);
     };
-    argued(setting, p, i.proof, op, given, diskroots, stageroots)
+    argued(&setting, p, i.proof, op, given, diskroots, stageroots)
 }

@@ -27,7 +27,7 @@ fn asked_badly(asked: bool, op: Op, args: Args) -> bool
 // 40 to 42 of an instruction that costs so much; `fits` says whether its new size fits the disk beside the other contracts. Where it can run, its
 // cost, the new size, its hashes and the record's length.
 fn fitted(
-    setting: Setting,
+    setting: &Setting,
     p: Progress,
     asked: bool,
     op: Op,
@@ -36,12 +36,12 @@ fn fitted(
     cost: u64,
     fits: bool,
 ) -> Result<Plan, Failure>
-    requires lent { Lent setting }
+    requires lent { Lent setting.now }
     requires seen_bound { seen ≤ 64 }
-    requires room_bound { setting.terms.room ≤ 65536 }
-    requires ranged { asked ≡ true → Ranged setting.sector seen args.first args.len }
-    requires fits_value { fits ≡ leb (new_size p.size op args + others setting.terms.head.contract setting.places) (setting.disksectors * setting.sector) }
-    ensures { plan_given result ≡ Says.fitted setting p asked seen op args cost }
+    requires room_bound { setting.now.terms.room ≤ 65536 }
+    requires ranged { asked ≡ true → Ranged setting.now.sector seen args.first args.len }
+    requires fits_value { fits ≡ leb (new_size p.size op args + others setting.now.terms.head.contract setting.now.places) (setting.now.disksectors * setting.now.sector) }
+    ensures { plan_given result ≡ Says.fitted setting.now p asked seen op args cost }
 {
     let z = setting.sector;
     if too_few(z, setting.stagesectors, p, op, args) {
@@ -67,18 +67,18 @@ fn fitted(
 
 // 26 to 42. `seen` is the number of the sectors that are read.
 pub fn weighed(
-    setting: Setting,
+    setting: &Setting,
     p: Progress,
     asked: bool,
     op: Op,
     args: Args,
     seen: u64,
 ) -> Result<Plan, Failure>
-    requires lent { Lent setting }
+    requires lent { Lent setting.now }
     requires seen_bound { seen ≤ 64 }
-    requires length_bound { setting.terms.head.length ≤ 65536 }
-    requires room_bound { setting.terms.room ≤ 65536 }
-    ensures { plan_given result ≡ Says.weighed setting p asked seen op args }
+    requires length_bound { setting.now.terms.head.length ≤ 65536 }
+    requires room_bound { setting.now.terms.room ≤ 65536 }
+    ensures { plan_given result ≡ Says.weighed setting.now p asked seen op args }
 {
     if bad_spans(setting.sector, p.size, seen, op, args) {
         return Err(Failure::BadSpan);

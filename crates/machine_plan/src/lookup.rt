@@ -13,10 +13,10 @@ use machine_sight::Seen;
 use sia::Op;
 
 // Read: the parent as it is now, another contract as committed; nothing where there is no such contract.
-fn contract_source(setting: Setting, p: Progress, key: [u8; 32]) -> Option<Seen>
-    requires size { Size setting.sector }
-    requires places_value { every (place_in_order setting.sector) setting.places ≡ true }
-    ensures { sighted result ≡ contract_source setting p key }
+fn contract_source(setting: &Setting, p: Progress, key: [u8; 32]) -> Option<Seen>
+    requires size { Size setting.now.sector }
+    requires places_value { every (place_in_order setting.now.sector) setting.now.places ≡ true }
+    ensures { sighted result ≡ contract_source setting.now p key }
 {
     let z = setting.sector;
     let other = host::place_of(setting.places, key);
@@ -31,14 +31,14 @@ fn contract_source(setting: Setting, p: Progress, key: [u8; 32]) -> Option<Seen>
 
 // ReadSector: the sector that has that root, of the parent as it is now, or else of another contract.
 fn sector_source<'a>(
-    setting: Setting,
+    setting: &Setting,
     diskroots: &'a [u8],
     stageroots: &'a [u8],
     p: Progress,
     key: [u8; 32],
 ) -> Option<Seen>
-    requires { Sources setting diskroots.now stageroots.now p }
-    ensures { sighted result ≡ sector_source setting (kept_root diskroots.now stageroots.now) p key }
+    requires { Sources setting.now diskroots.now stageroots.now p }
+    ensures { sighted result ≡ sector_source setting.now (kept_root diskroots.now stageroots.now) p key }
 {
     let seat = machine_sight::find_for(
         setting.sector,
@@ -55,15 +55,15 @@ fn sector_source<'a>(
 
 // What an instruction reads, if it is found.
 pub fn source_of<'a>(
-    setting: Setting,
+    setting: &Setting,
     diskroots: &'a [u8],
     stageroots: &'a [u8],
     p: Progress,
     op: Op,
     key: [u8; 32],
 ) -> Option<Seen>
-    requires { Sources setting diskroots.now stageroots.now p }
-    ensures { sighted result ≡ source_of setting (kept_root diskroots.now stageroots.now) p op key }
+    requires { Sources setting.now diskroots.now stageroots.now p }
+    ensures { sighted result ≡ source_of setting.now (kept_root diskroots.now stageroots.now) p op key }
 {
     match op {
         Op::Read => contract_source(setting, p, key),

@@ -27,13 +27,13 @@ abbrev the-roots : Start → Spot → List ℕ
 the-roots s = kept_root s.args.diskroots.now s.args.stageroots.now
 
 abbrev the-source : Start → Source
-the-source s = source_of s.args.setting (the-roots s) s.args.p s.args.op s.args.given.args.key
+the-source s = source_of s.args.setting.now (the-roots s) s.args.p s.args.op s.args.given.args.key
 
-mode : (c : After-changes_nothing) → both (changes c.args.op) (read_only_mode c.args.setting.terms) ≡ c.changes_nothing.result
+mode : (c : After-changes_nothing) → both (changes c.args.op) (read_only_mode c.args.setting.now.terms) ≡ c.changes_nothing.result
 unfolding read_only_mode
 mode c = sym c.changes_nothing.ensures
 
-may : (c : Else-changes_nothing) → both (changes c.args.op) (read_only_mode c.args.setting.terms) ≡ false
+may : (c : Else-changes_nothing) → both (changes c.args.op) (read_only_mode c.args.setting.now.terms) ≡ false
 may c = mode (goal.at.Else-changes_nothing c).After-changes_nothing ∙ c.if-changes_nothing.false
 
 -- the source is what is seen, so many sectors
@@ -42,13 +42,13 @@ module _ (s : Start) (v : Seen) (shown : seen (spots_of v) ≡ the-source s) whe
   many = sym (ap (λ (l : List Spot). length l) (spots-are v _ shown)) ∙ seen-count v
 
   -- the plan, where 24 and 25 do not apply
-  planned-as : both (changes s.args.op) (read_only_mode s.args.setting.terms) ≡ false → {w : Plan}
-      → w ≡ weighed s.args.setting s.args.p s.args.asked v.count s.args.op s.args.given.args
-      → w ≡ planned_args s.args.setting (the-roots s) s.args.p s.args.asked s.args.op s.args.given.args
+  planned-as : both (changes s.args.op) (read_only_mode s.args.setting.now.terms) ≡ false → {w : Plan}
+      → w ≡ weighed s.args.setting.now s.args.p s.args.asked v.count s.args.op s.args.given.args
+      → w ≡ planned_args s.args.setting.now (the-roots s) s.args.p s.args.asked s.args.op s.args.given.args
   unfolding planned_args
   planned-as free e =
       no _ _ _ free (no _ _ _ (there-is v _ shown)
-      (e ∙ ap (λ (n : ℕ). weighed s.args.setting s.args.p s.args.asked n s.args.op s.args.given.args) (sym many)))
+      (e ∙ ap (λ (n : ℕ). weighed s.args.setting.now s.args.p s.args.asked n s.args.op s.args.given.args) (sym many)))
 
 -- ---- the rules
 pub source_of-requires : goal.source_of-requires
@@ -69,14 +69,14 @@ weighed-requires c =
     let plans = c.requires.plans in
     let good = c.requires.good in
     let s = (goal.at.weighed-requires c).Start in
-    let few = few-spots c.args.setting (the-roots s) c.args.p c.args.op c.args.given.args.key plans.sources.seeks.stand.order
-    (few-sectors c.args.setting c.args.p plans.lent good) in
+    let few = few-spots c.args.setting.now (the-roots s) c.args.p c.args.op c.args.given.args.key plans.sources.seeks.stand.order
+    (few-sectors c.args.setting.now c.args.p plans.lent good) in
     let long = many s c.in-Some.seen c.in-Some.ensures in
     record {
       lent = plans.lent;
       seen_bound = omega (arith, few, long);
-      length_bound = length_most c.args.setting c.args.p good;
-      room_bound = room_most c.args.setting c.args.p good;
+      length_bound = length_most c.args.setting.now c.args.p good;
+      room_bound = room_most c.args.setting.now c.args.p good;
     }
 
 pub returns-in_err-plan : goal.returns-in_err-plan

@@ -11,25 +11,25 @@ use Rattle.machine_plan.proofs.judge.fitted.Goals.{After-record_above, After-too
 -- ---- what the calls gave, in the definitions' words
 -- 40
 slots : (c : After-too_few) → let a = c.args in
-    ltb (free_copies a.setting a.p) (wanted a.setting.sector a.p a.op a.args) ≡ c.too_few.result
+    ltb (free_copies a.setting.now a.p) (wanted a.setting.now.sector a.p a.op a.args) ≡ c.too_few.result
 unfolding free_copies
 slots c = sym c.too_few.ensures
 
 -- 41
 disk : (s : Start) → let a = s.args in
-    ltb (a.setting.disksectors * a.setting.sector)
-    (new_size a.p.size a.op a.args + others a.setting.terms.head.contract a.setting.places) ≡ not a.fits
+    ltb (a.setting.now.disksectors * a.setting.now.sector)
+    (new_size a.p.size a.op a.args + others a.setting.now.terms.head.contract a.setting.now.places) ≡ not a.fits
 disk s =
     let a = s.args in
-    not-leb (new_size a.p.size a.op a.args + others a.setting.terms.head.contract a.setting.places)
-    (a.setting.disksectors * a.setting.sector) ∙ ap not (sym s.requires.fits_value)
+    not-leb (new_size a.p.size a.op a.args + others a.setting.now.terms.head.contract a.setting.now.places)
+    (a.setting.now.disksectors * a.setting.now.sector) ∙ ap not (sym s.requires.fits_value)
 
 room : (c : After-record_above) → let a = c.args in
-    ltb a.setting.terms.room (a.p.written + record_count a.setting.sector a.asked a.seen a.op a.args + 72) ≡ c.record_above.result
+    ltb a.setting.now.terms.room (a.p.written + record_count a.setting.now.sector a.asked a.seen a.op a.args + 72) ≡ c.record_above.result
 unfolding record_count
 room c =
     let a = c.args in
-    ap₂ (λ (h o : ℕ). ltb a.setting.terms.room (a.p.written + (72 + 32 * h + o) + 72)) (sym c.proof_count-hashes.ensures)
+    ap₂ (λ (h o : ℕ). ltb a.setting.now.terms.room (a.p.written + (72 + 32 * h + o) + 72)) (sym c.proof_count-hashes.ensures)
     (sym c.output_count-output.ensures)
     ∙ sym c.record_above.ensures
 
@@ -37,13 +37,13 @@ room c =
 short : (c : Else-record_above) → c.args.p.written + (72 + 32 * c.proof_count-hashes.result + c.output_count-output.result) + 72 ≤ 65536
 short c =
     let k = c.args.p.written + (72 + 32 * c.proof_count-hashes.result + c.output_count-output.result) + 72 in
-    let fits : k ≤ c.args.setting.terms.room = ltb-false c.args.setting.terms.room k (sym c.record_above.ensures ∙ c.if-record_above.false) in
-    let most : c.args.setting.terms.room ≤ 65536 = c.requires.room_bound in
+    let fits : k ≤ c.args.setting.now.terms.room = ltb-false c.args.setting.now.terms.room k (sym c.record_above.ensures ∙ c.if-record_above.false) in
+    let most : c.args.setting.now.terms.room ≤ 65536 = c.requires.room_bound in
     omega arith
 
 -- ---- the checks that did not apply
 enough : (c : Else-too_few) → let a = c.args in
-    ltb (free_copies a.setting a.p) (wanted a.setting.sector a.p a.op a.args) ≡ false
+    ltb (free_copies a.setting.now a.p) (wanted a.setting.now.sector a.p a.op a.args) ≡ false
 enough c = slots (goal.at.Else-too_few c).After-too_few ∙ c.if-too_few.false
 
 -- ---- the rules

@@ -10,7 +10,7 @@ use Rattle.machine_plan.proofs.judge.weighed.Goals as goal
 use Rattle.machine_plan.proofs.judge.weighed.Goals.{After-above, Else-asked_badly, Else-bad_spans}
 
 -- 26
-right-spans : (c : Else-bad_spans) → let a = c.args in bad_spans a.setting.sector a.p.size a.seen a.op a.args ≡ false
+right-spans : (c : Else-bad_spans) → let a = c.args in bad_spans a.setting.now.sector a.p.size a.seen a.op a.args ≡ false
 right-spans c = sym c.bad_spans.ensures ∙ c.if-bad_spans.false
 
 -- 27
@@ -19,11 +19,11 @@ asked-well c = sym c.asked_badly.ensures ∙ c.if-asked_badly.false
 
 -- 28
 budget : (c : After-above) → let a = c.args in
-    ltb a.setting.terms.budget (a.p.tally + cost a.setting.terms.head.length a.setting.terms.prices a.op a.args.len)
+    ltb a.setting.now.terms.budget (a.p.tally + cost a.setting.now.terms.head.length a.setting.now.terms.prices a.op a.args.len)
     ≡ c.above.result
 budget c =
     let a = c.args in
-    ap (λ (k : ℕ). ltb a.setting.terms.budget (a.p.tally + k)) (sym c.cost-cost.ensures) ∙ sym c.above.ensures
+    ap (λ (k : ℕ). ltb a.setting.now.terms.budget (a.p.tally + k)) (sym c.cost-cost.ensures) ∙ sym c.above.ensures
 
 -- ---- the rules
 pub returns-then-asked_badly : goal.returns-then-asked_badly
@@ -53,8 +53,8 @@ pub fitted-requires : goal.fitted-requires
 fitted-requires c = let a = c.args in
     let ranged = provable _ c.requires.lent.size a.p.size a.seen a.op a.args a.asked
     (right-spans (goal.at.fitted-requires c).Else-bad_spans) (asked-well (goal.at.fitted-requires c).Else-asked_badly) in
-    let rest = others a.setting.terms.head.contract a.setting.places in
-    let fits = c.sizes_fit-fits.ensures ∙ ap (λ (k : ℕ). leb (k + rest) (a.setting.disksectors * a.setting.sector)) c.new_size-size.ensures in
+    let rest = others a.setting.now.terms.head.contract a.setting.now.places in
+    let fits = c.sizes_fit-fits.ensures ∙ ap (λ (k : ℕ). leb (k + rest) (a.setting.now.disksectors * a.setting.now.sector)) c.new_size-size.ensures in
     record { lent = c.requires.lent; seen_bound = c.requires.seen_bound; room_bound = c.requires.room_bound; ranged = ranged; fits_value = fits }
 
 pub returns : goal.returns
@@ -64,7 +64,7 @@ returns c =
     no _ _ _ (right-spans (goal.at.returns c).Else-bad_spans)
     (no _ _ _ (asked-well (goal.at.returns c).Else-asked_badly)
     (no _ _ _ (budget (goal.at.returns c).After-above ∙ c.if-above.false)
-    (c.fitted.ensures ∙ ap (fitted a.setting a.p a.asked a.seen a.op a.args) c.cost-cost.ensures)))
+    (c.fitted.ensures ∙ ap (fitted a.setting.now a.p a.asked a.seen a.op a.args) c.cost-cost.ensures)))
 
 pub returns-then-bad_spans : goal.returns-then-bad_spans
 unfolding weighed

@@ -16,13 +16,13 @@ use Rattle.machine_plan.proofs.lookup.sector_source.Goals.{Start}
 
 -- what is looked through, in the definitions' words
 found : (s : Start) {r : Option Seat} → let a = s.args in
-    r ≡ first_seat (kept_root a.diskroots.now a.stageroots.now) a.key (pick (same a.setting.terms.head.contract read_only)
-    (all_seats a.setting.sector a.setting.places)
-    (seats a.setting.sector (has_id a.setting.terms.head.contract)
-    (own_spots a.setting.sector a.setting.places a.setting.terms.head.contract a.p.staged a.p.size) a.setting.places))
-    → r ≡ first_seat (kept_root a.diskroots.now a.stageroots.now) a.key (pick (read_only_mode a.setting.terms)
-    (all_seats a.setting.sector a.setting.places)
-    (seats a.setting.sector (has_id a.setting.terms.head.contract) (parent_spots a.setting a.p) a.setting.places))
+    r ≡ first_seat (kept_root a.diskroots.now a.stageroots.now) a.key (pick (same a.setting.now.terms.head.contract read_only)
+    (all_seats a.setting.now.sector a.setting.now.places)
+    (seats a.setting.now.sector (has_id a.setting.now.terms.head.contract)
+    (own_spots a.setting.now.sector a.setting.now.places a.setting.now.terms.head.contract a.p.staged a.p.size) a.setting.now.places))
+    → r ≡ first_seat (kept_root a.diskroots.now a.stageroots.now) a.key (pick (read_only_mode a.setting.now.terms)
+    (all_seats a.setting.now.sector a.setting.now.places)
+    (seats a.setting.now.sector (has_id a.setting.now.terms.head.contract) (parent_spots a.setting.now a.p) a.setting.now.places))
 unfolding read_only_mode parent_spots parent
 found s e = e
 

@@ -10,7 +10,7 @@ use Rattle.machine_plan.proofs.lookup.source_of.Goals.{Start}
 -- what is read, by the operation
 abbrev source-at : Start → Op → Source
 source-at s o =
-    source_of s.args.setting (kept_root s.args.diskroots.now s.args.stageroots.now) s.args.p o s.args.key
+    source_of s.args.setting.now (kept_root s.args.diskroots.now s.args.stageroots.now) s.args.p o s.args.key
 
 -- in an arm the operation is known
 arm : (s : Start) {r : Source} {o : Op} → s.args.op ≡ o → r ≡ source-at s o → r ≡ source-at s s.args.op
