@@ -23,7 +23,8 @@ module _ (h : Host) (rest : Made) where
   goes-on false false false e k = refl
 
 -- one refusal more
-kept : (h : Host) (n : ℕ) (b : Bool) (rest : Made) → ((rest.number ≡ 0 → ⊥) → rest.host ≡ h) → let r = pick b (answered n h) rest in (r.number ≡ 0 → ⊥) → r.host ≡ h
+kept : (h : Host) (n : ℕ) (b : Bool) (rest : Made) → ((rest.number ≡ 0 → ⊥) → rest.host ≡ h)
+    → let r = pick b (answered n h) rest in (r.number ≡ 0 → ⊥) → r.host ≡ h
 unfolding pick
 kept h n true rest k w = refl
 kept h n false rest k w = k w
